@@ -1,0 +1,4 @@
+pub mod Laws
+mod Numbers
+mod Values
+mod Varints

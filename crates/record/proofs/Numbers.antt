@@ -1,0 +1,46 @@
+-- Numbers made of groups of bits, over the group's width, and two's complement.
+-- Assumes nothing.
+use Prim.Native.Nat.{ℕ, zero, suc, _+_, _-_, _*_, _^_, _<_, _≤_}
+use mathlib.Core.Path.{_≡_, refl, ap}
+use mathlib.Core.Logic.{by-cases}
+use native.Mathlib.Decide.{decLt}
+use native.Mathlib.Nat.{lt-of-lt-of-le, mul-add, mul-one, add-mul, one-mul, mul-le-mul-left, mul-le-mul-right, zero-add}
+use native.Mathlib.Omega.{arith}
+use lib.IntN.{pos, negsuc, _-ℤ_}
+use lib.Pow.{pow-mono, pow-add}
+use borrow.Author.Tests.{lt-ltb, le-ltb}
+use Rattle.record.specs.Value.{twosComplement}
+
+-- a case for a below b, and one for b at most a
+pub by-order : {C : Type 0} (a b : ℕ) → (a < b → C) → (b ≤ a → C) → C
+by-order a b below above = by-cases (decLt a b) below (λ h. above (omega arith))
+
+-- n groups of w bits are no more than m of them
+pub at-most : (w m : ℕ) {n v : ℕ} → n ≤ m → v < 2 ^ (w * n) → v < 2 ^ (w * m)
+at-most w m {n} {v} h lt = lt-of-lt-of-le lt (pow-mono (mul-le-mul-left w h))
+
+-- one group more
+pub one-more : (w n v b : ℕ) → v < 2 ^ (w * n) → b < 2 ^ w → v * 2 ^ w + b < 2 ^ (w * (n + 1))
+one-more w n v b lt h =
+    let e : 2 ^ (w * n + w) ≡ 2 ^ (w * n) * 2 ^ w = pow-add 2 (w * n) w in
+    let i : w * (n + 1) ≡ w * n + w = rw (mul-add, mul-one) in
+    let m : (v + 1) * 2 ^ w ≤ 2 ^ (w * n) * 2 ^ w = mul-le-mul-right (2 ^ w) (omega arith) in
+    let d : (v + 1) * 2 ^ w ≡ v * 2 ^ w + 2 ^ w = rw (add-mul, one-mul) in
+    rw (i, e) (omega arith)
+
+-- -1 - k, as a program writes a negative number
+pub minus-one : (k : ℕ) → negsuc 0 -ℤ pos k ≡ negsuc k
+minus-one zero = refl
+minus-one (suc k) = ap (λ (n : ℕ). negsuc (suc n)) (zero-add k)
+
+-- two's complement of numbers below 2 * half
+module _ (bits half v : ℕ) (whole : half + half ≡ 2 ^ bits) where
+  pub below-half : v < half → twosComplement bits v ≡ pos v
+  unfolding twosComplement
+  below-half h = simp (lt-ltb (v + v) (2 ^ bits) (omega arith))
+
+  pub from-half : half ≤ v → v < half + half → twosComplement bits v ≡ negsuc (half - 1 - (v - half))
+  unfolding twosComplement
+  from-half h lt =
+      let e : 2 ^ bits - suc v ≡ half - 1 - (v - half) = omega arith in
+      simp (le-ltb (v + v) (2 ^ bits) (omega arith), lt-ltb v (2 ^ bits) (omega arith), e)

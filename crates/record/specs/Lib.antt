@@ -1,0 +1,5 @@
+pub mod Entry
+pub mod Inner
+pub mod Places
+pub mod Value
+pub mod Varint

@@ -1,0 +1,77 @@
+// A column entry: four words that say where a value's body lies in a slice.
+use crate::record::Decoded;
+use crate::record::Value;
+use crate::record::decode_serial_type;
+ghost use mathlib.Core.Path.{_≡_};
+ghost use Rattle.record.specs.Entry.{readEntry, refusalOf, entryRefusal, entryBytes};
+ghost use Rattle.record.specs.Inner.{spanOf};
+
+pub struct Entry {
+    pub state: u64,
+    // The serial type.
+    pub kind: u64,
+    pub start: u64,
+    pub len: u64,
+}
+
+pub enum EntryRead {
+    Of(Value),
+    // Refusal 2.
+    Refused,
+}
+
+impl Entry {
+    pub fn read(self, bytes: &[u8]) -> EntryRead
+        ensures { λ r. ⌜ r ≡ readEntry self (now (bytes .entry)) ⌝ }
+        ensures number { λ r. ⌜ refusalOf r ≡ entryRefusal self (now (bytes .entry)) ⌝ }
+    {
+        if self.state > 3 {
+            return EntryRead::Refused;
+        }
+        if self.state > 0 {
+            return EntryRead::Of(Value::Null);
+        }
+        let start = self.start as usize;
+        if bytes.len() < start {
+            return EntryRead::Refused;
+        }
+        let Decoded::Of(value, n) = decode_serial_type(self.kind, bytes, start) else {
+            return EntryRead::Refused;
+        };
+        if self.len == n as u64 {
+            return EntryRead::Of(value);
+        }
+        EntryRead::Refused
+    }
+
+    // The bytes of a text or a blob, where they lie in the slice.
+    pub fn view(self, bytes: &[u8]) -> &[u8]
+        ensures { λ r. ⌜ now r ≡ entryBytes self (now (bytes .entry)) ⌝ }
+    {
+        let EntryRead::Of(value) = self.read(bytes) else {
+            return &bytes[..0];
+        };
+        let span = span_of(value);
+        let start = span.start;
+        let end = start + span.len;
+        &bytes[start..end]
+    }
+}
+
+struct Span {
+    start: usize,
+    len: usize,
+}
+
+// Nothing but text and blob has bytes to show.
+fn span_of(value: Value) -> Span
+    ensures { λ r. ⌜ r ≡ spanOf value ⌝ }
+{
+    match value {
+        Value::Text { start, len } => Span { start, len },
+        Value::Blob { start, len } => Span { start, len },
+        Value::Null => Span { start: 0, len: 0 },
+        Value::Int(_) => Span { start: 0, len: 0 },
+        Value::Real(_) => Span { start: 0, len: 0 },
+    }
+}

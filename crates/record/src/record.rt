@@ -1,0 +1,144 @@
+// Serial types: how long a body is, and the value that it stands for.
+use crate::inner::big_endian;
+ghost use mathlib.Core.Path.{_≡_};
+ghost use mathlib.Core.Bool.{true};
+ghost use Prim.Native.Nat.{_+_, _*_, _^_, _≤_, _<_};
+ghost use lib.ListN.{length, getD};
+ghost use lib.Ieee.{binary64, ofBits};
+ghost use Rattle.record.specs.Value.{smallLengths, bodyLength, bodyFits, bigEndian, twosComplement, valueOf, decodeAt};
+ghost use Rattle.record.specs.declared.record.Length.the-variants.{Bytes};
+
+pub enum Length {
+    Bytes(usize),
+    // Types 10 and 11 stand for nothing.
+    Reserved,
+}
+
+pub enum Value {
+    Null,
+    Int(i64),
+    Real(f64),
+    Text { start: usize, len: usize },
+    Blob { start: usize, len: usize },
+}
+
+pub enum Decoded {
+    // The value, and how many bytes its body takes.
+    Of(Value, usize),
+    // The type is reserved, or the body leaves the slice.
+    Nothing,
+}
+
+const SMALL_LENGTHS: [usize; 10] = [0, 1, 2, 3, 4, 6, 8, 8, 0, 0];
+
+pub fn body_length(kind: u64) -> Length
+    ensures { λ r. ⌜ r ≡ bodyLength kind ⌝ }
+{
+    if kind < 10 {
+        return Length::Bytes(SMALL_LENGTHS[kind as usize]);
+    }
+    if kind < 12 {
+        return Length::Reserved;
+    }
+    if kind % 2 == 0 {
+        return Length::Bytes(((kind - 12) / 2) as usize);
+    }
+    Length::Bytes(((kind - 13) / 2) as usize)
+}
+
+// Of an integer's type: half of what its bytes can say.
+fn half_range(kind: u64) -> u64
+    requires { ⌜ (1 ≤ kind) × (kind ≤ 6) ⌝ }
+    ensures { λ r. ⌜ r + r ≡ 2 ^ (8 * getD smallLengths kind 0) ⌝ }
+{
+    match kind {
+        1 => 0x80,
+        2 => 0x8000,
+        3 => 0x80_0000,
+        4 => 0x8000_0000,
+        5 => 0x8000_0000_0000,
+        _ => 0x8000_0000_0000_0000,
+    }
+}
+
+// The signed number that n bytes are: from half up, v stands for v - 2 * half.
+fn int_at(bytes: &[u8], at: usize, n: usize, half: u64) -> i64
+    requires { ⌜ at + n ≤ length (now bytes) ⌝ }
+    requires { ⌜ n ≤ 8 ⌝ }
+    requires { ⌜ half + half ≡ 2 ^ (8 * n) ⌝ }
+    ensures { λ r. ⌜ r ≡ twosComplement (8 * n) (bigEndian (now (bytes .entry)) at n) ⌝ }
+{
+    let v = big_endian(bytes, at, n);
+    if v < half {
+        return v as i64;
+    }
+    -1 - ((half - 1 - (v - half)) as i64)
+}
+
+// The float of a pattern. `from_bits` is not defined at a NaN's, so that one is made by a division.
+fn float_of(pattern: u64) -> f64
+    ensures { λ r. ⌜ r ≡ ofBits binary64 pattern ⌝ }
+{
+    if pattern % 0x8000_0000_0000_0000 > 0x7ff0_0000_0000_0000 {
+        return 0.0 / 0.0;
+    }
+    f64::from_bits(pattern)
+}
+
+// The value of a type whose body is the n bytes at `at`.
+fn value_of(kind: u64, bytes: &[u8], at: usize, n: usize) -> Value
+    requires { ⌜ bodyLength kind ≡ Bytes n ⌝ }
+    requires { ⌜ bodyFits kind n (now bytes) at ≡ true ⌝ }
+    ensures { λ r. ⌜ r ≡ valueOf kind (now (bytes .entry)) at n ⌝ }
+{
+    if kind == 0 {
+        return Value::Null;
+    }
+    if kind < 7 {
+        return Value::Int(int_at(bytes, at, n, half_range(kind)));
+    }
+    if kind == 7 {
+        return Value::Real(float_of(big_endian(bytes, at, n)));
+    }
+    if kind < 10 {
+        return Value::Int((kind - 8) as i64);
+    }
+    if kind % 2 == 0 {
+        return Value::Blob { start: at, len: n };
+    }
+    Value::Text { start: at, len: n }
+}
+
+// Types 0, 8 and 9 have no body, so any place will do.
+fn body_fits(kind: u64, n: usize, bytes: &[u8], at: usize) -> bool
+    ensures { λ r. ⌜ r ≡ bodyFits kind n (now (bytes .entry)) at ⌝ }
+{
+    if kind == 0 {
+        return true;
+    }
+    if kind == 8 {
+        return true;
+    }
+    if kind == 9 {
+        return true;
+    }
+    if bytes.len() < at {
+        return false;
+    }
+    if bytes.len() - at < n {
+        return false;
+    }
+    true
+}
+
+pub fn decode_serial_type(kind: u64, bytes: &[u8], offset: usize) -> Decoded
+    ensures { λ r. ⌜ r ≡ decodeAt kind (now (bytes .entry)) offset ⌝ }
+{
+    let Length::Bytes(n) = body_length(kind) else {
+        return Decoded::Nothing;
+    };
+    if body_fits(kind, n, bytes, offset) {
+        return Decoded::Of(value_of(kind, bytes, offset, n), n);
+    }
+    Decoded::Nothing
+}

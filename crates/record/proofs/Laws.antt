@@ -212,6 +212,10 @@ decoded-inside t s at v n e =
     (value-inside t s at n λ ge.
     leb-true (at + n) (length s) (sym (fits-by-place t n s at (λ z. omega arith) (λ z. omega arith) (λ z. omega arith)) ∙ d .1))
 
+-- THE LAW: and what starts in the slice ends in it
+pub decoded-ends : (t : ℕ) (s : List ℕ) (at : ℕ) (v : Cell) (n : ℕ) → at ≤ length s → decodeAt t s at ≡ Got v n → at + n ≤ length s
+decoded-ends t s at v n h e = let d = decoded t s at v n e in fits-inside t n s at (d .0) (d .1) h
+
 -- ---- entries
 module _ (e : Entry) (s : List ℕ) where
   -- THE LAW: a bad entry is refused

@@ -1,0 +1,101 @@
+-- Document 01's cases marked P on varints and values, and worked values of the file format, as one table that is computed at once.
+-- Assumes nothing.
+use Prim.Native.Nat.{ℕ, _-_, _^_}
+use mathlib.Core.Path.{_≡_, refl}
+use mathlib.Core.Bool.{true, false}
+use mathlib.Core.List.{List, [], _∷_, _++_, map}
+use lib.IntN.{pos, negsuc}
+use lib.Ieee.{nan, inf, fin, ofBits}
+use lib.ListN.{replicate}
+use Rattle.record.specs.Entry.{badEntry, readEntry}
+use Rattle.record.specs.Value.{bodyLength, bigEndian, twosComplement, valueOf, bodyFits, decodeAt}
+use Rattle.record.specs.Varint.{varintFrom, varintAt, readVarint}
+use Rattle.record.specs.declared.entry.Entry.{Entry}
+use Rattle.record.specs.declared.entry.EntryRead.{EntryRead}
+use Rattle.record.specs.declared.entry.EntryRead.the-variants.{Of as Good, Refused}
+use Rattle.record.specs.declared.record.Decoded.{Decoded}
+use Rattle.record.specs.declared.record.Decoded.the-variants.{Of, Nothing}
+use Rattle.record.specs.declared.record.Value.the-variants.{Null, Int, Real, Text, Blob}
+use Rattle.record.specs.declared.varint.Read.{Read}
+use Rattle.record.specs.declared.varint.Read.the-variants.{Number, Nothing as None}
+
+-- a question with the answer that it is to have
+data Case : Type 0 where
+  varint : List ℕ → Read → Case
+  value : ℕ → List ℕ → Decoded → Case
+  entry : Entry → List ℕ → EntryRead → Case
+
+data Answer : Type 0 where
+  read : Read → Answer
+  decoded : Decoded → Answer
+  seen : EntryRead → Answer
+
+expected : Case → Answer
+expected (varint s a) = read a
+expected (value t s a) = decoded a
+expected (entry e s a) = seen a
+
+computed : Case → Answer
+computed (varint s a) = read (readVarint s 0)
+computed (value t s a) = decoded (decodeAt t s 0)
+computed (entry e s a) = seen (readEntry e s)
+
+words : ℕ → ℕ → ℕ → ℕ → Entry
+words a b c d = record { state = a; kind = b; start = c; len = d }
+
+-- marked P
+marked : List Case
+marked =
+    varint (0x81 ∷ 0x00 ∷ []) (Number 128 2)
+    ∷ varint (0x80 ∷ 0x02 ∷ []) (Number 2 2)
+    ∷ varint (replicate 9 0xff) (Number (2 ^ 64 - 1) 9)
+    ∷ varint (0x81 ∷ []) None
+    ∷ value 1 (0x80 ∷ []) (Of (Int (negsuc 127)) 1)
+    ∷ value 3 (0x80 ∷ 0 ∷ 0 ∷ []) (Of (Int (negsuc 8388607)) 3)
+    ∷ value 5 (0xff ∷ 0xff ∷ 0xff ∷ 0xff ∷ 0xff ∷ 0xfe ∷ []) (Of (Int (negsuc 1)) 6)
+    ∷ value 10 (0 ∷ 0 ∷ 0 ∷ []) Nothing
+    ∷ []
+
+-- from the format's section 1.6 on varints and its table of serial types in section 2.1
+worked : List Case
+worked =
+    varint (0x7f ∷ []) (Number 127 1)
+    ∷ varint (replicate 8 0x80 ++ (0xff ∷ [])) (Number 255 9)
+    ∷ varint (replicate 8 0xff) None
+    ∷ value 0 [] (Of Null 0)
+    ∷ value 2 (0x7f ∷ 0xff ∷ []) (Of (Int (pos 32767)) 2)
+    ∷ value 4 (0x80 ∷ 0 ∷ 0 ∷ 0 ∷ []) (Of (Int (negsuc 2147483647)) 4)
+    ∷ value 6 (replicate 8 0xff) (Of (Int (negsuc 0)) 8)
+    ∷ value 6 (0x80 ∷ replicate 7 0) (Of (Int (negsuc 9223372036854775807)) 8)
+    ∷ value 7 (0x3f ∷ 0xf0 ∷ replicate 6 0) (Of (Real (fin false 1 (pos 0))) 8)
+    ∷ value 7 (0xff ∷ 0xf0 ∷ replicate 6 0) (Of (Real (inf true)) 8)
+    ∷ value 7 (0x7f ∷ 0xf0 ∷ 0 ∷ 0 ∷ 0 ∷ 0 ∷ 0 ∷ 1 ∷ []) (Of (Real nan) 8)
+    ∷ value 8 [] (Of (Int (pos 0)) 0)
+    ∷ value 9 [] (Of (Int (pos 1)) 0)
+    ∷ value 11 (replicate 8 0) Nothing
+    ∷ value 12 [] (Of (Blob 0 0) 0)
+    ∷ value 17 (0x68 ∷ 0x69 ∷ []) (Of (Text 0 2) 2)
+    ∷ value 18 (1 ∷ 2 ∷ []) Nothing
+    ∷ value 2 (0x80 ∷ []) Nothing
+    ∷ []
+
+-- entries: read where they stand, refused where they reach one byte further
+entries : List Case
+entries =
+    entry (words 0 17 1 2) (0 ∷ 0x68 ∷ 0x69 ∷ []) (Good (Text 1 2))
+    ∷ entry (words 0 17 2 2) (0 ∷ 0x68 ∷ 0x69 ∷ []) Refused
+    ∷ entry (words 0 17 1 1) (0 ∷ 0x68 ∷ 0x69 ∷ []) Refused
+    ∷ entry (words 0 10 0 0) (0 ∷ []) Refused
+    ∷ entry (words 0 0 0 0) [] (Good Null)
+    ∷ entry (words 0 0 1 0) [] Refused
+    ∷ entry (words 1 23 0 0) [] (Good Null)
+    ∷ entry (words 3 0 0 0) [] (Good Null)
+    ∷ entry (words 4 0 0 0) [] Refused
+    ∷ []
+
+cases : List Case
+cases = marked ++ worked ++ entries
+
+table : map computed cases ≡ map expected cases
+unfolding cases marked worked entries words computed expected readVarint varintAt varintFrom decodeAt bodyFits bodyLength valueOf twosComplement bigEndian ofBits readEntry badEntry
+table = refl

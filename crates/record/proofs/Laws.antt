@@ -155,6 +155,10 @@ module _ (x y : List ℕ) (same : length x ≡ length y) where
       stop-same (Value v c) = refl
       stop-same Short = sym same
 
+pub places-are : (s : List ℕ) (at : ℕ) → varintPlaces s at ≡ placesFrom at (stopOf s (varintAt s at) - at)
+unfolding varintPlaces
+places-are s at = refl
+
 pub places-count : (s : List ℕ) (at : ℕ) → length (varintPlaces s at) ≡ stopOf s (varintAt s at) - at
 unfolding varintPlaces
 places-count s at = places-length at _

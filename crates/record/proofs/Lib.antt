@@ -1,6 +1,6 @@
 mod Cases
 pub mod Laws
-mod Numbers
+pub mod Numbers
 pub mod Unique
 mod Values
 mod Varints

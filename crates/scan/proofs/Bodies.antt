@@ -1,0 +1,128 @@
+-- Bodies one behind the other: the total that the code carries decides as the definition does.
+-- Assumes nothing.
+use Prim.Native.Nat.{ℕ, zero, suc, _+_, _-_, _≤_, _<_, min}
+use mathlib.Core.Path.{_≡_, refl, sym, ap, _∙_}
+use mathlib.Core.Bool.{Bool, true, false, cond, _&&_}
+use mathlib.Core.List.{List, [], _∷_}
+use native.Mathlib.Nat.{add-zero, add-assoc}
+use native.Mathlib.Omega.{arith}
+use lib.ListN.{length}
+use lib.Dec.{leb, ltb, eqb}
+use borrow.Author.Tests.{lt-ltb, le-ltb, le-leb, lt-leb, eq-eqb, ne-eqb, leb-true, leb-false}
+use Rattle.record.proofs.Numbers.{by-order}
+use Rattle.record.specs.Value.{bodyLength}
+use Rattle.record.specs.declared.record.Length.{Length}
+use Rattle.record.specs.declared.record.Length.the-variants.{Bytes, Reserved}
+use Rattle.scan.specs.Attempt.{Bodies, unfit, laid, before, bodyOn, bodiesFrom, Tried, miss, hit, sized, judged, mostBytes}
+use Rattle.scan.specs.Hints.{suited}
+use Rattle.scan.specs.Inner.{tooLong, sizeOr, bodySize, totalFrom, sizes, columnsAt, foundAt}
+use Rattle.sheet.specs.declared.columns.Column.{Column}
+use Rattle.sheet.specs.declared.columns.Column.the-variants.{Body}
+
+pub total-min : (total : ℕ) (ts : List ℕ) → total ≤ tooLong → totalFrom total ts ≡ min tooLong (total + sizes ts)
+unfolding totalFrom
+total-min total [] h = omega arith
+total-min total (t ∷ ts) h = let z = total-min (min tooLong (total + bodySize t)) ts (omega arith) in omega arith
+
+-- a size that is not too long is a body's
+size-is : (t : ℕ) → bodySize t < tooLong → bodyLength t ≡ Bytes (bodySize t)
+unfolding bodySize
+size-is t h = go (bodyLength t) h
+  where
+    go : (l : Length) → sizeOr l < tooLong → l ≡ Bytes (sizeOr l)
+    go (Bytes n) h = refl
+    go Reserved h = absurd (omega arith)
+
+size-of : (t n : ℕ) → bodyLength t ≡ Bytes n → bodySize t ≡ n
+unfolding bodySize
+size-of t n e = rw e
+
+-- ---- `bodiesFrom`
+bodies-end : (s : List ℕ) (at : ℕ) → bodiesFrom s at [] ≡ laid [] at
+unfolding bodiesFrom
+bodies-end s at = refl
+
+module _ (s : List ℕ) (at t : ℕ) (ts : List ℕ) where
+  bodies-step : (n : ℕ) → bodyLength t ≡ Bytes n → at + n ≤ length s → bodiesFrom s at (t ∷ ts) ≡ before (Body t at n) (bodiesFrom s (at + n) ts)
+  unfolding bodiesFrom
+  bodies-step n l h = simp (l, le-leb (at + n) (length s) h)
+
+  bodies-out : (n : ℕ) → bodyLength t ≡ Bytes n → length s < at + n → bodiesFrom s at (t ∷ ts) ≡ unfit
+  unfolding bodiesFrom
+  bodies-out n l h = simp (l, lt-leb (at + n) (length s) h)
+
+  bodies-none : bodyLength t ≡ Reserved → bodiesFrom s at (t ∷ ts) ≡ unfit
+  unfolding bodiesFrom
+  bodies-none l = simp l
+
+pub lays : (s : List ℕ) (at : ℕ) (ts : List ℕ) → at ≤ length s → sizes ts < tooLong → at + sizes ts ≤ length s → bodiesFrom s at ts ≡ laid (columnsAt at ts) (at + sizes ts)
+lays s at [] h lt in′ = bodies-end s at ∙ ap (laid []) (sym (add-zero at))
+lays s at (t ∷ ts) h lt in′ =
+    let n = bodySize t in
+    let rest = lays s (at + n) ts (omega arith) (omega arith) (omega arith) in
+    let e : at + n + sizes ts ≡ at + (n + sizes ts) = omega arith in
+    bodies-step s at t ts n (size-is t (omega arith)) (omega arith) ∙ rw (rest, e)
+
+never : {C : Type 0} {cs : List Column} {end : ℕ} → unfit ≡ laid cs end → C
+never e = let z : _≡_ {A = ℕ} 0 1 = cc in absurd (omega arith)
+
+-- a column before bodies that are laid
+behind : (c : Column) (b : Bodies) (cs : List Column) (end : ℕ) → before c b ≡ laid cs end → (ds : List Column) × (b ≡ laid ds end)
+behind c unfit cs end e = never e
+behind c (laid ds end′) cs end e = let z : end′ ≡ end = cc in (ds, rw z)
+
+-- where bodies that were laid end
+pub laid-ends : (s : List ℕ) (at : ℕ) (ts : List ℕ) (cs : List Column) (end : ℕ) → at ≤ length s → bodiesFrom s at ts ≡ laid cs end → (end ≡ at + sizes ts) × (end ≤ length s)
+laid-ends s at [] cs end h e = let z : at ≡ end = cc (bodies-end s at) in (omega arith, omega arith)
+laid-ends s at (t ∷ ts) cs end h e = go (bodyLength t) refl (λ k h′ cs′ e′. laid-ends s k ts cs′ end h′ e′)
+  where
+    go : (l : Length) → bodyLength t ≡ l → ((k : ℕ) → k ≤ length s → (cs′ : List Column) → bodiesFrom s k ts ≡ laid cs′ end → (end ≡ k + sizes ts) × (end ≤ length s))
+        → (end ≡ at + sizes (t ∷ ts)) × (end ≤ length s)
+    go Reserved l rest = never (sym (bodies-none s at t ts l) ∙ e)
+    go (Bytes n) l rest =
+        by-order (length s) (at + n) (λ out. never (sym (bodies-out s at t ts n l out) ∙ e))
+        (λ in′.
+        let b = behind (Body t at n) (bodiesFrom s (at + n) ts) cs end (sym (bodies-step s at t ts n l in′) ∙ e) in
+        let r = rest (at + n) in′ (b .0) (b .1) in
+        (omega (arith, r .0, size-of t n l), r .1))
+
+-- ---- what the types of the header of h bytes at o come to
+module _ (s hints : List ℕ) (o h : ℕ) (ts : List ℕ) (inside : o + h ≤ length s) where
+  -- no row of the wrong number of columns, and none that suits nowhere
+  pub miss-count : (length ts ≡ length hints → ⊥) → judged s hints o h ts ≡ miss
+  unfolding judged
+  miss-count ne = simp (ne-eqb (length ts) (length hints) ne)
+
+  pub miss-suited : suited hints ts ≡ 0 → judged s hints o h ts ≡ miss
+  unfolding judged
+  miss-suited z = rw (le-ltb 0 (suited hints ts) (omega arith)) (go (eqb (length ts) (length hints)))
+    where
+      go : (b : Bool) → cond (b && false) (sized o (suited hints ts) (bodiesFrom s (o + h) ts)) miss ≡ miss
+      go true = refl
+      go false = refl
+
+  -- none that leaves the region or is too long
+  pub miss-total : (h + totalFrom 0 ts ≤ length s - o → h + totalFrom 0 ts ≤ mostBytes → ⊥) → judged s hints o h ts ≡ miss
+  unfolding judged
+  miss-total no′ = rw (sizes-miss (bodiesFrom s (o + h) ts) refl) (same (eqb (length ts) (length hints) && ltb 0 (suited hints ts)))
+    where
+      same : (b : Bool) → cond b miss miss ≡ miss
+      same true = refl
+      same false = refl
+      sizes-miss : (b : Bodies) → bodiesFrom s (o + h) ts ≡ b → sized o (suited hints ts) b ≡ miss
+      sizes-miss unfit e = refl
+      sizes-miss (laid cs end) e =
+          let d = laid-ends s (o + h) ts cs end inside e in
+          let m = total-min 0 ts (omega arith) in
+          by-order mostBytes (end - o)
+          (λ long. rw (lt-leb (end - o) mostBytes long))
+          (λ fit. absurd (no′ (omega (arith, d .0, d .1)) (omega (arith, d .0, d .1))))
+
+  pub hit-total : length ts ≡ length hints → 0 < suited hints ts → h + totalFrom 0 ts ≤ length s - o → h + totalFrom 0 ts ≤ mostBytes
+      → judged s hints o h ts ≡ hit (foundAt o h (h + totalFrom 0 ts) (suited hints ts) ts)
+  unfolding judged
+  hit-total l p q r =
+      let m = total-min 0 ts (omega arith) in
+      let b = lays s (o + h) ts inside (omega (arith, m)) (omega (arith, m)) in
+      let e : o + h + sizes ts - o ≡ h + totalFrom 0 ts = omega (arith, m) in
+      simp (eq-eqb (length ts) (length hints) l, lt-ltb 0 (suited hints ts) p, b, e, le-leb (h + totalFrom 0 ts) mostBytes r)

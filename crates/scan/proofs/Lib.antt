@@ -1,0 +1,6 @@
+mod Bodies
+mod Checks
+mod Going
+mod Judging
+mod Types
+mod Writing

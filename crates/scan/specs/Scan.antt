@@ -1,0 +1,212 @@
+-- The region scan (rules 4.8 to 4.11), and one attempt as a call (4.12).
+-- Assumes nothing.
+use Prim.Native.Nat.{ℕ, zero, suc, _+_, _-_}
+use mathlib.Core.Bool.{cond, not}
+use mathlib.Core.List.{List, [], _∷_, _++_}
+use lib.ListN.{length}
+use lib.Dec.{ltb}
+use Rattle.scan.specs.Attempt.{Found, Tried, miss, hit, attemptAt}
+use Rattle.scan.specs.Places.{attemptPlaces}
+use Rattle.scan.specs.declared.schema_sig.Attempted.{Attempted}
+use Rattle.scan.specs.declared.schema_sig.Attempted.the-variants.{Row as Took, NoRow, Full as NoPlace, Refused as Barred}
+use Rattle.scan.specs.declared.schema_sig.Scanned.{Scanned}
+use Rattle.scan.specs.declared.schema_sig.Scanned.the-variants.{Done, Full, Refused}
+use Rattle.sheet.specs.Columns.{columnWords, roomOf}
+use Rattle.sheet.specs.Confidence.{share}
+use Rattle.sheet.specs.Limits.{largestRegion, largestBase, countFits, hintsKnown}
+use Rattle.sheet.specs.Refusal.{Check, firstHeld, refusalNumber}
+use Rattle.sheet.specs.Sheet.{overlay, rowsWords}
+use Rattle.sheet.specs.declared.columns.Column.{Column}
+use Rattle.sheet.specs.declared.refusal.Checked.{Checked}
+use Rattle.sheet.specs.declared.refusal.Checked.the-variants.{Passed, Refused as Held}
+use Rattle.sheet.specs.declared.refusal.Refusal.the-variants.{ColumnCount, Malformed, TooLarge, BaseTooFar}
+use Rattle.sheet.specs.declared.row.Mode.the-variants.{Plain}
+use Rattle.sheet.specs.declared.row.Row.{Row}
+use Rattle.sheet.specs.declared.row.RowId.the-variants.{Absent}
+use Rattle.sheet.specs.declared.row.Source.the-variants.{Scan}
+
+-- the attempts of a scan, one after the other: it is through; a row at an offset finds no room; an attempt at an offset fails, or finds a row
+pub data Run : Type 0 where
+  through : Run
+  noRoom : ℕ → Run
+  missed : ℕ → Run → Run
+  found : ℕ → Found → Run → Run
+
+-- Rule 4.8: offsets are tried while below length - 2; the scan goes on by the bytes consumed, or by 1. n rows of `room` are written; the
+-- first argument bounds the attempts.
+abbrev pub goOn : ℕ → ℕ → ℕ → (ℕ → ℕ → Run) → Tried → Run
+goOn room o n rest miss = missed o (rest (o + 1) n)
+goOn room o n rest (hit x) = cond (ltb n room) (found o x (rest (o + x .consumed) (n + 1))) (noRoom o)
+
+unfoldable pub scanFrom : ℕ → List ℕ → List ℕ → ℕ → ℕ → ℕ → Run
+scanFrom zero s hints room o n = through
+scanFrom (suc f) s hints room o n =
+    cond (ltb o (length s - 2)) (goOn room o n (λ o′ n′. scanFrom f s hints room o′ n′) (attemptAt s hints o)) through
+
+-- ---- what a run comes to
+
+-- Rule 4.9: a row of the scan
+abbrev pub rowOf : ℕ → ℕ → ℕ → Found → Row
+rowOf base columns o x =
+    record {
+      offset = base + o;
+      consumed = x .consumed;
+      id = Absent;
+      source = Scan;
+      confidence = share (x .matched) columns;
+      mode = Plain;
+      table = 0;
+    }
+
+abbrev pub rowsOf : ℕ → ℕ → Run → List Row
+rowsOf base columns through = []
+rowsOf base columns (noRoom o) = []
+rowsOf base columns (missed o t) = rowsOf base columns t
+rowsOf base columns (found o x t) = rowOf base columns o x ∷ rowsOf base columns t
+
+abbrev pub rowCount : Run → ℕ
+rowCount through = 0
+rowCount (noRoom o) = 0
+rowCount (missed o t) = rowCount t
+rowCount (found o x t) = suc (rowCount t)
+
+abbrev pub columnsWords : List Column → List ℕ
+columnsWords [] = []
+columnsWords (c ∷ cs) = columnWords c ++ columnsWords cs
+
+abbrev pub entriesOf : Run → List ℕ
+entriesOf through = []
+entriesOf (noRoom o) = []
+entriesOf (missed o t) = entriesOf t
+entriesOf (found o x t) = columnsWords (x .columns) ++ entriesOf t
+
+-- Rule 4.10: the places of the attempts that it finished with, and with them those of the attempt that found no room
+abbrev pub finishedPlaces : List ℕ → Run → List ℕ
+finishedPlaces s through = []
+finishedPlaces s (noRoom o) = []
+finishedPlaces s (missed o t) = attemptPlaces s o ++ finishedPlaces s t
+finishedPlaces s (found o x t) = attemptPlaces s o ++ finishedPlaces s t
+
+abbrev pub allPlaces : List ℕ → Run → List ℕ
+allPlaces s through = []
+allPlaces s (noRoom o) = attemptPlaces s o
+allPlaces s (missed o t) = attemptPlaces s o ++ allPlaces s t
+allPlaces s (found o x t) = attemptPlaces s o ++ allPlaces s t
+
+-- how many offsets were tried
+abbrev pub triedOffsets : Run → ℕ
+triedOffsets through = 0
+triedOffsets (noRoom o) = 1
+triedOffsets (missed o t) = suc (triedOffsets t)
+triedOffsets (found o x t) = suc (triedOffsets t)
+
+-- Rule 4.11: rows written, the place, and the count; a scan that is through has the region's length for its place
+abbrev pub endOf : ℕ → ℕ → ℕ → Run → Scanned
+endOf len rows read through = Done rows len read
+endOf len rows read (noRoom o) = Full rows o read
+endOf len rows read (missed o t) = endOf len rows read t
+endOf len rows read (found o x t) = endOf len rows read t
+
+abbrev pub answerOf : List ℕ → Run → Scanned
+answerOf s t = endOf (length s) (rowCount t) (length (finishedPlaces s t)) t
+
+-- ---- the calls
+
+-- the checks of a region of so many bytes, in rising order of their numbers
+abbrev pub scanChecks : ℕ → List ℕ → ℕ → List Check
+scanChecks len hints base =
+    record { refusal = ColumnCount; holds = not (countFits (length hints)) }
+    ∷ record { refusal = Malformed; holds = not (hintsKnown hints) }
+    ∷ record { refusal = TooLarge; holds = ltb largestRegion len }
+    ∷ record { refusal = BaseTooFar; holds = ltb largestBase base }
+    ∷ []
+
+-- what is refused leaves a list as it was
+abbrev pub unless : Checked → List ℕ → List ℕ → List ℕ
+unless Passed new old = new
+unless (Held r) new old = old
+
+abbrev pub orRefused : Checked → Scanned → Scanned
+orRefused Passed a = a
+orRefused (Held r) a = Refused r
+
+-- the run of a call whose lists have so many words
+abbrev pub scanRun : List ℕ → List ℕ → ℕ → ℕ → ℕ → Run
+scanRun s hints start rows cols = scanFrom (length s) s hints (roomOf rows cols (length hints)) start 0
+
+unfoldable pub scanAnswer : List ℕ → List ℕ → ℕ → ℕ → ℕ → ℕ → Scanned
+scanAnswer s hints base start rows cols =
+    orRefused (firstHeld (scanChecks (length s) hints base)) (answerOf s (scanRun s hints start rows cols))
+
+unfoldable pub scanRows : List ℕ → List ℕ → ℕ → ℕ → List ℕ → List ℕ → List ℕ
+scanRows s hints base start rows cols =
+    unless (firstHeld (scanChecks (length s) hints base))
+    (overlay (rowsWords (rowsOf base (length hints) (scanRun s hints start (length rows) (length cols)))) rows)
+    rows
+
+unfoldable pub scanCols : List ℕ → List ℕ → ℕ → ℕ → List ℕ → List ℕ → List ℕ
+scanCols s hints base start rows cols =
+    unless (firstHeld (scanChecks (length s) hints base))
+    (overlay (entriesOf (scanRun s hints start (length rows) (length cols))) cols)
+    cols
+
+-- the paper's number of an answer, with 0 for none, then rows written, place and count
+abbrev pub numberOf : Scanned → ℕ
+numberOf (Done rows place read) = 0
+numberOf (Full rows place read) = 9
+numberOf (Refused r) = refusalNumber r
+
+abbrev pub writtenOf : Scanned → ℕ
+writtenOf (Done rows place read) = rows
+writtenOf (Full rows place read) = rows
+writtenOf (Refused r) = 0
+
+abbrev pub placeOf : Scanned → ℕ
+placeOf (Done rows place read) = place
+placeOf (Full rows place read) = place
+placeOf (Refused r) = 0
+
+abbrev pub readOf : Scanned → ℕ
+readOf (Done rows place read) = read
+readOf (Full rows place read) = read
+readOf (Refused r) = 0
+
+-- Rule 4.12: one attempt is the first step of a scan, and no more
+abbrev pub onceRun : List ℕ → List ℕ → ℕ → ℕ → ℕ → Run
+onceRun s hints o rows cols = goOn (roomOf rows cols (length hints)) o 0 (λ o′ n. through) (attemptAt s hints o)
+
+abbrev pub onceOf : Run → Attempted
+onceOf through = NoRow
+onceOf (noRoom o) = NoPlace
+onceOf (missed o t) = NoRow
+onceOf (found o x t) = Took
+
+abbrev pub orBarred : Checked → Attempted → Attempted
+orBarred Passed a = a
+orBarred (Held r) a = Barred r
+
+unfoldable pub onceAnswer : List ℕ → List ℕ → ℕ → ℕ → ℕ → ℕ → Attempted
+onceAnswer s hints base o rows cols = orBarred (firstHeld (scanChecks (length s) hints base)) (onceOf (onceRun s hints o rows cols))
+
+unfoldable pub onceRows : List ℕ → List ℕ → ℕ → ℕ → List ℕ → List ℕ → List ℕ
+onceRows s hints base o rows cols =
+    unless (firstHeld (scanChecks (length s) hints base))
+    (overlay (rowsWords (rowsOf base (length hints) (onceRun s hints o (length rows) (length cols)))) rows)
+    rows
+
+unfoldable pub onceCols : List ℕ → List ℕ → ℕ → ℕ → List ℕ → List ℕ → List ℕ
+onceCols s hints base o rows cols =
+    unless (firstHeld (scanChecks (length s) hints base)) (overlay (entriesOf (onceRun s hints o (length rows) (length cols))) cols) cols
+
+-- the number of such an answer, and the rows written; its place and its count are 0
+abbrev pub onceNumberOf : Attempted → ℕ
+onceNumberOf Took = 0
+onceNumberOf NoRow = 0
+onceNumberOf NoPlace = 9
+onceNumberOf (Barred r) = refusalNumber r
+
+abbrev pub onceWrittenOf : Attempted → ℕ
+onceWrittenOf Took = 1
+onceWrittenOf NoRow = 0
+onceWrittenOf NoPlace = 0
+onceWrittenOf (Barred r) = 0

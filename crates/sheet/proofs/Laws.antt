@@ -1,0 +1,119 @@
+-- What other crates rest on: they cite these laws and unfold no definition of this one.
+-- Assumes nothing.
+use Prim.Native.Nat.{ℕ, zero, suc, _+_, _*_, _/_, _≤_, _<_, min}
+use mathlib.Core.Path.{_≡_, refl, sym, _∙_}
+use mathlib.Core.Bool.{Bool, true, false, cond, and-eq-true-iff}
+use mathlib.Core.List.{List, [], _∷_, _++_, append-nil, append-assoc}
+use native.Mathlib.Nat.{add-zero, add-suc, suc-add, suc-mul, min-le-left, min-le-right, le-trans, le-div-iff-mul-le}
+use native.Mathlib.Omega.{arith}
+use borrow.Author.Tests.{leb-true, ne-eqb}
+use lib.Dec.{leb, eqb, lit≤}
+use lib.ListN.{length, set, getD, length-append, length-drop}
+use lib.Seq.{sets, sets-eq, take-append-seam, drop-append-add, drop-drop}
+use Rattle.sheet.specs.Columns.{columnWords, unusedWords, roomOf}
+use Rattle.sheet.specs.Limits.{mostColumns, wordsPerRow, wordsPerEntry, highestHint, countFits, hintsKnown}
+use Rattle.sheet.specs.Refusal.{refusalNumber}
+use Rattle.sheet.specs.Row.{rowWords}
+use Rattle.sheet.specs.Sheet.{overlay, rowsWords}
+use Rattle.sheet.specs.declared.columns.Column.{Column}
+use Rattle.sheet.specs.declared.columns.Column.the-variants.{Body, Unfit, Lost, Unused}
+use Rattle.sheet.specs.declared.refusal.Refusal.{Refusal}
+use Rattle.sheet.specs.declared.refusal.Refusal.the-variants.{ColumnCount, Malformed, TooLarge, BaseTooFar, PageSize, NoSuchPage, NoColumnList, WalkSpace, NoRoom}
+use Rattle.sheet.specs.declared.row.Row.{Row}
+
+-- ---- refusals and hints
+-- THE LAW: refusals are numbered from 1 to 9, so 0 is free to say that there is none
+pub number-range : (r : Refusal) → (1 ≤ refusalNumber r) × (refusalNumber r ≤ 9)
+number-range ColumnCount = (lit≤ tt, lit≤ tt)
+number-range Malformed = (lit≤ tt, lit≤ tt)
+number-range TooLarge = (lit≤ tt, lit≤ tt)
+number-range BaseTooFar = (lit≤ tt, lit≤ tt)
+number-range PageSize = (lit≤ tt, lit≤ tt)
+number-range NoSuchPage = (lit≤ tt, lit≤ tt)
+number-range NoColumnList = (lit≤ tt, lit≤ tt)
+number-range WalkSpace = (lit≤ tt, lit≤ tt)
+number-range NoRoom = (lit≤ tt, lit≤ tt)
+
+-- THE LAW: a count that fits is from 1 to 126
+pub count-fits : (n : ℕ) → countFits n ≡ true → (1 ≤ n) × (n ≤ mostColumns)
+unfolding countFits
+count-fits n h =
+    let b = and-eq-true-iff (leb 1 n) (leb n mostColumns) .0 h in
+    (leb-true 1 n (b .0), leb-true n mostColumns (b .1))
+
+-- THE LAW: of known hints each is at most 5
+pub hints-known : (hs : List ℕ) → hintsKnown hs ≡ true → (i : ℕ) → getD hs i 0 ≤ highestHint
+unfolding hintsKnown
+hints-known [] k i = lit≤ tt
+hints-known (h ∷ hs) k zero = leb-true h highestHint (and-eq-true-iff (leb h highestHint) (hintsKnown hs) .0 k .0)
+hints-known (h ∷ hs) k (suc i) = hints-known hs (and-eq-true-iff (leb h highestHint) (hintsKnown hs) .0 k .1) i
+
+-- ---- how many words there are
+pub row-words-length : (r : Row) → length (rowWords r) ≡ wordsPerRow
+unfolding rowWords
+row-words-length r = refl
+
+pub column-words-length : (c : Column) → length (columnWords c) ≡ wordsPerEntry
+unfolding columnWords
+column-words-length (Body kind start len) = refl
+column-words-length (Unfit kind) = refl
+column-words-length Lost = refl
+column-words-length Unused = refl
+
+pub unused-words-length : (n : ℕ) → length (unusedWords n) ≡ wordsPerEntry * n
+unfolding unusedWords
+unused-words-length zero = refl
+unused-words-length (suc n) = simp (length-append, column-words-length, unused-words-length n) (omega arith)
+
+pub rows-words-length : (rs : List Row) → length (rowsWords rs) ≡ length rs * wordsPerRow
+rows-words-length [] = refl
+rows-words-length (r ∷ rs) = simp (length-append, row-words-length, rows-words-length rs) (omega arith)
+
+pub rows-words-snoc : (rs : List Row) (r : Row) → rowsWords (rs ++ (r ∷ [])) ≡ rowsWords rs ++ rowWords r
+rows-words-snoc [] r = append-nil (rowWords r)
+rows-words-snoc (q ∷ rs) r = rw (rows-words-snoc rs r) (sym (append-assoc (rowWords q) (rowsWords rs) (rowWords r)))
+
+-- ---- writing
+module _ {A : Type 0} where
+  -- THE LAW: words written behind others are written with them
+  pub sets-append : (l : List A) (at : ℕ) (vs us : List A) → sets (sets l at vs) (at + length vs) us ≡ sets l at (vs ++ us)
+  sets-append l at [] us = rw add-zero
+  sets-append l at (v ∷ vs) us = rw (add-suc, ← suc-add) (sets-append (set l at v) (suc at) vs us)
+
+  pub overlay-nil : (old : List A) → overlay [] old ≡ old
+  overlay-nil old = refl
+
+  pub overlay-length : (ws old : List A) → length ws ≤ length old → length (overlay ws old) ≡ length old
+  overlay-length ws old h = simp (length-append, length-drop) (omega arith)
+
+  -- THE LAW: what is written behind the first words comes to be one of them
+  pub overlay-more : (ws vs old : List A) → length ws + length vs ≤ length old → sets (overlay ws old) (length ws) vs ≡ overlay (ws ++ vs) old
+  overlay-more ws vs old h =
+      let l = overlay-length ws old (omega arith) in
+      sets-eq vs (overlay ws old) (length ws) (omega arith) ∙ simp (take-append-seam, drop-append-add, drop-drop, length-append)
+
+-- THE LAW: so a row that is written behind others is one of the rows
+pub overlay-row : (rs : List Row) (r : Row) (old : List ℕ) → length rs * wordsPerRow + wordsPerRow ≤ length old →
+    sets (overlay (rowsWords rs) old) (length rs * wordsPerRow) (rowWords r) ≡ overlay (rowsWords (rs ++ (r ∷ []))) old
+overlay-row rs r old h =
+    rw (← rows-words-length rs, rows-words-snoc rs r)
+    (overlay-more (rowsWords rs) (rowWords r) old (omega (arith, rows-words-length rs, row-words-length r)))
+
+-- ---- room
+least : (b : Bool) (x y : ℕ) → cond b x (min x y) ≤ x
+least true x y = omega arith
+least false x y = min-le-left x y
+
+-- THE LAW: a row below the room has its words,
+pub room-rows : (rows cols width n : ℕ) → n < roomOf rows cols width → n * wordsPerRow + wordsPerRow ≤ rows
+unfolding roomOf
+room-rows rows cols width n h = omega (arith, least (eqb width 0) (rows / wordsPerRow) (cols / (wordsPerEntry * width)))
+
+-- and its group of columns
+pub room-cols : (rows cols width n : ℕ) → n < roomOf rows cols width → n * (wordsPerEntry * width) + wordsPerEntry * width ≤ cols
+unfolding roomOf
+room-cols rows cols zero n h = omega arith
+room-cols rows cols (suc w) n h =
+    let k = wordsPerEntry * suc w in
+    let some = simp (ne-eqb (suc w) 0 (λ z. omega arith)) at h in
+    rw (← suc-mul) (le-div-iff-mul-le {k = k} (omega arith) .0 (le-trans some (min-le-right (rows / wordsPerRow) (cols / k))))

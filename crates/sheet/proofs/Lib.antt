@@ -1,0 +1,4 @@
+pub mod Laws
+pub mod Percent
+pub mod Shares
+pub mod Unique

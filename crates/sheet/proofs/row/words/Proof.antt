@@ -1,0 +1,40 @@
+-- `sheet::row::words` meets its contract: each word is what the definition of that word says.
+-- Assumes nothing.
+use borrow.Author.Needs.{needs}
+use Rattle.sheet.specs.Row.{rowWords}
+use Rattle.sheet.proofs.row.words.Statement.{statement}
+use Rattle.sheet.proofs.row.words.Tie as tie
+
+source-percent-requires : tie.Need-source-percent-requires
+source-percent-requires c κs = search needs
+
+float-bits-requires : tie.Need-float-bits-requires
+float-bits-requires c κs = search needs
+
+presence-of-requires : tie.Need-presence-of-requires
+presence-of-requires c κs = search needs
+
+id-bits-requires : tie.Need-id-bits-requires
+id-bits-requires c κs = search needs
+
+source-code-requires : tie.Need-source-code-requires
+source-code-requires c κs = search needs
+
+mode-word-requires : tie.Need-mode-word-requires
+mode-word-requires c κs = search needs
+
+returns : tie.Need-returns
+unfolding rowWords
+returns c = cc
+
+pub words-spec : {M : Type 1} → statement M
+words-spec =
+    tie.close
+    (tie.spec
+    source-percent-requires
+    float-bits-requires
+    presence-of-requires
+    id-bits-requires
+    source-code-requires
+    mode-word-requires
+    returns)

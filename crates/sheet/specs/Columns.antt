@@ -1,0 +1,27 @@
+-- The four words of a column entry, and the room that two lent lists have.
+-- Assumes nothing.
+use Prim.Native.Nat.{ℕ, zero, suc, _*_, _/_, min}
+use mathlib.Core.Bool.{cond}
+use mathlib.Core.List.{List, [], _∷_, _++_}
+use lib.Dec.{eqb}
+use Rattle.sheet.specs.Limits.{wordsPerRow, wordsPerEntry}
+use Rattle.sheet.specs.declared.columns.Column.{Column}
+use Rattle.sheet.specs.declared.columns.Column.the-variants.{Body, Unfit, Lost, Unused}
+
+-- a column entry: state, serial type, start, length. What a state has no use for is 0
+unfoldable pub columnWords : Column → List ℕ
+columnWords (Body kind start len) = 0 ∷ kind ∷ start ∷ len ∷ []
+columnWords (Unfit kind) = 1 ∷ kind ∷ 0 ∷ 0 ∷ []
+columnWords Lost = 2 ∷ 0 ∷ 0 ∷ 0 ∷ []
+columnWords Unused = 3 ∷ 0 ∷ 0 ∷ 0 ∷ []
+
+-- n entries that pad a group
+unfoldable pub unusedWords : ℕ → List ℕ
+unusedWords zero = []
+unusedWords (suc n) = columnWords Unused ++ unusedWords n
+
+-- room: the smaller of whole rows and whole groups of `width` entries; groups without entries set no limit
+unfoldable pub roomOf : ℕ → ℕ → ℕ → ℕ
+roomOf rows cols width =
+    cond (eqb width 0) (rows / wordsPerRow)
+    (min (rows / wordsPerRow) (cols / (wordsPerEntry * width)))

@@ -1,0 +1,6 @@
+pub mod Columns
+pub mod Confidence
+pub mod Limits
+pub mod Refusal
+pub mod Row
+pub mod Sheet

@@ -1,0 +1,39 @@
+-- The numbers that the paper fixes, and the two tests of hints that go by them.
+-- Assumes nothing.
+use Prim.Native.Nat.{ℕ}
+use mathlib.Core.Bool.{Bool, true, _&&_}
+use mathlib.Core.List.{List, [], _∷_}
+use lib.Dec.{leb}
+
+-- the most columns that a table may have
+abbrev pub mostColumns : ℕ
+mostColumns = 126
+
+-- the words of a row
+abbrev pub wordsPerRow : ℕ
+wordsPerRow = 8
+
+-- the words of a column entry
+abbrev pub wordsPerEntry : ℕ
+wordsPerEntry = 4
+
+-- the most bytes that a region, a page slice or a database may have
+abbrev pub largestRegion : ℕ
+largestRegion = 16777216
+
+-- the largest base offset: 2 ^ 48
+abbrev pub largestBase : ℕ
+largestBase = 281474976710656
+
+-- hint codes: 0 Integer, 1 Real, 2 Text, 3 Blob, 4 Null, 5 Any
+abbrev pub highestHint : ℕ
+highestHint = 5
+
+-- a count of columns or hints: one at least, and no more than there may be
+unfoldable pub countFits : ℕ → Bool
+countFits n = leb 1 n && leb n mostColumns
+
+-- every hint code is one of the six
+unfoldable pub hintsKnown : List ℕ → Bool
+hintsKnown [] = true
+hintsKnown (h ∷ hs) = leb h highestHint && hintsKnown hs

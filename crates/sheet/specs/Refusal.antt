@@ -1,0 +1,31 @@
+-- Refusals: their numbers, and which of a call's checks decides.
+-- Assumes nothing.
+use Prim.Native.Nat.{ℕ}
+use mathlib.Core.Bool.{Bool, cond}
+use mathlib.Core.List.{List, [], _∷_}
+use Rattle.sheet.specs.declared.refusal.Checked.{Checked}
+use Rattle.sheet.specs.declared.refusal.Checked.the-variants.{Passed, Refused}
+use Rattle.sheet.specs.declared.refusal.Refusal.{Refusal}
+use Rattle.sheet.specs.declared.refusal.Refusal.the-variants.{ColumnCount, Malformed, TooLarge, BaseTooFar, PageSize, NoSuchPage, NoColumnList, WalkSpace, NoRoom}
+
+-- the paper's number of each refusal
+abbrev pub refusalNumber : Refusal → ℕ
+refusalNumber ColumnCount = 1
+refusalNumber Malformed = 2
+refusalNumber TooLarge = 3
+refusalNumber BaseTooFar = 4
+refusalNumber PageSize = 5
+refusalNumber NoSuchPage = 6
+refusalNumber NoColumnList = 7
+refusalNumber WalkSpace = 8
+refusalNumber NoRoom = 9
+
+-- a check: what it refuses with, and whether it does
+pub record Check : Type 0 where
+  pub refusal : Refusal
+  pub holds : Bool
+
+-- checks run in their order: the first that holds refuses
+abbrev pub firstHeld : List Check → Checked
+firstHeld [] = Passed
+firstHeld (c ∷ cs) = cond (c .holds) (Refused (c .refusal)) (firstHeld cs)

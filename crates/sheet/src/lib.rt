@@ -1,0 +1,19 @@
+// What the sheet is made of: rows and column entries as words of lent lists, confidences, and the refusals.
+pub mod columns;
+pub mod confidence;
+pub mod inner;
+pub mod refusal;
+pub mod row;
+
+// The numbers that the paper fixes; no other place knows them.
+pub const MOST_COLUMNS: usize = 126;
+
+pub const WORDS_PER_ROW: usize = 8;
+
+pub const WORDS_PER_ENTRY: usize = 4;
+// In bytes.
+pub const LARGEST_REGION: usize = 16_777_216;
+// 2 to the power of 48.
+pub const LARGEST_BASE: u64 = 281_474_976_710_656;
+
+pub const HIGHEST_HINT: u8 = 5;

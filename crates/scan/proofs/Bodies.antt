@@ -109,6 +109,7 @@ module _ (s hints : List ℕ) (o h : ℕ) (ts : List ℕ) (inside : o + h ≤ le
       same : (b : Bool) → cond b miss miss ≡ miss
       same true = refl
       same false = refl
+
       sizes-miss : (b : Bodies) → bodiesFrom s (o + h) ts ≡ b → sized o (suited hints ts) b ≡ miss
       sizes-miss unfit e = refl
       sizes-miss (laid cs end) e =

@@ -127,7 +127,7 @@ room-all rows cols width (suc n) h =
     (rw suc-mul (room-rows rows cols width n h), rw (suc-mul n (wordsPerEntry * width)) (room-cols rows cols width n h))
 
 -- words written from the front are laid over what the list held
-laid-over : (ws l : List ℕ) → length ws ≤ length l → sets l 0 ws ≡ overlay ws l
+pub laid-over : (ws l : List ℕ) → length ws ≤ length l → sets l 0 ws ≡ overlay ws l
 laid-over ws l h = sets-eq ws l 0 (omega arith) ∙ ap (λ (k : ℕ). ws ++ drop k l) (zero-add (length ws))
 
 -- ---- with fuel for what is left
@@ -163,7 +163,7 @@ module _ (s hints : List ℕ) (base start room : ℕ) (rows₀ cols₀ rows cols
     f,
     omega arith,
     going-found _ _ _ _ _ _ _ _ _ _ _ _ o x r rows′ cols′ c (columns-words-length (x .columns) ∙ ap (λ (k : ℕ). wordsPerEntry * k) w) er ec lr lc
-    (rw (scan-found f s hints room o n h x e m) at g),
+        (rw (scan-found f s hints room o n h x e m) at g),
   )
 
   module _ (row-room : n * wordsPerRow ≤ length rows₀) (col-room : n * (wordsPerEntry * length hints) ≤ length cols₀) where

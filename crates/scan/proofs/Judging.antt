@@ -40,9 +40,9 @@ module _ (s hints : List ℕ) (o h from : ℕ) (head : Headed s o h from) where
       let z = stops s (o + h) h from (head .within) in
       let n = length-append (placesFrom o (from - o)) (typePlaces h s from (o + h)) in
       let far : reach s ts ≤ o + 520 =
-        by-order (o + h) from
-        (λ past. omega (arith, ap (reach s) (types-end h s from (o + h) (omega arith)), head .near))
-        (λ before. omega (arith, z .near before, head .high)) in
+      by-order (o + h) from
+      (λ past. omega (arith, ap (reach s) (types-end h s from (o + h) (omega arith)), head .near))
+      (λ before. omega (arith, z .near before, head .high)) in
       (omega (arith, n, places-length o (from - o), z .counts, head .past), far)
 
   pub judge-cut : isWhole ts ≡ false → MissIs (judgedWhole s hints o h ts) places (length s - o)

@@ -2,5 +2,6 @@ mod Bodies
 mod Checks
 mod Going
 mod Judging
+mod Single
 mod Types
 mod Writing

@@ -49,6 +49,7 @@ suited-step hints k t ts = rw (← drop-drop 1 k hints) (go (drop k hints))
     none : (ts : List ℕ) → suited [] ts ≡ 0
     none [] = refl
     none (t ∷ ts) = refl
+
     go : (l : List ℕ) → suited l (t ∷ ts) ≡ suited l (t ∷ []) + suited (drop 1 l) ts
     go [] = omega (arith, none ts)
     go (h ∷ hs) = omega arith

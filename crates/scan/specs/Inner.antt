@@ -12,7 +12,8 @@ use Rattle.record.specs.declared.record.Length.the-variants.{Bytes, Reserved}
 use Rattle.scan.specs.Attempt.{Types, ended, cut, kind, kinds, isWhole, typesFrom, mostBytes, Found, Tried, miss, hit, judgedWhole, attemptAt}
 use Rattle.scan.specs.Hints.{suited}
 use Rattle.scan.specs.Places.{typePlaces, attemptPlaces}
-use Rattle.scan.specs.Scan.{scanFrom, answerOf, rowsOf, entriesOf}
+use Rattle.scan.specs.Scan.{scanFrom, answerOf, rowsOf, entriesOf, onceRun, onceOf}
+use Rattle.scan.specs.declared.schema_sig.Attempted.{Attempted}
 use Rattle.scan.specs.declared.schema_sig.Scanned.{Scanned}
 use Rattle.scan.specs.declared.schema_sig.Verdict.{Verdict}
 use Rattle.scan.specs.declared.schema_sig.Verdict.the-variants.{Hit, Miss}
@@ -130,3 +131,9 @@ pub record Ran (s hints : List ℕ) (base start room : ℕ) (rows cols : List �
   pub answer : r ≡ answerOf s (scanFrom (length s) s hints room start 0)
   pub rows-are : rows′ ≡ overlay (rowsWords (rowsOf base (length hints) (scanFrom (length s) s hints room start 0))) rows
   pub cols-are : cols′ ≡ overlay (entriesOf (scanFrom (length s) s hints room start 0)) cols
+
+-- what one attempt leaves
+pub record Once (s hints : List ℕ) (base o : ℕ) (rows cols : List ℕ) (r : Attempted) (rows′ cols′ : List ℕ) : Type 0 where
+  pub answer : r ≡ onceOf (onceRun s hints o (length rows) (length cols))
+  pub rows-are : rows′ ≡ overlay (rowsWords (rowsOf base (length hints) (onceRun s hints o (length rows) (length cols)))) rows
+  pub cols-are : cols′ ≡ overlay (entriesOf (onceRun s hints o (length rows) (length cols))) cols

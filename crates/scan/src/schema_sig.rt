@@ -26,9 +26,9 @@ ghost use lib.ListN.{length};
 ghost use lib.Seq.{sets};
 ghost use Rattle.scan.specs.Attempt.{kinds, attemptAt};
 ghost use Rattle.scan.specs.Hints.{isInteger, isReal, isText, isBlob, suits as suitsHint, compatible};
-ghost use Rattle.scan.specs.Inner.{suitsAt, tooLong, bodySize, sizes, columnsAt, headerTypes, Headed, Walked, Judged, foundAt, Tells, Fit, RoomFor, Ran};
+ghost use Rattle.scan.specs.Inner.{suitsAt, tooLong, bodySize, sizes, columnsAt, headerTypes, Headed, Walked, Judged, foundAt, Tells, Fit, RoomFor, Ran, Once};
 ghost use Rattle.scan.specs.Places.{attemptPlaces};
-ghost use Rattle.scan.specs.Scan.{rowOf, columnsWords, scanChecks, scanAnswer, scanRows, scanCols};
+ghost use Rattle.scan.specs.Scan.{rowOf, columnsWords, scanChecks, scanAnswer, scanRows, scanCols, onceAnswer, onceRows, onceCols};
 ghost use Rattle.sheet.specs.Columns.{roomOf};
 ghost use Rattle.sheet.specs.Limits.{wordsPerRow, wordsPerEntry, largestRegion};
 ghost use Rattle.sheet.specs.Refusal.{firstHeld};
@@ -446,6 +446,73 @@ pub fn scan_region(
         Checked::Passed => {
             let room = room(rows.len(), cols.len(), hints.len());
             run(region, hints, base, start, room, rows, cols)
+        }
+    }
+}
+
+// One attempt at o; its row, if there is one, is the first of both lists.
+fn once(
+    bytes: &[u8],
+    hints: &[u8],
+    base: u64,
+    o: usize,
+    room: usize,
+    rows: &mut [u64],
+    cols: &mut [u64],
+) -> Attempted
+    requires { ⌜ Fit (now bytes) (now hints) base ⌝ }
+    requires { ⌜ room ≡ roomOf (length (now rows)) (length (now cols)) (length (now hints)) ⌝ }
+    ensures { λ r. ⌜ Once (now (bytes .entry)) (now (hints .entry)) base o (now (rows .entry)) (now (cols .entry)) r (now (rows .exit)) (now (cols .exit)) ⌝ }
+{
+    if o > bytes.len() {
+        return Attempted::NoRow;
+    }
+    let Verdict::Hit {
+        head,
+        from,
+        consumed,
+        matched,
+        read: _,
+    } = attempt(bytes, hints, o)
+    else {
+        return Attempted::NoRow;
+    };
+    if room == 0 {
+        return Attempted::Full;
+    }
+    put_found(
+        bytes,
+        hints.len(),
+        base,
+        o,
+        head,
+        from,
+        consumed,
+        matched,
+        0,
+        rows,
+        cols,
+    );
+    Attempted::Row
+}
+
+pub fn try_parse_record(
+    region: &[u8],
+    hints: &[u8],
+    base: u64,
+    offset: usize,
+    rows: &mut [u64],
+    cols: &mut [u64],
+) -> Attempted
+    ensures answer { λ r. ⌜ r ≡ onceAnswer (now (region .entry)) (now (hints .entry)) base offset (length (now (rows .entry))) (length (now (cols .entry))) ⌝ }
+    ensures rows { λ _. ⌜ now (rows .exit) ≡ onceRows (now (region .entry)) (now (hints .entry)) base offset (now (rows .entry)) (now (cols .entry)) ⌝ }
+    ensures cols { λ _. ⌜ now (cols .exit) ≡ onceCols (now (region .entry)) (now (hints .entry)) base offset (now (rows .entry)) (now (cols .entry)) ⌝ }
+{
+    match check(region.len(), hints, base) {
+        Checked::Refused(refusal) => Attempted::Refused(refusal),
+        Checked::Passed => {
+            let room = room(rows.len(), cols.len(), hints.len());
+            once(region, hints, base, offset, room, rows, cols)
         }
     }
 }

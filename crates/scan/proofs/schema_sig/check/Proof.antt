@@ -31,7 +31,7 @@ hints-known-requires : tie.Need-hints-known-requires
 hints-known-requires c κs = search needs
 
 returns-2 : tie.Need-returns-2
-returns-2 c = 
+returns-2 c =
     let n = c .before .before .before in
     simp (sym (n .hint-count-fits .ensures) ∙ not-false _ (c .before .before .if1 .left), sym (c .before .hints-known .ensures) ∙ not-true _ (c .if2 .taken))
 

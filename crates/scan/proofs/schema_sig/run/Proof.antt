@@ -72,7 +72,7 @@ loop-less : tie.Need-loop-less Inv-loop μ-loop
 loop-less c = omega (arith, below (c .before .before .before .before))
 
 loop-again : tie.Need-loop-again Inv-loop μ-loop
-loop-again c = 
+loop-again c =
     let l = c .before .before .before .before .before .loop in
     let m = missed c in
     (l .inv .0, omega (arith, l .inv .1, m .few), on-missed _ _ _ _ _ _ _ _ _ _ _ _ _ (below (c .before .before .before .before)) (m .misses) (m .counts) (l .inv .2))
@@ -87,33 +87,42 @@ same-length-2 : tie.Need-same-length-2 Inv-loop μ-loop
 same-length-2 c = on-long _ _ _ _ _ _ _ _ _ _ _ _ (c .before .before .before .before .before .before .loop .inv .2) .1
 
 returns : tie.Need-returns Inv-loop μ-loop
-returns c = 
+returns c =
     let l = c .before .before .before .before .before .before .loop in
     let p = c .before .before .before .before .before .before .before .before .before .before .before .before .pre in
     let r = room-all _ _ _ _ (rw (p .1) at (l .inv .0)) in
     on-full _ _ _ _ _ _ _ _ _ _ _ _ (r .0) (r .1) _ (below (c .before .before .before .before .before)) (found (c .before) .hits) (c .if1 .taken) (l .inv .2)
 
 put-found-requires : tie.Need-put-found-requires Inv-loop μ-loop
-put-found-requires c κs = 
+put-found-requires c κs =
     let e = c .before .before in
     let l = e .before .before .before .before .before .before .loop in
     let p = e .before .before .before .before .before .before .before .before .before .before .before .before .pre in
     let h = found (e .before) in
     let long = on-long _ _ _ _ _ _ _ _ _ _ _ _ (l .inv .2) in
     let small = taken (e .before) in
-    let n : l .n < _ = e .if1 .left in
-    ((p .0 .few, omega (arith, p .0 .near, small .1, small .2)),
-    (h .headed, (omega (arith, h .bodies, h .inside), (h .columns,
-    record {
-      row = rw (long .0) (room-rows _ _ _ _ (rw (p .1) at n));
-      group = rw (long .1) (room-cols _ _ _ _ (rw (p .1) at n));
-    }))))
+    let n : l .n < _ = e .if1 .left in (
+      (p .0 .few, omega (arith, p .0 .near, small .1, small .2)),
+      (
+        h .headed,
+        (
+          omega (arith, h .bodies, h .inside),
+          (
+            h .columns,
+            record {
+              row = rw (long .0) (room-rows _ _ _ _ (rw (p .1) at n));
+              group = rw (long .1) (room-cols _ _ _ _ (rw (p .1) at n));
+            },
+          ),
+        ),
+      ),
+    )
 
 add-n : tie.Need-add-n Inv-loop μ-loop
 add-n c = omega (arith, c .before .before .before .before .before .before .before .if1 .left)
 
 add-read-2 : tie.Need-add-read-2 Inv-loop μ-loop
-add-read-2 c = 
+add-read-2 c =
     let k = c .before .before .before .before .before .before .before .before in
     let s = taken k in
     let b = below (k .before .before .before .before) in
@@ -127,7 +136,7 @@ loop-less-2 : tie.Need-loop-less-2 Inv-loop μ-loop
 loop-less-2 c = let s = taken (c .before .before .before .before .before .before .before .before) in omega arith
 
 loop-again-2 : tie.Need-loop-again-2 Inv-loop μ-loop
-loop-again-2 c = 
+loop-again-2 c =
     let k = c .before .before .before .before .before .before .before .before in
     let l = k .before .before .before .before .before .loop in
     let s = now (k .before .before .before .before .before .before .before .before .before .before .before .args .bytes) in
@@ -138,7 +147,7 @@ loop-again-2 c =
       omega (arith, c .before .before .before .before .before .before .before .if1 .left),
       omega (arith, l .inv .1, m .0, m .3),
       on-found _ _ _ _ _ _ _ _ _ _ _ _ _ _ _ _ (below (k .before .before .before .before)) (h .hits) (c .before .before .before .before .before .before .before .if1 .left) (omega (arith, m .0)) (h .counts)
-      (columns-at-length (l .o + v .0) (kinds (headerTypes s (l .o) (v .0) (v .1 .0))) ∙ h .columns) (q .ensures .0) (q .ensures .1) (q .kept .1 .1 .1 .1 .1 .1 .1 .1 .1 .0) (q .kept .1 .1 .1 .1 .1 .1 .1 .1 .1 .1 .0) (l .inv .2),
+          (columns-at-length (l .o + v .0) (kinds (headerTypes s (l .o) (v .0) (v .1 .0))) ∙ h .columns) (q .ensures .0) (q .ensures .1) (q .kept .1 .1 .1 .1 .1 .1 .1 .1 .1 .0) (q .kept .1 .1 .1 .1 .1 .1 .1 .1 .1 .1 .0) (l .inv .2),
     )
 
 same-length-3 : tie.Need-same-length-3 Inv-loop μ-loop
@@ -148,7 +157,7 @@ same-length-4 : tie.Need-same-length-4 Inv-loop μ-loop
 same-length-4 c = on-long _ _ _ _ _ _ _ _ _ _ _ _ (c .before .loop .inv .2) .1
 
 returns-2 : tie.Need-returns-2 Inv-loop μ-loop
-returns-2 c = 
+returns-2 c =
     let l = c .before .loop in
     let p = c .before .before .before .before .before .before .before .pre in
     let r = room-all _ _ _ _ (rw (p .1) at (l .inv .0)) in

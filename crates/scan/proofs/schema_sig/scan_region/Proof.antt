@@ -34,7 +34,7 @@ run-requires c κs = (passed _ _ _ (checked (c .before .before .before)), c .bef
 
 returns : tie.Need-returns
 unfolding scanAnswer scanRows scanCols
-returns c = 
+returns c =
     let e = sym (c .before .before .before .check .ensures) ∙ c .before .refusal .given .1 in
     (rw e, (rw e, rw e))
 
@@ -46,7 +46,7 @@ same-length-2 c = search needs
 
 returns-2 : tie.Need-returns-2
 unfolding scanAnswer scanRows scanCols
-returns-2 c = 
+returns-2 c =
     let k = c .before .before .before .before .before .before .before .before in
     let e = checked k in
     let r = rw (c .before .before .before .before .before .before .before .room .ensures) at (c .before .before .before .before .run .ensures) in

@@ -28,35 +28,38 @@ is-text-requires c κs = search needs
 
 returns-3 : tie.Need-returns-3
 unfolding suits
-returns-3 c = 
-    simp
-    (c .is-text .ensures,
-    ne-eqb _ _ (c .before .before .before .if1 .left),
-    ne-eqb _ _ (c .before .before .if2 .left),
-    eq-eqb _ _ (c .before .if3 .taken))
+returns-3 c =
+    simp (
+      c .is-text .ensures,
+      ne-eqb _ _ (c .before .before .before .if1 .left),
+      ne-eqb _ _ (c .before .before .if2 .left),
+      eq-eqb _ _ (c .before .if3 .taken),
+    )
 
 is-blob-requires : tie.Need-is-blob-requires
 is-blob-requires c κs = search needs
 
 returns-4 : tie.Need-returns-4
 unfolding suits
-returns-4 c = 
-    simp
-    (c .is-blob .ensures,
-    ne-eqb _ _ (c .before .before .before .before .if1 .left),
-    ne-eqb _ _ (c .before .before .before .if2 .left),
-    ne-eqb _ _ (c .before .before .if3 .left),
-    eq-eqb _ _ (c .before .if4 .taken))
+returns-4 c =
+    simp (
+      c .is-blob .ensures,
+      ne-eqb _ _ (c .before .before .before .before .if1 .left),
+      ne-eqb _ _ (c .before .before .before .if2 .left),
+      ne-eqb _ _ (c .before .before .if3 .left),
+      eq-eqb _ _ (c .before .if4 .taken),
+    )
 
 returns-5 : tie.Need-returns-5
 unfolding suits
-returns-5 c = 
-    simp
-    (ne-eqb _ _ (c .before .before .before .before .if1 .left),
-    ne-eqb _ _ (c .before .before .before .if2 .left),
-    ne-eqb _ _ (c .before .before .if3 .left),
-    ne-eqb _ _ (c .before .if4 .left),
-    eq-eqb _ _ (c .if5 .taken))
+returns-5 c =
+    simp (
+      ne-eqb _ _ (c .before .before .before .before .if1 .left),
+      ne-eqb _ _ (c .before .before .before .if2 .left),
+      ne-eqb _ _ (c .before .before .if3 .left),
+      ne-eqb _ _ (c .before .if4 .left),
+      eq-eqb _ _ (c .if5 .taken),
+    )
 
 -- behind the five tests only Any is left
 other : (h t : ℕ) → (h ≡ 0 → ⊥) → (h ≡ 1 → ⊥) → (h ≡ 2 → ⊥) → (h ≡ 3 → ⊥) → (h ≡ 4 → ⊥) → eqb h 5 ≡ suits h t

@@ -18,12 +18,12 @@ suits-requires : tie.Need-suits-requires
 suits-requires c κs = search needs
 
 returns : tie.Need-returns
-returns c = 
+returns c =
     let a = c .before .before .before .before .before .args in
     (rw (drop-cons (now (a .hints)) (a .k) 0 (c .before .before .before .if1 .taken), sym (c .before .suits .ensures) ∙ c .if2 .taken), lit≤ tt)
 
 returns-2 : tie.Need-returns-2
-returns-2 c = 
+returns-2 c =
     let a = c .before .before .before .before .before .args in
     (rw (drop-cons (now (a .hints)) (a .k) 0 (c .before .before .before .if1 .taken), sym (c .before .suits .ensures) ∙ c .if2 .left), lit≤ tt)
 

@@ -45,7 +45,7 @@ module _ (s hints : List ℕ) (o h from : ℕ) (head : Headed s o h from) where
       (λ before. omega (arith, z .near before, head .high)) in
       (omega (arith, n, places-length o (from - o), z .counts, head .past), far)
 
-  pub judge-cut : isWhole ts ≡ false → MissIs (judgedWhole s hints o h ts) places (length s - o)
+  pub judge-cut : isWhole ts ≡ false → MissIs (judgedWhole (length s) hints o h ts) places (length s - o)
   judge-cut e =
       let r = read-all in
       let c = cut-reach s ts e in
@@ -58,17 +58,17 @@ module _ (s hints : List ℕ) (o h from : ℕ) (head : Headed s o h from) where
         let r = read-all in
         (omega (arith, w .ends), omega (arith, w .totals, total-min 0 (kinds ts) (omega arith)))
 
-    pub judge-miss : judged s hints o h (kinds ts) ≡ miss → MissIs (judgedWhole s hints o h ts) places (end - o)
+    pub judge-miss : judged (length s) hints o h (kinds ts) ≡ miss → MissIs (judgedWhole (length s) hints o h ts) places (end - o)
     judge-miss e =
         let r = read-all in
         record { misses = rw (w .is-whole) e; counts = omega (arith, w .ends); few = omega (arith, w .ends) }
 
     pub judge-hit : count ≡ length hints → 0 < matched → h + total ≤ length s - o → h + total ≤ mostBytes
-        → HitIs s hints o (judgedWhole s hints o h ts) places h from (h + total) matched (end - o)
+        → HitIs s hints o (judgedWhole (length s) hints o h ts) places h from (h + total) matched (end - o)
     judge-hit c m in′ fit =
         let r = read-all in
         let t = total-min 0 (kinds ts) (omega arith) in
-        let e = hit-total s hints o h (kinds ts) (head .inside) (w .counts ∙ c) (omega (arith, w .matches)) (omega (arith, w .totals)) (omega (arith, w .totals)) in
+        let e = hit-total (length s) hints o h (kinds ts) (head .inside) (w .counts ∙ c) (omega (arith, w .matches)) (omega (arith, w .totals)) (omega (arith, w .totals)) in
         record {
           hits = rw (w .is-whole) (rw (w .totals, w .matches) at e);
           counts = omega (arith, w .ends);
@@ -81,15 +81,15 @@ module _ (s hints : List ℕ) (o h from : ℕ) (head : Headed s o h from) where
 
 -- ---- the header's length
 
-pub fits : (s : List ℕ) (o h : ℕ) → 2 ≤ h → h ≤ mostHeader → h ≤ length s - o → headerFits s o h ≡ true
+pub fits : (len o h : ℕ) → 2 ≤ h → h ≤ mostHeader → h ≤ len - o → headerFits len o h ≡ true
 unfolding headerFits
-fits s o h low high in′ = simp (le-leb 2 h low, le-leb h mostHeader high, le-leb h (length s - o) in′)
+fits len o h low high in′ = simp (le-leb 2 h low, le-leb h mostHeader high, le-leb h (len - o) in′)
 
-pub fits-not : (s : List ℕ) (o h : ℕ) → (2 ≤ h → h ≤ mostHeader → h ≤ length s - o → ⊥) → headerFits s o h ≡ false
+pub fits-not : (len o h : ℕ) → (2 ≤ h → h ≤ mostHeader → h ≤ len - o → ⊥) → headerFits len o h ≡ false
 unfolding headerFits
-fits-not s o h no′ = go (leb 2 h) (leb h mostHeader) (leb h (length s - o)) refl refl refl
+fits-not len o h no′ = go (leb 2 h) (leb h mostHeader) (leb h (len - o)) refl refl refl
   where
-    go : (a b c : Bool) → leb 2 h ≡ a → leb h mostHeader ≡ b → leb h (length s - o) ≡ c → (a && (b && c)) ≡ false
+    go : (a b c : Bool) → leb 2 h ≡ a → leb h mostHeader ≡ b → leb h (len - o) ≡ c → (a && (b && c)) ≡ false
     go true true true p q r = absurd (no′ (leb-true _ _ p) (leb-true _ _ q) (leb-true _ _ r))
     go true true false p q r = refl
     go true false c p q r = refl
@@ -104,19 +104,19 @@ module _ (s hints : List ℕ) (o : ℕ) where
       record { misses = rw e; counts = rw e (omega (arith, n, places-count s o)); few = omega (arith, varint-reach s o .near) }
 
   module _ (h : ℕ) (c : Cursor) (e : varintAt s o ≡ Value h c) where
-    pub attempt-bad : headerFits s o h ≡ false → MissIs (attemptAt s hints o) (attemptPlaces s o) (c .at - o)
+    pub attempt-bad : headerFits (length s) o h ≡ false → MissIs (attemptAt s hints o) (attemptPlaces s o) (c .at - o)
     unfolding attemptAt attemptPlaces
     attempt-bad f =
         let y : stopOf s (varintAt s o) ≡ c .at = ap (stopOf s) e in
         let n = length-append (varintPlaces s o) [] in
         record { misses = rw (e, f); counts = rw (e, f) (omega (arith, n, places-count s o)); few = omega (arith, varint-lies s o h c e .nine) }
 
-    pub attempt-is : headerFits s o h ≡ true → attemptAt s hints o ≡ judgedWhole s hints o h (headerTypes s o h (c .at))
+    pub attempt-is : headerFits (length s) o h ≡ true → attemptAt s hints o ≡ judgedWhole (length s) hints o h (headerTypes s o h (c .at))
     unfolding attemptAt
     attempt-is f = simp (e, f)
 
 module _ (s : List ℕ) (o h : ℕ) (c : Cursor) (e : varintAt s o ≡ Value h c) where
-  pub places-is : headerFits s o h ≡ true → attemptPlaces s o ≡ placesFrom o (c .at - o) ++ typePlaces h s (c .at) (o + h)
+  pub places-is : headerFits (length s) o h ≡ true → attemptPlaces s o ≡ placesFrom o (c .at - o) ++ typePlaces h s (c .at) (o + h)
   unfolding attemptPlaces
   places-is f = rw (places-are s o, e, f)
 

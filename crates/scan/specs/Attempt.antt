@@ -22,9 +22,11 @@ mostHeader = 512
 abbrev pub mostBytes : ℕ
 mostBytes = 65536
 
+-- Of a region, `len` is its length: what has no more than that looks at none of its bytes.
+
 -- Rule 4.2: a header's length h, read at o, is from 2 to 512 and no more than the bytes from o
-unfoldable pub headerFits : List ℕ → ℕ → ℕ → Bool
-headerFits s o h = leb 2 h && (leb h mostHeader && leb h (length s - o))
+unfoldable pub headerFits : ℕ → ℕ → ℕ → Bool
+headerFits len o h = leb 2 h && (leb h mostHeader && leb h (len - o))
 
 -- the types of a header, one after the other: up to a position that is at its end or behind, or up to one that runs off the slice
 pub data Types : Type 0 where
@@ -60,13 +62,13 @@ abbrev pub before : Column → Bodies → Bodies
 before c unfit = unfit
 before c (laid cs end) = laid (c ∷ cs) end
 
-abbrev pub bodyOn : List ℕ → ℕ → ℕ → (ℕ → Bodies) → Length → Bodies
-bodyOn s at t rest (Bytes n) = cond (leb (at + n) (length s)) (before (Body t at n) (rest (at + n))) unfit
-bodyOn s at t rest Reserved = unfit
+abbrev pub bodyOn : ℕ → ℕ → ℕ → (ℕ → Bodies) → Length → Bodies
+bodyOn len at t rest (Bytes n) = cond (leb (at + n) len) (before (Body t at n) (rest (at + n))) unfit
+bodyOn len at t rest Reserved = unfit
 
-unfoldable pub bodiesFrom : List ℕ → ℕ → List ℕ → Bodies
-bodiesFrom s at [] = laid [] at
-bodiesFrom s at (t ∷ ts) = bodyOn s at t (λ next. bodiesFrom s next ts) (bodyLength t)
+unfoldable pub bodiesFrom : ℕ → ℕ → List ℕ → Bodies
+bodiesFrom len at [] = laid [] at
+bodiesFrom len at (t ∷ ts) = bodyOn len at t (λ next. bodiesFrom len next ts) (bodyLength t)
 
 -- what an attempt finds: the bytes that the row takes, how many of its types suit their hints, and its columns
 pub record Found : Type 0 where
@@ -84,16 +86,16 @@ sized o n unfit = miss
 sized o n (laid cs end) = cond (leb (end - o) mostBytes) (hit (record { consumed = end - o; matched = n; columns = cs })) miss
 
 -- Rule 4.4: as many types as hints, and at least one that suits; then the bodies, which start at the header's end
-unfoldable pub judged : List ℕ → List ℕ → ℕ → ℕ → List ℕ → Tried
-judged s hints o h ts =
-    cond (eqb (length ts) (length hints) && ltb 0 (suited hints ts)) (sized o (suited hints ts) (bodiesFrom s (o + h) ts)) miss
+unfoldable pub judged : ℕ → List ℕ → ℕ → ℕ → List ℕ → Tried
+judged len hints o h ts =
+    cond (eqb (length ts) (length hints) && ltb 0 (suited hints ts)) (sized o (suited hints ts) (bodiesFrom len (o + h) ts)) miss
 
 -- a header whose types run off the slice is no row
-abbrev pub judgedWhole : List ℕ → List ℕ → ℕ → ℕ → Types → Tried
-judgedWhole s hints o h ts = cond (isWhole ts) (judged s hints o h (kinds ts)) miss
+abbrev pub judgedWhole : ℕ → List ℕ → ℕ → ℕ → Types → Tried
+judgedWhole len hints o h ts = cond (isWhole ts) (judged len hints o h (kinds ts)) miss
 
 abbrev pub attemptWith : List ℕ → List ℕ → ℕ → Varint → Tried
-attemptWith s hints o (Value h c) = cond (headerFits s o h) (judgedWhole s hints o h (typesFrom h s (c .at) (o + h))) miss
+attemptWith s hints o (Value h c) = cond (headerFits (length s) o h) (judgedWhole (length s) hints o h (typesFrom h s (c .at) (o + h))) miss
 attemptWith s hints o Short = miss
 
 unfoldable pub attemptAt : List ℕ → List ℕ → ℕ → Tried

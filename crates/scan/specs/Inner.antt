@@ -112,7 +112,7 @@ Tells s hints o t p (Hit h from consumed matched read) = HitIs s hints o t p h f
 -- a header's types make what `judgedWhole` says; its places are those of its own number and of the types
 abbrev pub Judged : List ℕ → List ℕ → ℕ → ℕ → ℕ → Verdict → Type 0
 Judged s hints o h from v =
-    Tells s hints o (judgedWhole s hints o h (headerTypes s o h from)) (placesFrom o (from - o) ++ typePlaces h s from (o + h)) v
+    Tells s hints o (judgedWhole (length s) hints o h (headerTypes s o h from)) (placesFrom o (from - o) ++ typePlaces h s from (o + h)) v
 
 -- a region and hints that have passed the checks
 pub record Fit (s hints : List ℕ) (base : ℕ) : Type 0 where

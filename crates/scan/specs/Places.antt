@@ -4,6 +4,7 @@ use Prim.Native.Nat.{ℕ, zero, suc, _+_}
 use mathlib.Core.Bool.{cond}
 use mathlib.Core.List.{List, [], _++_}
 use lib.Dec.{ltb}
+use lib.ListN.{length}
 use Rattle.record.specs.Places.{varintPlaces}
 use Rattle.record.specs.Varint.{varintAt}
 use Rattle.record.specs.declared.varint.Varint.{Varint}
@@ -21,7 +22,7 @@ typePlaces (suc f) s at stop = cond (ltb at stop) (varintPlaces s at ++ placesOn
 
 -- those of the types, if the header's length passed
 abbrev pub placesBehind : List ℕ → ℕ → Varint → List ℕ
-placesBehind s o (Value h c) = cond (headerFits s o h) (typePlaces h s (c .at) (o + h)) []
+placesBehind s o (Value h c) = cond (headerFits (length s) o h) (typePlaces h s (c .at) (o + h)) []
 placesBehind s o Short = []
 
 -- Rule 4.7: the bytes read for the header's length and, if that passed, for the types

@@ -20,31 +20,31 @@ use Rattle.record.specs.declared.varint.Read.{Read}
 use Rattle.record.specs.declared.varint.Read.the-variants.{Number, Nothing as None}
 
 -- a question with the answer that it is to have
-data Case : Type 0 where
+pub data Case : Type 0 where
   varint : List ℕ → Read → Case
   value : ℕ → List ℕ → Decoded → Case
   entry : Entry → List ℕ → EntryRead → Case
 
-data Answer : Type 0 where
+pub data Answer : Type 0 where
   read : Read → Answer
   decoded : Decoded → Answer
   seen : EntryRead → Answer
 
-expected : Case → Answer
+unfoldable pub expected : Case → Answer
 expected (varint s a) = read a
 expected (value t s a) = decoded a
 expected (entry e s a) = seen a
 
-computed : Case → Answer
+unfoldable pub computed : Case → Answer
 computed (varint s a) = read (readVarint s 0)
 computed (value t s a) = decoded (decodeAt t s 0)
 computed (entry e s a) = seen (readEntry e s)
 
-words : ℕ → ℕ → ℕ → ℕ → Entry
+unfoldable pub words : ℕ → ℕ → ℕ → ℕ → Entry
 words a b c d = record { state = a; kind = b; start = c; len = d }
 
 -- marked P
-marked : List Case
+unfoldable pub marked : List Case
 marked =
     varint (0x81 ∷ 0x00 ∷ []) (Number 128 2)
     ∷ varint (0x80 ∷ 0x02 ∷ []) (Number 2 2)
@@ -57,7 +57,7 @@ marked =
     ∷ []
 
 -- from the format's section 1.6 on varints and its table of serial types in section 2.1
-worked : List Case
+unfoldable pub worked : List Case
 worked =
     varint (0x7f ∷ []) (Number 127 1)
     ∷ varint (replicate 8 0x80 ++ (0xff ∷ [])) (Number 255 9)
@@ -80,7 +80,7 @@ worked =
     ∷ []
 
 -- entries: read where they stand, refused where they reach one byte further
-entries : List Case
+unfoldable pub entries : List Case
 entries =
     entry (words 0 17 1 2) (0 ∷ 0x68 ∷ 0x69 ∷ []) (Good (Text 1 2))
     ∷ entry (words 0 17 2 2) (0 ∷ 0x68 ∷ 0x69 ∷ []) Refused
@@ -93,9 +93,9 @@ entries =
     ∷ entry (words 4 0 0 0) [] Refused
     ∷ []
 
-cases : List Case
+unfoldable pub cases : List Case
 cases = marked ++ worked ++ entries
 
-table : map computed cases ≡ map expected cases
+pub table : map computed cases ≡ map expected cases
 unfolding cases marked worked entries words computed expected readVarint varintAt varintFrom decodeAt bodyFits bodyLength valueOf twosComplement bigEndian ofBits readEntry badEntry
 table = refl

@@ -1,4 +1,4 @@
-mod Cases
+pub mod Cases
 pub mod Laws
 pub mod Numbers
 pub mod Unique

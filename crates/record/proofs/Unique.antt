@@ -11,13 +11,13 @@ use Rattle.record.proofs.varint.Cursor.serial_type.Reads as serial-type
 use Rattle.record.proofs.varint.Cursor.varint.Reads as varint
 use Rattle.record.proofs.varint.read_varint.Reads as read-varint
 
--- over lifetimes k, arguments a, and what the function leaves, s and t
-abbrev Fixes {h i j l} : {K : Type h} {A : K → Type i} {R : K → Type j} {S : K → Type l} → ((k : K) → A k → R k → S k → Type 0) → Type (h ⊔ i ⊔ j ⊔ l)
-Fixes {K} {A} {R} {S} Post = (k : K) (a : A k) (x y : R k) (s t : S k) → Post k a x s → Post k a y t → x ≡ y
+-- over lifetimes k, arguments a, and the arguments as the function leaves them, s and t: what is seen of both outcomes is the same
+abbrev pub FixesSeen {h i j l m} : {K : Type h} {A : K → Type i} {R : K → Type j} {S : K → Type l} {B : Type m} → ((k : K) → A k → R k → S k → Type 0) → ((k : K) → R k → S k → B) → Type (h ⊔ i ⊔ j ⊔ l ⊔ m)
+FixesSeen {K} {A} {R} {S} Post see = (k : K) (a : A k) (x y : R k) (s t : S k) → Post k a x s → Post k a y t → see k x s ≡ see k y t
 
--- the same of what is seen of a result
-abbrev FixesSeen {h i j l m} : {K : Type h} {A : K → Type i} {R : K → Type j} {S : K → Type l} {B : Type m} → ((k : K) → R k → B) → ((k : K) → A k → R k → S k → Type 0) → Type (h ⊔ i ⊔ j ⊔ l ⊔ m)
-FixesSeen {K} {A} {R} {S} see Post = (k : K) (a : A k) (x y : R k) (s t : S k) → Post k a x s → Post k a y t → see k x ≡ see k y
+-- the result itself
+abbrev pub Fixes {h i j l} : {K : Type h} {A : K → Type i} {R : K → Type j} {S : K → Type l} → ((k : K) → A k → R k → S k → Type 0) → Type (h ⊔ i ⊔ j ⊔ l)
+Fixes {K} {A} {R} {S} Post = (k : K) (a : A k) (x y : R k) (s t : S k) → Post k a x s → Post k a y t → x ≡ y
 
 pub varint-fixed : Fixes varint.Post
 varint-fixed k a x y s t p q = p ∙ sym q
@@ -41,5 +41,5 @@ pub read-fixed : Fixes read.Post
 read-fixed k a x y s t p q = p .0 ∙ sym (q .0)
 
 -- of a part of a slice: its bytes
-pub view-fixed : FixesSeen (λ k r. now r) view.Post
+pub view-fixed : FixesSeen view.Post (λ k r s. now r)
 view-fixed k a x y s t p q = p ∙ sym q

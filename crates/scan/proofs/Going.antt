@@ -35,6 +35,10 @@ module _ (f : ℕ) (s hints : List ℕ) (room o n : ℕ) (h : o < length s - 2) 
   unfolding scanFrom
   scan-full x e m = simp (lt-ltb o (length s - 2) h, e, le-ltb n room m)
 
+pub scan-none : (s hints : List ℕ) (room o n : ℕ) → scanFrom 0 s hints room o n ≡ through
+unfolding scanFrom
+scan-none s hints room o n = refl
+
 pub scan-end : (f : ℕ) (s hints : List ℕ) (room o n : ℕ) → length s - 2 ≤ o → scanFrom f s hints room o n ≡ through
 unfolding scanFrom
 scan-end zero s hints room o n h = refl

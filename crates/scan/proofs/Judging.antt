@@ -13,11 +13,11 @@ use Rattle.record.proofs.Numbers.{by-order}
 use Rattle.record.specs.Places.{placesFrom, stopOf, varintPlaces}
 use Rattle.record.specs.Varint.{varintAt}
 use Rattle.record.specs.declared.varint.Cursor.{Cursor}
+use Rattle.record.specs.declared.varint.Varint.{Varint}
 use Rattle.record.specs.declared.varint.Varint.the-variants.{Value, Short}
 use Rattle.scan.specs.Attempt.{Types, ended, cut, kind, kinds, isWhole, Tried, miss, judged, judgedWhole, headerFits, attemptAt, mostHeader, mostBytes}
 use Rattle.scan.specs.Hints.{suited}
 use Rattle.scan.specs.Inner.{reach, headerTypes, totalFrom, sizes, Headed, WholeIs, MissIs, HitIs}
-use Rattle.sheet.specs.Limits.{largestRegion}
 use Rattle.scan.specs.Places.{typePlaces, attemptPlaces}
 use Rattle.scan.proofs.Bodies.{total-min, hit-total}
 use Rattle.scan.proofs.Types.{Stops, stops, types-end}
@@ -35,7 +35,7 @@ module _ (s hints : List ℕ) (o h from : ℕ) (head : Headed s o h from) where
   places = placesFrom o (from - o) ++ typePlaces h s from (o + h)
 
   -- the places are those up to where reading stopped, at most 520
-  read-all : (o + length places ≡ reach s ts) × (reach s ts ≤ o + 520)
+  pub read-all : (o + length places ≡ reach s ts) × (reach s ts ≤ o + 520)
   read-all =
       let z = stops s (o + h) h from (head .within) in
       let n = length-append (placesFrom o (from - o)) (typePlaces h s from (o + h)) in
@@ -120,7 +120,40 @@ module _ (s : List ℕ) (o h : ℕ) (c : Cursor) (e : varintAt s o ≡ Value h c
   unfolding attemptPlaces
   places-is f = rw (places-are s o, e, f)
 
-  pub headed : 2 ≤ h → h ≤ mostHeader → h ≤ length s - o → o ≤ length s → length s ≤ largestRegion → Headed s o h (c .at)
-  headed low high in′ l small =
+  pub headed : 2 ≤ h → h ≤ mostHeader → h ≤ length s - o → o ≤ length s → Headed s o h (c .at)
+  headed low high in′ l =
       let z = varint-lies s o h c e in
-      record { low = low; high = high; inside = omega arith; past = z .past; near = z .nine; within = z .inside; small = small }
+      record { low = low; high = high; inside = omega arith; past = z .past; near = z .nine; within = z .inside }
+
+fits-is : (len o h : ℕ) → headerFits len o h ≡ true → (2 ≤ h) × (h ≤ mostHeader) × (h ≤ len - o)
+unfolding headerFits
+fits-is len o h = go (leb 2 h) (leb h mostHeader) (leb h (len - o)) refl refl refl
+  where
+    never : {C : Type 0} → false ≡ true → C
+    never e = let z : _≡_ {A = ℕ} 0 1 = cc in absurd (omega arith)
+
+    go : (a b c : Bool) → leb 2 h ≡ a → leb h mostHeader ≡ b → leb h (len - o) ≡ c → (a && (b && c)) ≡ true → (2 ≤ h) × (h ≤ mostHeader) × (h ≤ len - o)
+    go true true true p q r e = (leb-true _ _ p, leb-true _ _ q, leb-true _ _ r)
+    go true true false p q r e = never e
+    go true false c p q r e = never e
+    go false b c p q r e = never e
+
+places-short : (s : List ℕ) (o : ℕ) → varintAt s o ≡ Short → attemptPlaces s o ≡ varintPlaces s o ++ []
+unfolding attemptPlaces
+places-short s o e = rw e
+
+-- THE LAW: an attempt has at most 520 header places
+pub places-few : (s : List ℕ) (o : ℕ) → length (attemptPlaces s o) ≤ 520
+places-few s o = go (varintAt s o) refl
+  where
+    go : (v : Varint) → varintAt s o ≡ v → length (attemptPlaces s o) ≤ 520
+    go Short e = rw (places-short s o e) (omega (arith, length-append (varintPlaces s o) [], places-count s o, varint-reach s o .near))
+    go (Value h c) e = by-fit (headerFits (length s) o h) refl
+      where
+        by-fit : (b : Bool) → headerFits (length s) o h ≡ b → length (attemptPlaces s o) ≤ 520
+        by-fit false f = let m = attempt-bad s [] o h c e f in omega (arith, m .counts, m .few)
+        by-fit true f =
+            let z = varint-lies s o h c e in
+            let k = fits-is (length s) o h f in
+            let r = read-all s [] o h (c .at) (headed s o h c e (k .0) (k .1) (k .2) (omega (arith, z .past, z .inside))) in
+            rw (places-is s o h c e f) (omega (arith, r .0, r .1))

@@ -32,7 +32,7 @@ module _ (f : ℕ) (s : List ℕ) (at stop : ℕ) where
   unfolding typesFrom
   types-cut h e = simp (lt-ltb at stop h, e)
 
-types-none : (s : List ℕ) (at stop : ℕ) → typesFrom 0 s at stop ≡ ended at
+pub types-none : (s : List ℕ) (at stop : ℕ) → typesFrom 0 s at stop ≡ ended at
 unfolding typesFrom
 types-none s at stop = refl
 
@@ -131,7 +131,7 @@ module _ (f : ℕ) (s : List ℕ) (at stop : ℕ) where
   unfolding typePlaces
   places-cut h e = simp (lt-ltb at stop h, e)
 
-places-none : (s : List ℕ) (at stop : ℕ) → typePlaces 0 s at stop ≡ []
+pub places-none : (s : List ℕ) (at stop : ℕ) → typePlaces 0 s at stop ≡ []
 unfolding typePlaces
 places-none s at stop = refl
 

@@ -73,7 +73,6 @@ pub record Headed (s : List ℕ) (o h from : ℕ) : Type 0 where
   pub past : o < from
   pub near : from ≤ o + 9
   pub within : from ≤ length s
-  pub small : length s ≤ largestRegion
 
 pub record WholeIs (s hints : List ℕ) (ts : Types) (count matched total end : ℕ) : Type 0 where
   pub is-whole : isWhole ts ≡ true

@@ -58,7 +58,7 @@ returns-4 : tie.Need-returns-4
 returns-4 c = attempt-bad _ _ _ _ _ (read (c .before .before .before)) (fits-not _ _ _ (λ p q r. omega arith))
 
 judge-requires : tie.Need-judge-requires
-judge-requires c κs = headed _ _ _ _ (read (c .before .before .before)) (omega arith) (omega arith) (c .if3 .left) (omega arith) (omega arith)
+judge-requires c κs = headed _ _ _ _ (read (c .before .before .before)) (omega arith) (omega arith) (c .if3 .left) (omega arith)
 
 returns-5 : tie.Need-returns-5
 returns-5 c =

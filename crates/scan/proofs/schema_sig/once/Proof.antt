@@ -51,7 +51,7 @@ put-found-requires c κs =
     let p = c .before .before .before .before .before .before .before .before .before .before .before .before .pre in
     let h = found k in
     let n : 0 < c .before .before .before .before .before .before .before .before .before .before .before .before .args .room = omega (arith, c .before .before .if2 .left) in (
-      (p .0 .few, omega (arith, p .0 .near, h .inside, h .headed .small)),
+      (p .0 .few, omega (arith, p .0 .near, h .inside, p .0 .small)),
       (
         h .headed,
         (

@@ -48,7 +48,7 @@ taken : (c : tie.After-known-told2 Inv-loop μ-loop) →
     (2 ≤ v .1 .1 .0) × (l .o + v .1 .1 .0 ≤ length (now (a .bytes))) × (length (now (a .bytes)) ≤ 16777216) × (v .1 .1 .1 .1 .0 ≤ 520)
 taken c =
     let h = found c in
-    (omega (arith, h .bodies, h .headed .low), h .inside, h .headed .small, h .few)
+    (omega (arith, h .bodies, h .headed .low), h .inside, c .before .before .before .before .before .before .before .before .before .before .before .pre .0 .small, h .few)
 
 last-of-requires : tie.Need-last-of-requires Inv-loop μ-loop
 last-of-requires c κs = search needs

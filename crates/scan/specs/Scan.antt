@@ -19,7 +19,7 @@ use Rattle.sheet.specs.Sheet.{overlay, rowsWords}
 use Rattle.sheet.specs.declared.columns.Column.{Column}
 use Rattle.sheet.specs.declared.refusal.Checked.{Checked}
 use Rattle.sheet.specs.declared.refusal.Checked.the-variants.{Passed, Refused as Held}
-use Rattle.sheet.specs.declared.refusal.Refusal.the-variants.{ColumnCount, Malformed, TooLarge, BaseTooFar}
+use Rattle.sheet.specs.declared.refusal.Refusal.the-variants.{ColumnCount, Malformed, TooLarge, BaseTooFar, NoRoom}
 use Rattle.sheet.specs.declared.row.Mode.the-variants.{Plain}
 use Rattle.sheet.specs.declared.row.Row.{Row}
 use Rattle.sheet.specs.declared.row.RowId.the-variants.{Absent}
@@ -153,7 +153,7 @@ scanCols s hints base start rows cols =
 -- the paper's number of an answer, with 0 for none, then rows written, place and count
 abbrev pub numberOf : Scanned → ℕ
 numberOf (Done rows place read) = 0
-numberOf (Full rows place read) = 9
+numberOf (Full rows place read) = refusalNumber NoRoom
 numberOf (Refused r) = refusalNumber r
 
 abbrev pub writtenOf : Scanned → ℕ
@@ -202,7 +202,7 @@ onceCols s hints base o rows cols =
 abbrev pub onceNumberOf : Attempted → ℕ
 onceNumberOf Took = 0
 onceNumberOf NoRow = 0
-onceNumberOf NoPlace = 9
+onceNumberOf NoPlace = refusalNumber NoRoom
 onceNumberOf (Barred r) = refusalNumber r
 
 abbrev pub onceWrittenOf : Attempted → ℕ

@@ -1,6 +1,7 @@
 -- A contract fixes its answer: any two results that it allows for the same arguments are equal. `Post` is the function's own postcondition.
 -- Assumes nothing.
 use mathlib.Core.Path.{_≡_, sym, _∙_}
+use Rattle.record.proofs.Unique.{Fixes}
 use Rattle.sheet.proofs.columns.room.Reads as room
 use Rattle.sheet.proofs.columns.words.Reads as column-words
 use Rattle.sheet.proofs.confidence.freed.Reads as freed
@@ -12,36 +13,32 @@ use Rattle.sheet.proofs.refusal.hints_known.Reads as hints-known
 use Rattle.sheet.proofs.refusal.number.Reads as number
 use Rattle.sheet.proofs.row.words.Reads as row-words
 
--- k is what the lifetimes are, a the arguments, and s and t what lies behind references when the function returns
-abbrev pub Fixed {h i j l} : {K : Type h} {A : K → Type i} {R : K → Type j} {S : K → Type l} → ((k : K) → A k → R k → S k → Type 0) → Type (h ⊔ i ⊔ j ⊔ l)
-Fixed {K} {A} {R} {S} Post = (k : K) (a : A k) (x y : R k) (s t : S k) → Post k a x s → Post k a y t → x ≡ y
-
-pub number-fixed : Fixed number.Post
+pub number-fixed : Fixes number.Post
 number-fixed k a x y s t p q = p ∙ sym q
 
-pub hint-count-fits-fixed : Fixed hint-count-fits.Post
+pub hint-count-fits-fixed : Fixes hint-count-fits.Post
 hint-count-fits-fixed k a x y s t p q = p ∙ sym q
 
-pub hints-known-fixed : Fixed hints-known.Post
+pub hints-known-fixed : Fixes hints-known.Post
 hints-known-fixed k a x y s t p q = p ∙ sym q
 
-pub row-words-fixed : Fixed row-words.Post
+pub row-words-fixed : Fixes row-words.Post
 row-words-fixed k a x y s t p q = p ∙ sym q
 
-pub column-words-fixed : Fixed column-words.Post
+pub column-words-fixed : Fixes column-words.Post
 column-words-fixed k a x y s t p q = p ∙ sym q
 
-pub room-fixed : Fixed room.Post
+pub room-fixed : Fixes room.Post
 room-fixed k a x y s t p q = p ∙ sym q
 
-pub suited-share-fixed : Fixed suited-share.Post
+pub suited-share-fixed : Fixes suited-share.Post
 suited-share-fixed k a x y s t p q = p ∙ sym q
 
-pub freed-fixed : Fixed freed.Post
+pub freed-fixed : Fixes freed.Post
 freed-fixed k a x y s t p q = p ∙ sym q
 
-pub rebuilt-fixed : Fixed rebuilt.Post
+pub rebuilt-fixed : Fixes rebuilt.Post
 rebuilt-fixed k a x y s t p q = p ∙ sym q
 
-pub percent-fixed : Fixed percent.Post
+pub percent-fixed : Fixes percent.Post
 percent-fixed k a x y s t p q = p ∙ sym q

@@ -1,0 +1,3 @@
+mod Cases
+mod Searching
+pub mod Unique

@@ -1,0 +1,226 @@
+-- Laws of the search: what a match says of each byte, why a shift passes no place, and what the places seen so far make of the answer.
+-- Assumes nothing.
+use Prim.Native.Nat.{ℕ, zero, suc, _+_, _-_, _≤_, _<_}
+use mathlib.Core.Path.{_≡_, refl, sym, ap, _∙_}
+use mathlib.Core.Bool.{Bool, true, false, cond, and-eq-true-iff, not-eq-not}
+use mathlib.Core.List.{List, [], _∷_, _++_, append-nil, append-assoc}
+use mathlib.Core.Logic.{by-cases}
+use native.Mathlib.Decide.{ℕ-discrete, le-ind}
+use native.Mathlib.Numerals.{add-one}
+use native.Mathlib.Omega.{arith}
+use borrow.Author.Tests.{eq-eqb, eqb-true, le-leb, lt-leb}
+use lib.Dec.{eqb}
+use lib.ListN.{length, getD, drop, set, replicate, length-append, length-drop, getD-replicate}
+use lib.Seq.{sets, length-sets, set-out, getD-set-same, getD-set-other, getD-drop, take-all, take-at}
+use Rattle.sheet.specs.Sheet.{overlay}
+use Rattle.sheet.proofs.Laws.{overlay-length, overlay-more}
+use Rattle.search.specs.Inner.{Entered}
+use Rattle.search.specs.Search.{matches, standsAt, placeAt, placesBelow, placesOf, listedAnswer, listed}
+use Rattle.search.specs.declared.search.Searched.the-variants.{Done, Full}
+
+-- ---- a match, byte by byte
+matches-fits : (p s : List ℕ) → matches p s ≡ true → length p ≤ length s
+unfolding matches
+matches-fits [] s h = omega arith
+matches-fits (p ∷ ps) [] h = let z : _≡_ {A = ℕ} 0 1 = cc in absurd (omega arith)
+matches-fits (p ∷ ps) (b ∷ s) h = omega (arith, matches-fits ps s (and-eq-true-iff (eqb p b) (matches ps s) .0 h .1))
+
+matches-byte : (p s : List ℕ) → matches p s ≡ true → (k : ℕ) → k < length p → getD s k 0 ≡ getD p k 0
+unfolding matches
+matches-byte [] s h k below = absurd (omega arith)
+matches-byte (p ∷ ps) [] h k below = let z : _≡_ {A = ℕ} 0 1 = cc in absurd (omega arith)
+matches-byte (p ∷ ps) (b ∷ s) h zero below = sym (eqb-true p b (and-eq-true-iff (eqb p b) (matches ps s) .0 h .0))
+matches-byte (p ∷ ps) (b ∷ s) h (suc k) below = matches-byte ps s (and-eq-true-iff (eqb p b) (matches ps s) .0 h .1) k (omega arith)
+
+matches-all : (p s : List ℕ) → length p ≤ length s → ((k : ℕ) → k < length p → getD s k 0 ≡ getD p k 0) → matches p s ≡ true
+unfolding matches
+matches-all [] s fits same = refl
+matches-all (p ∷ ps) [] fits same = absurd (omega arith)
+matches-all (p ∷ ps) (b ∷ s) fits same =
+    simp (eq-eqb p b (sym (same 0 (omega arith))), matches-all ps s (omega arith) (λ k below. same (suc k) (omega arith)))
+
+module _ (haystack pattern : List ℕ) (o : ℕ) where
+  stands-fits : 0 < length pattern → standsAt haystack pattern o ≡ true → o + length pattern ≤ length haystack
+  unfolding standsAt
+  stands-fits some h = omega (arith, matches-fits pattern (drop o haystack) h, length-drop o haystack)
+
+  pub stands-byte : standsAt haystack pattern o ≡ true → (k : ℕ) → k < length pattern → getD haystack (o + k) 0 ≡ getD pattern k 0
+  unfolding standsAt
+  stands-byte h k below = sym (getD-drop o haystack k 0) ∙ matches-byte pattern (drop o haystack) h k below
+
+  pub stands-all : o + length pattern ≤ length haystack → ((k : ℕ) → k < length pattern → getD haystack (o + k) 0 ≡ getD pattern k 0) → standsAt haystack pattern o ≡ true
+  unfolding standsAt
+  stands-all fits same =
+      matches-all pattern (drop o haystack) (omega (arith, length-drop o haystack)) (λ k below. getD-drop o haystack k 0 ∙ same k below)
+
+  pub place-here : standsAt haystack pattern o ≡ true → placeAt haystack pattern o ≡ o ∷ []
+  unfolding placeAt
+  place-here h = simp h
+
+  pub place-none : standsAt haystack pattern o ≡ false → placeAt haystack pattern o ≡ []
+  unfolding placeAt
+  place-none h = simp h
+
+  at-most-one : length (placeAt haystack pattern o) ≤ 1
+  unfolding placeAt
+  at-most-one = one (standsAt haystack pattern o)
+    where
+      one : (b : Bool) → length (cond b (o ∷ []) []) ≤ 1
+      one true = omega arith
+      one false = omega arith
+
+-- ---- the shift table
+
+-- what a store leaves at an index is the new value or the old one
+stored : (P : ℕ → Type 0) (l : List ℕ) (i j a : ℕ) → i < length l → P a → ((j ≡ i → ⊥) → P (getD l j 0)) → P (getD (set l i a) j 0)
+stored P l i j a h new old =
+    by-cases (ℕ-discrete j i) (λ e. rw (e, getD-set-same l i a 0 h) new) (λ ne. rw (getD-set-other l i j a 0 ne) (old ne))
+
+-- before the first byte the pattern's length stands everywhere
+pub entered-none : (pattern : List ℕ) → 0 < length pattern → Entered pattern 0 (replicate 256 (length pattern))
+entered-none pattern some =
+    let all : (b : ℕ) → b < 256 → getD (replicate 256 (length pattern)) b 0 ≡ length pattern = λ b h. getD-replicate 256 b (length pattern) 0 h in
+    record { moves = λ b h. rw (all b h) some; most = λ b h. rw (all b h) (omega arith); meets = λ k h. absurd (omega arith) }
+
+-- one byte more
+pub entered-more : (pattern table : List ℕ) (i : ℕ) → length table ≡ 256 → i + 1 < length pattern → getD pattern i 0 < 256 →
+    Entered pattern i table → Entered pattern (i + 1) (set table (getD pattern i 0) (length pattern - 1 - i))
+entered-more pattern table i size inside byte t =
+    let shift = length pattern - 1 - i in
+    let here : getD pattern i 0 < length table = omega arith in
+    record {
+      moves = λ b h. stored (λ (x : ℕ). 0 < x) table _ b shift here (omega arith) (λ ne. t .moves b h);
+      most = λ b h. stored (λ (x : ℕ). x ≤ length pattern) table _ b shift here (omega arith) (λ ne. t .most b h);
+      meets =
+          λ k h.
+          stored (λ (x : ℕ). k + 1 + x ≤ length pattern) table _ (getD pattern k 0) shift here (omega arith)
+          (λ ne.
+          by-cases (ℕ-discrete k i) (λ e. absurd (ne (ap (λ (n : ℕ). getD pattern n 0) e))) (λ other. t .meets k (omega arith)));
+    }
+
+-- ---- offsets that are passed over
+all-places : (haystack pattern : List ℕ) → 0 < length pattern → placesOf haystack pattern ≡ placesBelow haystack pattern (length haystack)
+unfolding placesOf
+all-places haystack [] some = absurd (omega arith)
+all-places haystack (p ∷ pattern) some = refl
+
+pub empty-nowhere : (haystack pattern : List ℕ) → length pattern ≡ 0 → placesOf haystack pattern ≡ []
+unfolding placesOf
+empty-nowhere haystack [] e = refl
+empty-nowhere haystack (p ∷ pattern) e = absurd (omega arith)
+
+module _ (haystack pattern : List ℕ) where
+  -- where there is no place from n on, the places below m are those below n
+  passed : (n m : ℕ) → n ≤ m → ((o : ℕ) → n ≤ o → o < m → standsAt haystack pattern o ≡ false) →
+      placesBelow haystack pattern m ≡ placesBelow haystack pattern n
+  unfolding placesBelow placeAt
+  passed n =
+      le-ind
+      (λ (m : ℕ). ((o : ℕ) → n ≤ o → o < m → standsAt haystack pattern o ≡ false) → placesBelow haystack pattern m ≡ placesBelow haystack pattern n)
+      (λ none. refl)
+      (λ m h more none. simp (none m h (omega arith), append-nil) (more (λ o from below. none o from (omega arith))))
+
+  -- the places below m are those below n, then n if it is one, then more
+  grown : (n m : ℕ) → n < m → (more : List ℕ) × (placesBelow haystack pattern m ≡ placesBelow haystack pattern n ++ (placeAt haystack pattern n ++ more))
+  unfolding placesBelow
+  grown n =
+      le-ind
+      (λ (m : ℕ). (more : List ℕ) × (placesBelow haystack pattern m ≡ placesBelow haystack pattern n ++ (placeAt haystack pattern n ++ more)))
+      ([], rw append-nil)
+      (λ m h more. (more .0 ++ placeAt haystack pattern m, rw (more .1) (simp append-assoc)))
+
+  -- no place is left where the window ends behind the haystack
+  pub ended : (at : ℕ) → 0 < length pattern → at ≤ length haystack → length haystack < at + length pattern →
+      placesOf haystack pattern ≡ placesBelow haystack pattern at
+  ended at some inside behind =
+      all-places haystack pattern some
+      ∙ passed at (length haystack) inside
+      (λ o from below. not-eq-not {b = false} .0 (λ h. omega (arith, stands-fits haystack pattern o some h)))
+
+  -- a window that ends at i
+  module _ {table : List ℕ} (t : Entered pattern (length pattern - 1) table) (i : ℕ) (some : 0 < length pattern) (window : length pattern - 1 ≤ i)
+      (byte : getD haystack i 0 < 256) where
+    abbrev last : ℕ
+    last = length pattern - 1
+
+    abbrev shift : ℕ
+    shift = getD table (getD haystack i 0) 0
+
+    -- at a place between, the pattern would hold the byte at i, and no shift goes further than to such a place
+    between : (o : ℕ) → i - last + 1 ≤ o → o < i + shift - last → standsAt haystack pattern o ≡ false
+    between o from below =
+        not-eq-not {b = false} .0
+        (λ h.
+        let most = t .most _ byte in
+        let under : o + (i - o) ≡ i = omega arith in
+        let held : i - o < length pattern = omega arith in
+        let same : getD haystack i 0 ≡ getD pattern (i - o) 0 = rw under at (stands-byte haystack pattern o h (i - o) held) in
+        let reach : i - o + 1 + shift ≤ length pattern = rw same (t .meets (i - o) (omega arith)) in
+        omega arith)
+
+    -- THE LAW: the window goes on by the shift of its last byte and passes no place
+    pub shifted : placesBelow haystack pattern (i + shift - last) ≡ placesBelow haystack pattern (i - last + 1)
+    shifted = passed (i - last + 1) (i + shift - last) (omega (arith, t .moves _ byte)) between
+
+-- ---- the places seen so far
+
+-- behind its end a list takes nothing
+sets-out : (l : List ℕ) (i : ℕ) (vs : List ℕ) → length l ≤ i → sets l i vs ≡ l
+sets-out l i [] h = refl
+sets-out l i (v ∷ vs) h = rw (set-out l i v h) (sets-out l (suc i) vs (omega arith))
+
+-- what the offsets below `at` have made of the old list, and how many are places
+pub record Seen (haystack pattern old : List ℕ) (at : ℕ) (places : List ℕ) (n : ℕ) : Type 0 where
+  pub count : n ≡ length (placesBelow haystack pattern at)
+  pub room : n ≤ length old
+  pub list : places ≡ overlay (placesBelow haystack pattern at) old
+
+pub seen-none : {haystack pattern old : List ℕ} → Seen haystack pattern old 0 old 0
+unfolding placesBelow
+seen-none = record { count = refl; room = omega arith; list = refl }
+
+module _ {haystack pattern old places : List ℕ} {at n : ℕ} (s : Seen haystack pattern old at places n) where
+  pub seen-length : length places ≡ length old
+  seen-length = rw (s .list) (overlay-length (placesBelow haystack pattern at) old (omega arith))
+
+  -- no place follows
+  pub seen-all : placesOf haystack pattern ≡ placesBelow haystack pattern at →
+      (Done n ≡ listedAnswer (placesOf haystack pattern) (length old)) × (places ≡ listed (placesOf haystack pattern) old)
+  unfolding listedAnswer listed
+  seen-all e =
+      let found = placesBelow haystack pattern at in
+      let fits : length found ≤ length old = omega arith in
+      rw e (rw (s .count) (sym (simp (le-leb _ _ fits))), rw (take-all (length old) found fits) (s .list))
+
+  -- the count and the list that a visit at `at` leaves
+  module _ {count : ℕ} {list : List ℕ} (counted : count ≡ n + length (placeAt haystack pattern at)) (written : list ≡ sets places n (placeAt haystack pattern at)) where
+    -- there was room, and the offsets up to the next are passed over
+    pub seen-more : (next : ℕ) → count ≤ length old → placesBelow haystack pattern next ≡ placesBelow haystack pattern (at + 1) →
+        Seen haystack pattern old next list count
+    unfolding placesBelow
+    seen-more next fits e =
+        record {
+          count = rw (e, add-one, length-append) (omega arith);
+          room = fits;
+          list =
+              written
+              ∙ rw (s .list, s .count, e, add-one)
+              (overlay-more (placesBelow haystack pattern at) (placeAt haystack pattern at) old (omega arith));
+        }
+
+    -- there was one place too many
+    pub seen-full : 0 < length pattern → at < length haystack → length old < count →
+        (Full (length list) ≡ listedAnswer (placesOf haystack pattern) (length old)) × (list ≡ listed (placesOf haystack pattern) old)
+    unfolding listedAnswer listed
+    seen-full some inside over =
+        let found = placesBelow haystack pattern at in
+        let here = placeAt haystack pattern at in
+        let (more, e) = grown haystack pattern at (length haystack) inside in
+        let one = at-most-one haystack pattern at in
+        let size = seen-length in
+        let kept : length list ≡ length old = rw (written, length-sets) size in
+        let longer : length old < length (found ++ (here ++ more)) = simp length-append (omega arith) in
+        rw (all-places haystack pattern some, e) (
+          simp (lt-leb _ _ longer, kept),
+          rw (take-at found (here ++ more) (length old) (omega arith)) (written ∙ sets-out places n here (omega arith) ∙ s .list),
+        )

@@ -20,7 +20,7 @@ matches [] bytes = true
 matches (p ∷ pattern) [] = false
 matches (p ∷ pattern) (b ∷ bytes) = eqb p b && matches pattern bytes
 
--- the pattern stands in the haystack at the offset o
+-- Rule 7.1: the pattern stands in the haystack at the offset o
 unfoldable pub standsAt : List ℕ → List ℕ → ℕ → Bool
 standsAt haystack pattern o = matches pattern (drop o haystack)
 
@@ -33,7 +33,7 @@ unfoldable pub placesBelow : List ℕ → List ℕ → ℕ → List ℕ
 placesBelow haystack pattern zero = []
 placesBelow haystack pattern (suc n) = placesBelow haystack pattern n ++ placeAt haystack pattern n
 
--- all places, rising, overlapping ones too; an empty pattern has none
+-- Rule 7.1: all places, rising, overlapping ones too; an empty pattern has none
 unfoldable pub placesOf : List ℕ → List ℕ → List ℕ
 placesOf haystack [] = []
 placesOf haystack (p ∷ pattern) = placesBelow haystack (p ∷ pattern) (length haystack)

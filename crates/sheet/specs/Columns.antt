@@ -8,19 +8,19 @@ use Rattle.sheet.specs.Limits.{wordsPerRow, wordsPerEntry}
 use Rattle.sheet.specs.declared.columns.Column.{Column}
 use Rattle.sheet.specs.declared.columns.Column.the-variants.{Body, Unfit, Lost, Unused}
 
--- a column entry: state, serial type, start, length. What a state has no use for is 0
+-- Rule 3.1: state, serial type, start, length. What a state has no use for is 0
 unfoldable pub columnWords : Column → List ℕ
 columnWords (Body kind start len) = 0 ∷ kind ∷ start ∷ len ∷ []
 columnWords (Unfit kind) = 1 ∷ kind ∷ 0 ∷ 0 ∷ []
 columnWords Lost = 2 ∷ 0 ∷ 0 ∷ 0 ∷ []
 columnWords Unused = 3 ∷ 0 ∷ 0 ∷ 0 ∷ []
 
--- n entries that pad a group
+-- Rule 5.2: n entries that pad a group
 unfoldable pub unusedWords : ℕ → List ℕ
 unusedWords zero = []
 unusedWords (suc n) = columnWords Unused ++ unusedWords n
 
--- room: the smaller of whole rows and whole groups of `width` entries; groups without entries set no limit
+-- Rule 5.3: the smaller of whole rows and whole groups of `width` entries; groups without entries set no limit
 unfoldable pub roomOf : ℕ → ℕ → ℕ → ℕ
 roomOf rows cols width =
     cond (eqb width 0) (rows / wordsPerRow)

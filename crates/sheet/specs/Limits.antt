@@ -25,15 +25,15 @@ largestRegion = 16777216
 abbrev pub largestBase : ℕ
 largestBase = 281474976710656
 
--- hint codes: 0 Integer, 1 Real, 2 Text, 3 Blob, 4 Null, 5 Any
+-- Rule 1.3, hint codes: 0 Integer, 1 Real, 2 Text, 3 Blob, 4 Null, 5 Any
 abbrev pub highestHint : ℕ
 highestHint = 5
 
--- a count of columns or hints: one at least, and no more than there may be
+-- Rule 1.1, number 1: a count of columns or hints is one at least, and no more than there may be
 unfoldable pub countFits : ℕ → Bool
 countFits n = leb 1 n && leb n mostColumns
 
--- every hint code is one of the six
+-- Rule 1.1, number 2: every hint code is one of the six
 unfoldable pub hintsKnown : List ℕ → Bool
 hintsKnown [] = true
 hintsKnown (h ∷ hs) = leb h highestHint && hintsKnown hs

@@ -8,7 +8,7 @@ use Rattle.sheet.specs.declared.refusal.Checked.the-variants.{Passed, Re
 use Rattle.sheet.specs.declared.refusal.Refusal.{Refusal}
 use Rattle.sheet.specs.declared.refusal.Refusal.the-variants.{ColumnCount, Malformed, TooLarge, BaseTooFar, PageSize, NoSuchPage, NoColumnList, WalkSpace, NoRoom}
 
--- the paper's number of each refusal
+-- Rule 1.1: the number of each refusal
 abbrev pub refusalNumber : Refusal → ℕ
 refusalNumber ColumnCount = 1
 refusalNumber Malformed = 2
@@ -25,7 +25,7 @@ pub record Check : Type 0 where
   pub refusal : Refusal
   pub holds : Bool
 
--- checks run in their order: the first that holds refuses
+-- Rule 1.1: checks run in their order: the first that holds refuses
 abbrev pub firstHeld : List Check → Checked
 firstHeld [] = Passed
 firstHeld (c ∷ cs) = cond (c .holds) (Refused (c .refusal)) (firstHeld cs)

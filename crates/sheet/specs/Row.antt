@@ -42,7 +42,7 @@ modeCode Normal = 1
 modeCode ColumnsOnly = 2
 modeCode FirstColMissing = 3
 
--- a row: offset, bytes consumed, row id present, row id, source, percent, confidence bits, mode plus 4 times the table's index
+-- Rule 5.1: offset, bytes consumed, row id present, row id, source, percent, confidence bits, mode plus 4 times the table's index
 unfoldable pub rowWords : Row → List ℕ
 rowWords r =
     r .offset

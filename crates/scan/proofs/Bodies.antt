@@ -15,7 +15,7 @@ use Rattle.record.specs.declared.record.Length.{Length}
 use Rattle.record.specs.declared.record.Length.the-variants.{Bytes, Reserved}
 use Rattle.scan.specs.Attempt.{Bodies, unfit, laid, before, bodyOn, bodiesFrom, Tried, miss, hit, sized, judged, mostBytes}
 use Rattle.scan.specs.Hints.{suited}
-use Rattle.scan.specs.Inner.{tooLong, sizeOr, bodySize, totalFrom, sizes, columnsAt, foundAt}
+use Rattle.scan.specs.Inner.{tooLong, sizeOr, bodySize, totalFrom, sizes, columnsAt}
 use Rattle.sheet.specs.declared.columns.Column.{Column}
 use Rattle.sheet.specs.declared.columns.Column.the-variants.{Body}
 
@@ -120,7 +120,7 @@ module _ (len : ℕ) (hints : List ℕ) (o h : ℕ) (ts : List ℕ) (inside : o 
           (λ fit. absurd (no′ (omega (arith, d .0, d .1)) (omega (arith, d .0, d .1))))
 
   pub hit-total : length ts ≡ length hints → 0 < suited hints ts → h + totalFrom 0 ts ≤ len - o → h + totalFrom 0 ts ≤ mostBytes
-      → judged len hints o h ts ≡ hit (foundAt o h (h + totalFrom 0 ts) (suited hints ts) ts)
+      → judged len hints o h ts ≡ hit (record { consumed = h + totalFrom 0 ts; matched = suited hints ts; columns = columnsAt (o + h) ts })
   unfolding judged
   hit-total l p q r =
       let m = total-min 0 ts (omega arith) in

@@ -64,7 +64,7 @@ module _ (s hints : List ℕ) (o h from : ℕ) (head : Headed s o h from) where
         record { misses = rw (w .is-whole) e; counts = omega (arith, w .ends); few = omega (arith, w .ends) }
 
     pub judge-hit : count ≡ length hints → 0 < matched → h + total ≤ length s - o → h + total ≤ mostBytes
-        → HitIs s hints o (judgedWhole (length s) hints o h ts) places h from (h + total) matched (end - o)
+        → HitIs s hints o (judgedWhole (length s) hints o h ts) places (record { head = h; from = from; consumed = h + total; matched = matched; read = end - o })
     judge-hit c m in′ fit =
         let r = read-all in
         let t = total-min 0 (kinds ts) (omega arith) in

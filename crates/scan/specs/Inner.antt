@@ -14,6 +14,7 @@ use Rattle.scan.specs.Hints.{suited}
 use Rattle.scan.specs.Places.{typePlaces, attemptPlaces}
 use Rattle.scan.specs.Scan.{scanFrom, answerOf, rowsOf, entriesOf, onceRun, onceOf}
 use Rattle.scan.specs.declared.schema_sig.Attempted.{Attempted}
+use Rattle.scan.specs.declared.schema_sig.Find.{Find}
 use Rattle.scan.specs.declared.schema_sig.Scanned.{Scanned}
 use Rattle.scan.specs.declared.schema_sig.Verdict.{Verdict}
 use Rattle.scan.specs.declared.schema_sig.Verdict.the-variants.{Hit, Miss}
@@ -85,9 +86,12 @@ abbrev pub Walked : List ℕ → List ℕ → Types → Walk → Type 0
 Walked s hints ts (Whole count matched total end) = WholeIs s hints ts count matched total end
 Walked s hints ts Cut = isWhole ts ≡ false
 
--- the row that a header's types make
-abbrev pub foundAt : ℕ → ℕ → ℕ → ℕ → List ℕ → Found
-foundAt o h consumed matched ts = record { consumed = consumed; matched = matched; columns = columnsAt (o + h) ts }
+-- the types of a row that was found, and the row
+abbrev pub findTypes : List ℕ → ℕ → Find → Types
+findTypes s o x = headerTypes s o (x .head) (x .from)
+
+abbrev pub foundAt : List ℕ → ℕ → Find → Found
+foundAt s o x = record { consumed = x .consumed; matched = x .matched; columns = columnsAt (o + x .head) (kinds (findTypes s o x)) }
 
 -- what an attempt gives: t is what it finds, p its header places
 pub record MissIs (t : Tried) (p : List ℕ) (read : ℕ) : Type 0 where
@@ -95,18 +99,18 @@ pub record MissIs (t : Tried) (p : List ℕ) (read : ℕ) : Type 0 where
   pub counts : length p ≡ read
   pub few : read ≤ 520
 
-pub record HitIs (s hints : List ℕ) (o : ℕ) (t : Tried) (p : List ℕ) (h from consumed matched read : ℕ) : Type 0 where
-  pub hits : t ≡ hit (foundAt o h consumed matched (kinds (headerTypes s o h from)))
-  pub counts : length p ≡ read
-  pub few : read ≤ 520
-  pub columns : length (kinds (headerTypes s o h from)) ≡ length hints
-  pub bodies : h + sizes (kinds (headerTypes s o h from)) ≡ consumed
-  pub inside : o + consumed ≤ length s
-  pub headed : Headed s o h from
+pub record HitIs (s hints : List ℕ) (o : ℕ) (t : Tried) (p : List ℕ) (x : Find) : Type 0 where
+  pub hits : t ≡ hit (foundAt s o x)
+  pub counts : length p ≡ x .read
+  pub few : x .read ≤ 520
+  pub columns : length (kinds (findTypes s o x)) ≡ length hints
+  pub bodies : x .head + sizes (kinds (findTypes s o x)) ≡ x .consumed
+  pub inside : o + x .consumed ≤ length s
+  pub headed : Headed s o (x .head) (x .from)
 
 abbrev pub Tells : List ℕ → List ℕ → ℕ → Tried → List ℕ → Verdict → Type 0
 Tells s hints o t p (Miss read) = MissIs t p read
-Tells s hints o t p (Hit h from consumed matched read) = HitIs s hints o t p h from consumed matched read
+Tells s hints o t p (Hit x) = HitIs s hints o t p x
 
 -- a header's types make what `judgedWhole` says; its places are those of its own number and of the types
 abbrev pub Judged : List ℕ → List ℕ → ℕ → ℕ → ℕ → Verdict → Type 0

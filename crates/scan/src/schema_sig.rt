@@ -26,7 +26,7 @@ ghost use lib.ListN.{length};
 ghost use lib.Seq.{sets};
 ghost use Rattle.scan.specs.Attempt.{kinds, attemptAt};
 ghost use Rattle.scan.specs.Hints.{isInteger, isReal, isText, isBlob, suits as suitsHint, compatible};
-ghost use Rattle.scan.specs.Inner.{suitsAt, tooLong, bodySize, sizes, columnsAt, headerTypes, Headed, Walked, Judged, foundAt, Tells, Fit, RoomFor, Ran, Once};
+ghost use Rattle.scan.specs.Inner.{suitsAt, tooLong, bodySize, sizes, columnsAt, headerTypes, findTypes, Headed, Walked, Judged, foundAt, Tells, Fit, RoomFor, Ran, Once};
 ghost use Rattle.scan.specs.Places.{attemptPlaces};
 ghost use Rattle.scan.specs.Scan.{rowOf, columnsWords, scanChecks, scanAnswer, scanRows, scanCols, onceAnswer, onceRows, onceCols};
 ghost use Rattle.sheet.specs.Columns.{roomOf};
@@ -52,15 +52,19 @@ enum Walk {
     Cut,
 }
 
-// What an attempt finds, with the header bytes that it read.
+// A row that an attempt found: its header's length, where its types start, the bytes that it takes, how many of its types suit, and the
+// header bytes that were read.
+struct Find {
+    head: usize,
+    from: usize,
+    consumed: usize,
+    matched: u16,
+    read: usize,
+}
+
 enum Verdict {
-    Hit {
-        head: usize,
-        from: usize,
-        consumed: usize,
-        matched: u16,
-        read: usize,
-    },
+    Hit(Find),
+    // The header bytes that were read.
     Miss(usize),
 }
 
@@ -242,13 +246,13 @@ fn judge(bytes: &[u8], hints: &[u8], o: usize, head: usize, from: usize) -> Verd
     if consumed > MOST_BYTES {
         return Verdict::Miss(read);
     }
-    Verdict::Hit {
+    Verdict::Hit(Find {
         head,
         from,
         consumed,
         matched,
         read,
-    }
+    })
 }
 
 fn attempt(bytes: &[u8], hints: &[u8], o: usize) -> Verdict
@@ -311,33 +315,37 @@ fn put_found(
     columns: usize,
     base: u64,
     o: usize,
-    head: usize,
-    from: usize,
-    consumed: usize,
-    matched: u16,
+    find: Find,
     n: usize,
     rows: &mut [u64],
     cols: &mut [u64],
 )
     requires { ⌜ (columns ≤ 126) × (base + o ≤ 562949953421312) ⌝ }
-    requires { ⌜ Headed (now bytes) o head from ⌝ }
-    requires { ⌜ o + head + sizes (kinds (headerTypes (now bytes) o head from)) ≤ length (now bytes) ⌝ }
-    requires { ⌜ length (kinds (headerTypes (now bytes) o head from)) ≡ columns ⌝ }
+    requires { ⌜ Headed (now bytes) o (find .head) (find .from) ⌝ }
+    requires { ⌜ o + find .head + sizes (kinds (findTypes (now bytes) o find)) ≤ length (now bytes) ⌝ }
+    requires { ⌜ length (kinds (findTypes (now bytes) o find)) ≡ columns ⌝ }
     requires { ⌜ RoomFor n columns (length (now rows)) (length (now cols)) ⌝ }
-    ensures rows { λ _. ⌜ now (rows .exit) ≡ sets (now (rows .entry)) (n * wordsPerRow) (rowWords (rowOf base columns o (foundAt o head consumed matched (kinds (headerTypes (now (bytes .entry)) o head from))))) ⌝ }
-    ensures cols { λ _. ⌜ now (cols .exit) ≡ sets (now (cols .entry)) (n * (wordsPerEntry * columns)) (columnsWords (columnsAt (o + head) (kinds (headerTypes (now (bytes .entry)) o head from)))) ⌝ }
+    ensures rows { λ _. ⌜ now (rows .exit) ≡ sets (now (rows .entry)) (n * wordsPerRow) (rowWords (rowOf base columns o (foundAt (now (bytes .entry)) o find))) ⌝ }
+    ensures cols { λ _. ⌜ now (cols .exit) ≡ sets (now (cols .entry)) (n * (wordsPerEntry * columns)) (columnsWords (foundAt (now (bytes .entry)) o find .columns)) ⌝ }
 {
     let row = Row {
         offset: base + o as u64,
-        consumed: consumed as u64,
+        consumed: find.consumed as u64,
         id: RowId::Absent,
         source: Source::Scan,
-        confidence: suited_share(matched, columns as u16),
+        confidence: suited_share(find.matched, columns as u16),
         mode: Mode::Plain,
         table: 0,
     };
     put_row(rows, n, row);
-    put_columns(bytes, o, head, from, cols, n * (WORDS_PER_ENTRY * columns));
+    put_columns(
+        bytes,
+        o,
+        find.head,
+        find.from,
+        cols,
+        n * (WORDS_PER_ENTRY * columns),
+    );
 }
 
 // The offset at which a scan of so many bytes is through.
@@ -370,13 +378,7 @@ fn run(
                 read = read + r;
                 o = o + 1;
             }
-            Verdict::Hit {
-                head,
-                from,
-                consumed,
-                matched,
-                read: r,
-            } => {
+            Verdict::Hit(find) => {
                 if n >= room {
                     return Scanned::Full {
                         rows: n,
@@ -384,22 +386,10 @@ fn run(
                         read,
                     };
                 }
-                put_found(
-                    bytes,
-                    hints.len(),
-                    base,
-                    o,
-                    head,
-                    from,
-                    consumed,
-                    matched,
-                    n,
-                    rows,
-                    cols,
-                );
+                put_found(bytes, hints.len(), base, o, find, n, rows, cols);
                 n = n + 1;
-                read = read + r;
-                o = o + consumed;
+                read = read + find.read;
+                o = o + find.consumed;
             }
         }
     }
@@ -467,32 +457,13 @@ fn once(
     if o > bytes.len() {
         return Attempted::NoRow;
     }
-    let Verdict::Hit {
-        head,
-        from,
-        consumed,
-        matched,
-        read: _,
-    } = attempt(bytes, hints, o)
-    else {
+    let Verdict::Hit(find) = attempt(bytes, hints, o) else {
         return Attempted::NoRow;
     };
     if room == 0 {
         return Attempted::Full;
     }
-    put_found(
-        bytes,
-        hints.len(),
-        base,
-        o,
-        head,
-        from,
-        consumed,
-        matched,
-        0,
-        rows,
-        cols,
-    );
+    put_found(bytes, hints.len(), base, o, find, 0, rows, cols);
     Attempted::Row
 }
 

@@ -7,7 +7,7 @@ use native.Mathlib.Omega.{arith}
 use lib.ListN.{length}
 use denote.Ref.{now}
 use Rattle.scan.specs.Attempt.{attemptAt, kinds}
-use Rattle.scan.specs.Inner.{headerTypes, HitIs}
+use Rattle.scan.specs.Inner.{findTypes, HitIs}
 use Rattle.scan.specs.Places.{attemptPlaces}
 use Rattle.scan.proofs.Going.{columns-at-length}
 use Rattle.scan.proofs.Single.{attempt-beyond, once-missed, once-full, once-found}
@@ -22,8 +22,8 @@ returns c = once-missed _ _ _ _ _ _ (attempt-beyond _ _ _ (omega arith))
 attempt-requires : tie.Need-attempt-requires
 attempt-requires c κs = search needs
 
-enum-known-head : tie.Need-enum-known-head
-enum-known-head c = search needs
+enum-known-find : tie.Need-enum-known-find
+enum-known-find c = search needs
 
 enum-told : tie.Need-enum-told
 enum-told c = search needs
@@ -36,9 +36,8 @@ returns-2 c =
 -- what an attempt that found a row says
 found : (c : tie.After-known-told) →
     let a = c .before .before .before .before .before .before .before .before .before .args in
-    let v = c .before .head .given .0 in
-    HitIs (now (a .bytes)) (now (a .hints)) (a .o) (attemptAt (now (a .bytes)) (now (a .hints)) (a .o)) (attemptPlaces (now (a .bytes)) (a .o)) (v .0) (v .1 .0) (v .1 .1 .0) (v .1 .1 .1 .0) (v .1 .1 .1 .1 .0)
-found c = rw (c .before .head .given .1) at (c .before .before .before .attempt .ensures)
+    HitIs (now (a .bytes)) (now (a .hints)) (a .o) (attemptAt (now (a .bytes)) (now (a .hints)) (a .o)) (attemptPlaces (now (a .bytes)) (a .o)) (c .before .find .given .0 .0)
+found c = rw (c .before .find .given .1) at (c .before .before .before .attempt .ensures)
 
 returns-3 : tie.Need-returns-3
 returns-3 c =
@@ -78,12 +77,12 @@ returns-4 c =
     let k = c .before .before .before .before .before .before .before .before in
     let a = k .before .before .before .before .before .before .before .before .before .args in
     let p = k .before .before .before .before .before .before .before .before .before .pre in
-    let v = k .before .head .given .0 in
+    let x = k .before .find .given .0 .0 in
     let h = found k in
     let q = c .before .before .before .before .put-found in
     let n : 0 < a .room = omega (arith, c .before .before .before .before .before .before .before .if2 .left) in
     once-found _ _ _ _ _ _ _ (h .hits) _ _ (rw (p .1) at n)
-    (columns-at-length (a .o + v .0) (kinds (headerTypes (now (a .bytes)) (a .o) (v .0) (v .1 .0))) ∙ h .columns)
+    (columns-at-length (a .o + x .head) (kinds (findTypes (now (a .bytes)) (a .o) x)) ∙ h .columns)
     (q .ensures .0) (rw zero-mul at (q .ensures .1))
 
 pub once-spec : {M : Type 1} → statement M
@@ -92,7 +91,7 @@ once-spec =
     (tie.spec
     returns
     attempt-requires
-    enum-known-head
+    enum-known-find
     enum-told
     returns-2
     returns-3

@@ -5,8 +5,8 @@ use borrow.Author.Needs.{needs}
 use Rattle.scan.proofs.schema_sig.put_found.Statement.{statement}
 use Rattle.scan.proofs.schema_sig.put_found.Tie as tie
 
-add-t14 : tie.Need-add-t14
-add-t14 c = search needs
+add-t11 : tie.Need-add-t11
+add-t11 c = search needs
 
 cast-suited-share : tie.Need-cast-suited-share
 cast-suited-share c = search needs
@@ -39,7 +39,7 @@ pub put-found-spec : {M : Type 1} → statement M
 put-found-spec =
     tie.close
     (tie.spec
-    add-t14
+    add-t11
     cast-suited-share
     suited-share-requires
     put-row-requires

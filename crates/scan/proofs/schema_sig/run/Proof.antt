@@ -7,7 +7,7 @@ use lib.ListN.{length}
 use denote.Ref.{now}
 use borrow.Author.Needs.{needs}
 use Rattle.scan.specs.Attempt.{attemptAt, kinds}
-use Rattle.scan.specs.Inner.{headerTypes, MissIs, HitIs, RoomFor}
+use Rattle.scan.specs.Inner.{findTypes, MissIs, HitIs, RoomFor}
 use Rattle.scan.specs.Places.{attemptPlaces}
 use Rattle.sheet.proofs.Laws.{room-rows, room-cols}
 use Rattle.scan.proofs.Going.{On, on-start, on-long, on-missed, on-found, on-end, on-full, room-all, columns-at-length}
@@ -36,16 +36,15 @@ missed c = rw (c .before .r .given .1) at (c .before .before .before .attempt .e
 found : (c : tie.After-known-told2 Inv-loop μ-loop) →
     let l = c .before .before .before .before .before .loop in
     let a = c .before .before .before .before .before .before .before .before .before .before .before .args in
-    let v = c .before .head .given .0 in
-    HitIs (now (a .bytes)) (now (a .hints)) (l .o) (attemptAt (now (a .bytes)) (now (a .hints)) (l .o)) (attemptPlaces (now (a .bytes)) (l .o)) (v .0) (v .1 .0) (v .1 .1 .0) (v .1 .1 .1 .0) (v .1 .1 .1 .1 .0)
-found c = rw (c .before .head .given .1) at (c .before .before .before .attempt .ensures)
+    HitIs (now (a .bytes)) (now (a .hints)) (l .o) (attemptAt (now (a .bytes)) (now (a .hints)) (l .o)) (attemptPlaces (now (a .bytes)) (l .o)) (c .before .find .given .0 .0)
+found c = rw (c .before .find .given .1) at (c .before .before .before .attempt .ensures)
 
 -- a row is found in the region, and takes at least two bytes
 taken : (c : tie.After-known-told2 Inv-loop μ-loop) →
     let l = c .before .before .before .before .before .loop in
     let a = c .before .before .before .before .before .before .before .before .before .before .before .args in
-    let v = c .before .head .given .0 in
-    (2 ≤ v .1 .1 .0) × (l .o + v .1 .1 .0 ≤ length (now (a .bytes))) × (length (now (a .bytes)) ≤ 16777216) × (v .1 .1 .1 .1 .0 ≤ 520)
+    let x = c .before .find .given .0 .0 in
+    (2 ≤ x .consumed) × (l .o + x .consumed ≤ length (now (a .bytes))) × (length (now (a .bytes)) ≤ 16777216) × (x .read ≤ 520)
 taken c =
     let h = found c in
     (omega (arith, h .bodies, h .headed .low), h .inside, c .before .before .before .before .before .before .before .before .before .before .before .pre .0 .small, h .few)
@@ -77,8 +76,8 @@ loop-again c =
     let m = missed c in
     (l .inv .0, omega (arith, l .inv .1, m .few), on-missed _ _ _ _ _ _ _ _ _ _ _ _ _ (below (c .before .before .before .before)) (m .misses) (m .counts) (l .inv .2))
 
-enum-known-head : tie.Need-enum-known-head Inv-loop μ-loop
-enum-known-head c = search needs
+enum-known-find : tie.Need-enum-known-find Inv-loop μ-loop
+enum-known-find c = search needs
 
 same-length : tie.Need-same-length Inv-loop μ-loop
 same-length c = on-long _ _ _ _ _ _ _ _ _ _ _ _ (c .before .before .before .before .before .before .loop .inv .2) .0
@@ -123,31 +122,31 @@ add-n c = omega (arith, c .before .before .before .before .before .before .befor
 
 add-read-2 : tie.Need-add-read-2 Inv-loop μ-loop
 add-read-2 c =
-    let k = c .before .before .before .before .before .before .before .before in
+    let k = c .before .before .before .before .before .before .before .before .before in
     let s = taken k in
     let b = below (k .before .before .before .before) in
     let l = k .before .before .before .before .before .loop in
     omega (arith, l .inv .1)
 
 add-o-2 : tie.Need-add-o-2 Inv-loop μ-loop
-add-o-2 c = let s = taken (c .before .before .before .before .before .before .before .before) in omega arith
+add-o-2 c = let s = taken (c .before .before .before .before .before .before .before .before .before .before) in omega arith
 
 loop-less-2 : tie.Need-loop-less-2 Inv-loop μ-loop
-loop-less-2 c = let s = taken (c .before .before .before .before .before .before .before .before) in omega arith
+loop-less-2 c = let s = taken (c .before .before .before .before .before .before .before .before .before .before) in omega arith
 
 loop-again-2 : tie.Need-loop-again-2 Inv-loop μ-loop
 loop-again-2 c =
-    let k = c .before .before .before .before .before .before .before .before in
+    let k = c .before .before .before .before .before .before .before .before .before .before in
     let l = k .before .before .before .before .before .loop in
     let s = now (k .before .before .before .before .before .before .before .before .before .before .before .args .bytes) in
-    let v = k .before .head .given .0 in
+    let x = k .before .find .given .0 .0 in
     let h = found k in
     let m = taken k in
-    let q = c .before .before .before .before .put-found in (
-      omega (arith, c .before .before .before .before .before .before .before .if1 .left),
+    let q = c .before .before .before .before .before .before .put-found in (
+      omega (arith, c .before .before .before .before .before .before .before .before .before .if1 .left),
       omega (arith, l .inv .1, m .0, m .3),
-      on-found _ _ _ _ _ _ _ _ _ _ _ _ _ _ _ _ (below (k .before .before .before .before)) (h .hits) (c .before .before .before .before .before .before .before .if1 .left) (omega (arith, m .0)) (h .counts)
-          (columns-at-length (l .o + v .0) (kinds (headerTypes s (l .o) (v .0) (v .1 .0))) ∙ h .columns) (q .ensures .0) (q .ensures .1) (q .kept .1 .1 .1 .1 .1 .1 .1 .1 .1 .0) (q .kept .1 .1 .1 .1 .1 .1 .1 .1 .1 .1 .0) (l .inv .2),
+      on-found _ _ _ _ _ _ _ _ _ _ _ _ _ _ _ _ (below (k .before .before .before .before)) (h .hits) (c .before .before .before .before .before .before .before .before .before .if1 .left) (omega (arith, m .0)) (h .counts)
+          (columns-at-length (l .o + x .head) (kinds (findTypes s (l .o) x)) ∙ h .columns) (q .ensures .0) (q .ensures .1) (q .kept .1 .1 .1 .1 .1 .1 .0) (q .kept .1 .1 .1 .1 .1 .1 .1 .0) (l .inv .2),
     )
 
 same-length-3 : tie.Need-same-length-3 Inv-loop μ-loop
@@ -177,7 +176,7 @@ run-spec =
     add-o
     loop-less
     loop-again
-    enum-known-head
+    enum-known-find
     same-length
     same-length-2
     returns

@@ -1,0 +1,4 @@
+mod Cases
+mod StatementLaws
+pub mod Unique
+mod WordsLaws

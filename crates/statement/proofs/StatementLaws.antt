@@ -1,0 +1,140 @@
+-- The hints that are written so far, and the answer from what the code found.
+-- Assumes nothing.
+use Prim.Native.Nat.{ℕ, _+_, _-_, _≤_, _<_}
+use mathlib.Core.Path.{_≡_, refl, sym, ap, _∙_}
+use mathlib.Core.Bool.{true, false, cond, not}
+use mathlib.Core.List.{List, [], _++_, append-nil, append-assoc}
+use native.Mathlib.Omega.{arith}
+use borrow.Author.Tests.{lt-ltb, le-ltb, le-leb, lt-leb}
+use lib.ListN.{length, take, drop, length-append}
+use lib.Seq.{sets, take-all, take-at}
+use Rattle.statement.specs.Statement.{largestStatement, opening, closing, between, pieceHints, allHints, hintsOf, laid, statementChecks, statementAnswer, statementHints}
+use Rattle.statement.specs.Inner.{Kept, PieceEnds, piecesFrom}
+use Rattle.statement.specs.Words.{trim, isNot, has, behindFirst, beforeLast, pieces}
+use Rattle.statement.specs.declared.statement.Hinted.{Hinted}
+use Rattle.statement.specs.declared.statement.Hinted.the-variants.{Done, Full, Refused}
+use Rattle.statement.proofs.WordsLaws.{behind-has, kept-has, kept-before, pieces-none}
+use Rattle.sheet.specs.Limits.{countFits}
+use Rattle.sheet.specs.Refusal.{firstHeld}
+use Rattle.sheet.specs.Sheet.{overlay}
+use Rattle.sheet.specs.declared.refusal.Checked.the-variants.{Passed, Refused as Stopped}
+use Rattle.sheet.specs.declared.refusal.Refusal.{Refusal}
+use Rattle.sheet.specs.declared.refusal.Refusal.the-variants.{ColumnCount, TooLarge, NoColumnList}
+use Rattle.sheet.proofs.Laws.{overlay-more}
+
+-- ---- the hints of the pieces from a place on
+pub hints-next : {s : List ℕ} {at e : ℕ} → PieceEnds s at e →
+    allHints (piecesFrom s at) ≡ pieceHints (trim (take (e - at) (drop at s))) ++ allHints (piecesFrom s (e + 1))
+unfolding allHints
+hints-next p = rw (p .next)
+
+pub hints-none : (s : List ℕ) (at : ℕ) → length s < at → allHints (piecesFrom s at) ≡ []
+unfolding allHints
+hints-none s at h = rw (pieces-none s at h)
+
+-- ---- writing
+-- n of all the hints lie over what the list held, and the rest is to come
+pub record Written (all rest old hints : List ℕ) (n : ℕ) : Type 0 where
+  pub first : List ℕ
+  pub whole : all ≡ first ++ rest
+  pub count : length first ≡ n
+  pub lies : hints ≡ overlay first old
+
+pub written-none : (all old : List ℕ) → Written all all old old 0
+written-none all old = record { first = []; whole = refl; count = refl; lies = refl }
+
+module _ {all rest old hints : List ℕ} {n : ℕ} where
+  pub written-more : (vs : List ℕ) {new : List ℕ} {m : ℕ} → m ≤ length old → m ≡ n + length vs → new ≡ sets hints n vs →
+      Written all (vs ++ rest) old hints n → Written all rest old new m
+  written-more vs h e put w =
+      let l = w .count in
+      record {
+        first = w .first ++ vs;
+        whole = w .whole ∙ sym (append-assoc (w .first) vs rest);
+        count = length-append (w .first) vs ∙ rw (l, e);
+        lies = rw (put, w .lies, ← l) (overlay-more (w .first) vs old (omega arith));
+      }
+
+  -- THE LAW: where the list is full, the first hints lie in it,
+  pub written-full : n ≡ length old → Written all rest old hints n → hints ≡ laid all old
+  written-full h w =
+      let e : take (length old) all ≡ w .first = rw (w .whole) (take-at (w .first) rest (length old) (w .count ∙ h)) in
+      rw e (w .lies)
+
+  -- and where no more are to come, all of them do
+  pub written-all : n ≤ length old → rest ≡ [] → Written all rest old hints n → hints ≡ laid all old
+  written-all h r w =
+      let l = w .count in
+      let whole : all ≡ w .first = w .whole ∙ rw r (append-nil (w .first)) in
+      let e : take (length old) all ≡ w .first = rw whole (take-all (length old) (w .first) (omega arith)) in
+      rw e (w .lies)
+
+-- ---- the answer
+abbrev Answers : List ℕ → List ℕ → Hinted → List ℕ → Type 0
+Answers s old r hints = (r ≡ statementAnswer s (length old)) × (hints ≡ statementHints s old)
+
+refused-by : (s old : List ℕ) {r : Refusal} → firstHeld (statementChecks s) ≡ Stopped r → Answers s old (Refused r) old
+unfolding statementAnswer statementHints
+refused-by s old h = (simp h, simp h)
+
+-- THE LAW: the first check that holds refuses, and leaves the list as it was
+pub too-large : (s old : List ℕ) → largestStatement < length s → Answers s old (Refused TooLarge) old
+unfolding statementChecks
+too-large s old h = refused-by s old (simp (lt-ltb largestStatement (length s) h))
+
+pub no-list : (s old rest : List ℕ) (e : ℕ) → length s ≤ largestStatement → rest ≡ behindFirst opening s → Kept (isNot closing) rest e → e ≡ 0 →
+    Answers s old (Refused NoColumnList) old
+unfolding statementChecks
+no-list s old rest e small behind k z =
+    let none : has closing (behindFirst opening s) ≡ false = rw (← behind) (kept-has closing rest e k ∙ rw z) in
+    refused-by s old (simp (le-ltb largestStatement (length s) small, behind-has opening closing s ∙ ap not none))
+
+-- a statement of few enough bytes, and the columns that it lists
+pub record Lists (s columns : List ℕ) : Type 0 where
+  pub small : length s ≤ largestStatement
+  pub listed : has closing (behindFirst opening s) ≡ true
+  pub are : columns ≡ between s
+
+pub lists-at : (s rest : List ℕ) (e : ℕ) → length s ≤ largestStatement → rest ≡ behindFirst opening s → Kept (isNot closing) rest e → 0 < e →
+    Lists s (take (e - 1) rest)
+unfolding between
+lists-at s rest e small behind k h = record {
+  small = small;
+  listed = rw (← behind) (kept-has closing rest e k ∙ lt-ltb 0 e h);
+  are = kept-before closing rest e k h ∙ ap (beforeLast closing) behind;
+}
+
+-- and n, which counts their hints
+pub record Counts (s columns : List ℕ) (n : ℕ) : Type 0 where
+  pub lists : Lists s columns
+  pub number : n ≡ length (allHints (pieces columns))
+
+module _ {s columns : List ℕ} {n : ℕ} (k : Counts s columns n) where
+  counted : length (hintsOf s) ≡ n
+  unfolding hintsOf
+  counted = rw (← k .lists .are) (sym (k .number))
+
+  last-check : firstHeld (statementChecks s) ≡ cond (not (countFits n)) (Stopped ColumnCount) Passed
+  unfolding statementChecks
+  last-check =
+      simp (le-ltb largestStatement (length s) (k .lists .small), behind-has opening closing s ∙ ap not (k .lists .listed), counted)
+
+  pub bad-count : (old : List ℕ) → countFits n ≡ false → Answers s old (Refused ColumnCount) old
+  bad-count old h = refused-by s old (last-check ∙ rw h)
+
+  -- THE LAW: past the checks the first hints are written, and the room decides
+  module _ (old hints : List ℕ) (fits : countFits n ≡ true) (put : hints ≡ laid (allHints (pieces columns)) old) where
+    passed : firstHeld (statementChecks s) ≡ Passed
+    passed = last-check ∙ rw fits
+
+    written : hints ≡ statementHints s old
+    unfolding statementHints hintsOf
+    written = rw (passed, ← k .lists .are) put
+
+    pub full : length old < n → Answers s old (Full (length old)) hints
+    unfolding statementAnswer
+    full h = (simp (passed, counted, lt-leb n (length old) h), written)
+
+    pub done : n ≤ length old → Answers s old (Done n) hints
+    unfolding statementAnswer
+    done h = (simp (passed, counted, le-leb n (length old) h), written)

@@ -1,0 +1,97 @@
+-- `statement::statement::from_create_sql` meets its contract: each answer is the one of its checks, in their order.
+-- Assumes nothing.
+use Prim.Native.Nat.{_-_}
+use mathlib.Core.Path.{_≡_, sym, _∙_}
+use mathlib.Core.Bool.{true}
+use native.Mathlib.Omega.{arith}
+use borrow.Author.Tests.{not-true, not-false}
+use borrow.Author.Needs.{needs}
+use lib.ListN.{take}
+use lib.Seq.{length-take-le}
+use Rattle.statement.proofs.StatementLaws.{too-large, no-list, lists-at, Counts, bad-count, full, done}
+use Rattle.sheet.specs.Limits.{countFits}
+use Rattle.statement.proofs.statement.from_create_sql.Statement.{statement}
+use Rattle.statement.proofs.statement.from_create_sql.Tie as tie
+
+-- what is counted are the hints of the columns,
+counts : (c : tie.After-count-hints) →
+    let kept = c .before .before .before .kept .result in
+    let rest = c .before .before .before .before .behind-first .result .now in
+    Counts (c .before .before .before .before .before .before .before .before .args .statement .now) (take (kept - 1) rest) (c .count-hints .result)
+counts c =
+    let k = c .before .before .before in
+    record {
+      lists = lists-at _ _ _ (k .before .before .if1 .left) (k .before .behind-first .ensures) (k .kept .ensures) (omega arith);
+      number = c .count-hints .ensures;
+    }
+
+-- and they are not too many
+fits : (c : tie.Else3) → countFits (c .before .before .count-hints .result) ≡ true
+fits c = sym (c .before .hint-count-fits .ensures) ∙ not-false _ (c .if3 .left)
+
+returns : tie.Need-returns
+returns c = too-large _ _ (c .if1 .taken)
+
+behind-first-requires : tie.Need-behind-first-requires
+behind-first-requires c κs = search needs
+
+kept-requires : tie.Need-kept-requires
+kept-requires c κs = search needs
+
+returns-2 : tie.Need-returns-2
+returns-2 c =
+    let k = c .before in
+    no-list _ _ _ _ (k .before .before .if1 .left) (k .before .behind-first .ensures) (k .kept .ensures) (c .if2 .taken)
+
+sub-columns : tie.Need-sub-columns
+sub-columns c = search needs
+
+slice-aggregate-columns : tie.Need-slice-aggregate-columns
+slice-aggregate-columns c = sym (length-take-le _ _ (omega (arith, c .before .before .kept .ensures .within)))
+
+count-hints-requires : tie.Need-count-hints-requires
+count-hints-requires c κs = search needs
+
+hint-count-fits-requires : tie.Need-hint-count-fits-requires
+hint-count-fits-requires c κs = search needs
+
+returns-3 : tie.Need-returns-3
+returns-3 c = bad-count (counts (c .before .before)) _ (sym (c .before .hint-count-fits .ensures) ∙ not-true _ (c .if3 .taken))
+
+put-hints-requires : tie.Need-put-hints-requires
+put-hints-requires c κs = search needs
+
+same-length : tie.Need-same-length
+same-length c = search needs
+
+returns-4 : tie.Need-returns-4
+returns-4 c =
+    let p = c .before .before .before in
+    full (counts (p .before .before .before .before)) _ _ (fits (p .before .before)) (p .put-hints .ensures) (c .if4 .taken)
+
+same-length-2 : tie.Need-same-length-2
+same-length-2 c = search needs
+
+returns-5 : tie.Need-returns-5
+returns-5 c =
+    let p = c .before .before .before in
+    done (counts (p .before .before .before .before)) _ _ (fits (p .before .before)) (p .put-hints .ensures) (c .if4 .left)
+
+pub from-create-sql-spec : {M : Type 1} → statement M
+from-create-sql-spec =
+    tie.close
+    (tie.spec
+    returns
+    behind-first-requires
+    kept-requires
+    returns-2
+    sub-columns
+    slice-aggregate-columns
+    count-hints-requires
+    hint-count-fits-requires
+    returns-3
+    put-hints-requires
+    same-length
+    returns-4
+    same-length-2
+    returns-5)

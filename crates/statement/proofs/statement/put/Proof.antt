@@ -1,0 +1,39 @@
+-- `statement::statement::put` meets its contract: a hint is written and counted, and nothing is not.
+-- Assumes nothing.
+use mathlib.Core.Path.{refl}
+use borrow.Author.Needs.{needs}
+use Rattle.statement.proofs.statement.put.Statement.{statement}
+use Rattle.statement.proofs.statement.put.Tie as tie
+
+enum-known-given : tie.Need-enum-known-given
+enum-known-given c = search needs
+
+enum-told : tie.Need-enum-told
+enum-told c = search needs
+
+returns : tie.Need-returns
+returns c = rw (c .enum-told .given .1) (search needs, (search needs, refl))
+
+slice-write-hints : tie.Need-slice-write-hints
+slice-write-hints c = search needs
+
+add-result : tie.Need-add-result
+add-result c = search needs
+
+same-length : tie.Need-same-length
+same-length c = search needs
+
+returns-2 : tie.Need-returns-2
+returns-2 c = rw (c .before .given .given .1) (refl, (search needs, refl))
+
+pub put-spec : {M : Type 1} → statement M
+put-spec =
+    tie.close
+    (tie.spec
+    enum-known-given
+    enum-told
+    returns
+    slice-write-hints
+    add-result
+    same-length
+    returns-2)

@@ -1,0 +1,55 @@
+-- What the code of `statement` carries besides the definitions.
+-- Assumes nothing.
+use Prim.Native.Nat.{ℕ, _+_, _-_, _≤_}
+use mathlib.Core.Path.{_≡_}
+use mathlib.Core.Bool.{Bool, false, cond, _||_}
+use mathlib.Core.List.{List, [], _∷_}
+use lib.Dec.{leb}
+use lib.ListN.{length, take, drop}
+use Rattle.statement.specs.Words.{isBlank, inWord, isNot, dropWhileEnd, pieces, startsWith, equals}
+use Rattle.statement.specs.declared.statement.Given.{Given}
+use Rattle.statement.specs.declared.statement.Given.the-variants.{Hint, Nothing}
+use Rattle.statement.specs.declared.statement.Match.{Match}
+use Rattle.statement.specs.declared.statement.Match.the-variants.{Start, Whole}
+use Rattle.statement.specs.declared.statement.Run.{Run}
+use Rattle.statement.specs.declared.statement.Run.the-variants.{Blanks, Word, Until}
+
+-- the bytes of a run
+abbrev pub inRun : Run → ℕ → Bool
+inRun Blanks = isBlank
+inRun Word = inWord
+inRun (Until x) = isNot x
+
+-- where a list ends without the run at its end
+pub record Kept (p : ℕ → Bool) (s : List ℕ) (e : ℕ) : Type 0 where
+  pub within : e ≤ length s
+  pub kept : take e s ≡ dropWhileEnd p s
+
+-- how a keyword is compared
+abbrev pub matches : Match → List ℕ → List ℕ → Bool
+matches Start = startsWith
+matches Whole = equals
+
+-- whether one of the words matches s
+unfoldable pub matchesOne : Match → List (List ℕ) → List ℕ → Bool
+matchesOne how [] s = false
+matchesOne how (w ∷ ws) s = matches how w s || matchesOne how ws s
+
+-- whether s starts with one of the first keywords, or is one of the others; commas part both
+abbrev pub startsOrIs : List ℕ → List ℕ → List ℕ → Bool
+startsOrIs starts names s = matchesOne Start (pieces starts) s || matchesOne Whole (pieces names) s
+
+-- the pieces from `at` on; behind the last there are none
+unfoldable pub piecesFrom : List ℕ → ℕ → List (List ℕ)
+piecesFrom s at = cond (leb at (length s)) (pieces (drop at s)) []
+
+-- where the piece that starts at `at` ends
+pub record PieceEnds (s : List ℕ) (at e : ℕ) : Type 0 where
+  pub from : at ≤ e
+  pub within : e ≤ length s
+  pub next : piecesFrom s at ≡ take (e - at) (drop at s) ∷ piecesFrom s (e + 1)
+
+-- what a piece gives, as the list of its hints
+abbrev pub givenHints : Given → List ℕ
+givenHints (Hint h) = h ∷ []
+givenHints Nothing = []

@@ -1,0 +1,146 @@
+-- The hints of the columns that a CREATE TABLE statement lists, and what its call answers.
+-- Assumes nothing.
+use Prim.Native.Char.{code}
+use Prim.Native.Nat.{ℕ}
+use mathlib.Core.Bool.{Bool, cond, not, _&&_, _||_}
+use mathlib.Core.List.{List, [], _∷_, _++_}
+use lib.Dec.{leb, ltb, eqb}
+use lib.ListN.{length, take}
+use Rattle.statement.specs.Words.{bytes, trim, has, behindFirst, beforeLast, pieces, secondWord, holds, startsWithOne, equalsOne}
+use Rattle.statement.specs.declared.statement.Hinted.{Hinted}
+use Rattle.statement.specs.declared.statement.Hinted.the-variants.{Done, Full, Refused}
+use Rattle.sheet.specs.Limits.{countFits}
+use Rattle.sheet.specs.Refusal.{Check, firstHeld, refusalNumber}
+use Rattle.sheet.specs.Sheet.{overlay}
+use Rattle.sheet.specs.declared.refusal.Checked.{Checked}
+use Rattle.sheet.specs.declared.refusal.Checked.the-variants.{Passed, Refused as Stopped}
+use Rattle.sheet.specs.declared.refusal.Refusal.the-variants.{ColumnCount, TooLarge, NoColumnList, NoRoom}
+
+-- the most bytes that a statement may have
+abbrev pub largestStatement : ℕ
+largestStatement = 65536
+
+-- the bracket before the columns
+abbrev pub opening : ℕ
+opening = code "("
+
+-- the bracket behind the columns
+abbrev pub closing : ℕ
+closing = code ")"
+
+-- Rule 6.1: what stands between the first ( and the last )
+unfoldable pub between : List ℕ → List ℕ
+between s = beforeLast closing (behindFirst opening s)
+
+-- the types that are integers
+unfoldable pub isInteger : List ℕ → Bool
+isInteger w =
+    startsWithOne ("INT" ∷ []) w
+    || equalsOne ("BOOLEAN" ∷ "TINYINT" ∷ "SMALLINT" ∷ "BIGINT" ∷ "MEDIUMINT" ∷ []) w
+
+-- the types that are texts
+unfoldable pub isText : List ℕ → Bool
+isText w = startsWithOne ("TEXT" ∷ "CHAR" ∷ "VARCHAR" ∷ "NCHAR" ∷ "NVARCHAR" ∷ []) w || equalsOne ("CLOB" ∷ []) w
+
+-- the types that are floats
+unfoldable pub isReal : List ℕ → Bool
+isReal w = startsWithOne ("REAL" ∷ "FLOAT" ∷ "DOUBLE" ∷ "NUMERIC" ∷ "DECIMAL" ∷ []) w
+
+-- the types that are blobs
+unfoldable pub isBlob : List ℕ → Bool
+isBlob w = startsWithOne ("BLOB" ∷ []) w || equalsOne ("BINARY" ∷ "VARBINARY" ∷ []) w
+
+-- the code of the hint Integer
+abbrev pub integerHint : ℕ
+integerHint = 0
+
+-- the code of the hint Real
+abbrev pub realHint : ℕ
+realHint = 1
+
+-- the code of the hint Text
+abbrev pub textHint : ℕ
+textHint = 2
+
+-- the code of the hint Blob
+abbrev pub blobHint : ℕ
+blobHint = 3
+
+-- the code of the hint Any; a statement never gives 4, Null
+abbrev pub anyHint : ℕ
+anyHint = 5
+
+-- Rule 6.4, the hint of a declared type: the first kind that it is of; Any where it is of none, or missing
+unfoldable pub hintOf : List ℕ → ℕ
+hintOf w =
+    cond (isInteger w) integerHint
+    (cond (isText w) textHint
+    (cond (isReal w) realHint
+    (cond (isBlob w) blobHint anyHint)))
+
+-- a piece that holds all three stands for the row id, wherever they stand in it
+unfoldable pub isRowId : List ℕ → Bool
+isRowId p = holds (bytes "INTEGER") p && holds (bytes "PRIMARY") p && holds (bytes "KEY") p
+
+-- a piece that starts with one of these is no column, even where a column's name starts so
+unfoldable pub isConstraint : List ℕ → Bool
+isConstraint p = startsWithOne ("PRIMARY" ∷ "UNIQUE" ∷ "CHECK" ∷ "FOREIGN" ∷ "CONSTRAINT" ∷ []) p
+
+-- Rule 6.3: the pieces that give no hint
+unfoldable pub isSkipped : List ℕ → Bool
+isSkipped p = eqb (length p) 0 || isRowId p || isConstraint p
+
+-- the one hint of a trimmed piece, or none
+unfoldable pub pieceHints : List ℕ → List ℕ
+pieceHints p = cond (isSkipped p) [] (hintOf (secondWord p) ∷ [])
+
+-- the hints of pieces, in their order
+unfoldable pub allHints : List (List ℕ) → List ℕ
+allHints [] = []
+allHints (p ∷ ps) = pieceHints (trim p) ++ allHints ps
+
+-- the hints that a statement gives
+unfoldable pub hintsOf : List ℕ → List ℕ
+hintsOf s = allHints (pieces (between s))
+
+-- Rule 6.6: refusals 3, 7 and 1, in the order of the checks
+unfoldable pub statementChecks : List ℕ → List Check
+statementChecks s =
+    record { refusal = TooLarge; holds = ltb largestStatement (length s) }
+    ∷ record { refusal = NoColumnList; holds = not (has opening s) || not (has closing (behindFirst opening s)) }
+    ∷ record { refusal = ColumnCount; holds = not (countFits (length (hintsOf s))) }
+    ∷ []
+
+-- what n hints come to where there is room for so many, and the checks came to this
+abbrev pub answered : Checked → ℕ → ℕ → Hinted
+answered (Stopped r) n room = Refused r
+answered Passed n room = cond (leb n room) (Done n) (Full room)
+
+-- what the call returns, by the statement and the room
+unfoldable pub statementAnswer : List ℕ → ℕ → Hinted
+statementAnswer s room = answered (firstHeld (statementChecks s)) (length (hintsOf s)) room
+
+-- Rule 6.5: the first hints over what a list held, as many as it has cells
+abbrev pub laid : List ℕ → List ℕ → List ℕ
+laid hs old = overlay (take (length old) hs) old
+
+-- what a list holds in the end: a refusal leaves it as it was
+abbrev pub left : Checked → List ℕ → List ℕ → List ℕ
+left (Stopped r) hs old = old
+left Passed hs old = laid hs old
+
+-- what the call leaves in the list, by the statement and what the list held
+unfoldable pub statementHints : List ℕ → List ℕ → List ℕ
+statementHints s old = left (firstHeld (statementChecks s)) (hintsOf s) old
+
+-- the paper's number of an answer; 0 stands for none
+abbrev pub statementNumberOf : Hinted → ℕ
+statementNumberOf (Done n) = 0
+statementNumberOf (Full n) = refusalNumber NoRoom
+statementNumberOf (Refused r) = refusalNumber r
+
+-- how many hints an answer says were written
+abbrev pub statementWrittenOf : Hinted → ℕ
+statementWrittenOf (Done n) = n
+statementWrittenOf (Full n) = n
+statementWrittenOf (Refused r) = 0

@@ -1,0 +1,75 @@
+-- A contract fixes what a call leaves: any two outcomes that it allows for the same arguments are equal. `Post` is the function's own postcondition.
+-- Assumes nothing.
+use mathlib.Core.Path.{sym, _∙_}
+use denote.Ref.{now}
+use Rattle.record.proofs.Unique.{Fixes, FixesSeen}
+use Rattle.phsarodil.proofs.rows.phs_is_compatible.Reads as is-compatible
+use Rattle.phsarodil.proofs.rows.phs_scan_region.Reads as scan-region
+use Rattle.phsarodil.proofs.rows.phs_try_parse_record.Reads as try-parse-record
+use Rattle.phsarodil.proofs.values.phs_body_length.Reads as body-length
+use Rattle.phsarodil.proofs.values.phs_decode_serial_type.Reads as decode-serial-type
+use Rattle.phsarodil.proofs.values.phs_read_entry.Reads as read-entry
+use Rattle.phsarodil.proofs.values.phs_read_varint.Reads as read-varint
+use Rattle.phsarodil.proofs.values.phs_view_entry.Reads as view-entry
+
+-- ---- the number that is returned, and the words at exit
+pub read-varint-number : Fixes read-varint.Post
+read-varint-number k a x y s t p q = p .0 ∙ sym (q .0)
+
+pub read-varint-words : FixesSeen read-varint.Post (λ k r s. now (s .1 .1 .0))
+read-varint-words k a x y s t p q = p .1 ∙ sym (q .1)
+
+pub body-length-number : Fixes body-length.Post
+body-length-number k a x y s t p q = p .0 ∙ sym (q .0)
+
+pub body-length-words : FixesSeen body-length.Post (λ k r s. now (s .1 .0))
+body-length-words k a x y s t p q = p .1 ∙ sym (q .1)
+
+pub decode-serial-type-number : Fixes decode-serial-type.Post
+decode-serial-type-number k a x y s t p q = p .0 ∙ sym (q .0)
+
+pub decode-serial-type-words : FixesSeen decode-serial-type.Post (λ k r s. now (s .1 .1 .1 .0))
+decode-serial-type-words k a x y s t p q = p .1 ∙ sym (q .1)
+
+pub read-entry-number : Fixes read-entry.Post
+read-entry-number k a x y s t p q = p .0 ∙ sym (q .0)
+
+pub read-entry-words : FixesSeen read-entry.Post (λ k r s. now (s .1 .1 .1 .1 .1 .0))
+read-entry-words k a x y s t p q = p .1 ∙ sym (q .1)
+
+pub view-entry-number : Fixes view-entry.Post
+view-entry-number k a x y s t p q = p .0 ∙ sym (q .0)
+
+pub view-entry-words : FixesSeen view-entry.Post (λ k r s. now (s .1 .1 .1 .1 .1 .0))
+view-entry-words k a x y s t p q = p .1 ∙ sym (q .1)
+
+pub is-compatible-number : Fixes is-compatible.Post
+is-compatible-number k a x y s t p q = p .0 ∙ sym (q .0)
+
+pub is-compatible-words : FixesSeen is-compatible.Post (λ k r s. now (s .1 .1 .0))
+is-compatible-words k a x y s t p q = p .1 ∙ sym (q .1)
+
+-- ---- and the lent lists, rows and column entries
+pub try-parse-record-number : Fixes try-parse-record.Post
+try-parse-record-number k a x y s t p q = p .0 ∙ sym (q .0)
+
+pub try-parse-record-words : FixesSeen try-parse-record.Post (λ k r s. now (s .1 .1 .1 .1 .1 .1 .0))
+try-parse-record-words k a x y s t p q = p .1 .0 ∙ sym (q .1 .0)
+
+pub try-parse-record-rows : FixesSeen try-parse-record.Post (λ k r s. now (s .1 .1 .1 .1 .0))
+try-parse-record-rows k a x y s t p q = p .1 .1 .0 ∙ sym (q .1 .1 .0)
+
+pub try-parse-record-cols : FixesSeen try-parse-record.Post (λ k r s. now (s .1 .1 .1 .1 .1 .0))
+try-parse-record-cols k a x y s t p q = p .1 .1 .1 ∙ sym (q .1 .1 .1)
+
+pub scan-region-number : Fixes scan-region.Post
+scan-region-number k a x y s t p q = p .0 ∙ sym (q .0)
+
+pub scan-region-words : FixesSeen scan-region.Post (λ k r s. now (s .1 .1 .1 .1 .1 .1 .0))
+scan-region-words k a x y s t p q = p .1 .0 ∙ sym (q .1 .0)
+
+pub scan-region-rows : FixesSeen scan-region.Post (λ k r s. now (s .1 .1 .1 .1 .0))
+scan-region-rows k a x y s t p q = p .1 .1 .0 ∙ sym (q .1 .1 .0)
+
+pub scan-region-cols : FixesSeen scan-region.Post (λ k r s. now (s .1 .1 .1 .1 .1 .0))
+scan-region-cols k a x y s t p q = p .1 .1 .1 ∙ sym (q .1 .1 .1)

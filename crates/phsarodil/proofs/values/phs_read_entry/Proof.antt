@@ -1,0 +1,62 @@
+-- `phs_read_entry` meets its contract: number and words are those of what the entry reads as.
+-- Assumes nothing.
+use mathlib.Core.Path.{_≡_, sym, _∙_}
+use denote.Ref.{now}
+use borrow.Author.Needs.{needs}
+use Rattle.record.specs.Entry.{readEntry}
+use Rattle.record.specs.declared.entry.EntryRead.the-variants.{Of}
+use Rattle.phsarodil.specs.Door.{entryOf}
+use Rattle.phsarodil.proofs.Bodies.{read-there}
+use Rattle.phsarodil.proofs.values.phs_read_entry.Statement.{statement}
+use Rattle.phsarodil.proofs.values.phs_read_entry.Tie as tie
+
+-- the value that was read
+there : (c : tie.After-known-told) →
+    let a = c .before .before .before .before .before .args in
+    readEntry (entryOf (a .state) (a .kind) (a .start) (a .length)) (now (a .bytes)) ≡ Of (c .before .value .given .0 .0)
+there c = sym (c .before .before .before .read .ensures .0) ∙ c .before .value .given .1
+
+read-requires : tie.Need-read-requires
+read-requires c κs = search needs
+
+enum-known-value : tie.Need-enum-known-value
+enum-known-value c = search needs
+
+enum-told : tie.Need-enum-told
+enum-told c = search needs
+
+returns : tie.Need-returns
+returns c =
+    let e = sym (c .before .before .before .read .ensures .0) ∙ c .before .enum-told .given .1 in
+    (rw e, rw e)
+
+tag-of-requires : tie.Need-tag-of-requires
+tag-of-requires c κs = search needs
+
+bits-of-requires : tie.Need-bits-of-requires
+bits-of-requires c κs = read-there _ _ _ (there (c .before))
+
+start-of-requires : tie.Need-start-of-requires
+start-of-requires c κs = search needs
+
+length-of-requires : tie.Need-length-of-requires
+length-of-requires c κs = search needs
+
+returns-2 : tie.Need-returns-2
+returns-2 c =
+    let e = there (c .before .before .before .before .before) in
+    (rw e, rw e (cc))
+
+pub phs-read-entry-spec : {M : Type 1} → statement M
+phs-read-entry-spec =
+    tie.close
+    (tie.spec
+    read-requires
+    enum-known-value
+    enum-told
+    returns
+    tag-of-requires
+    bits-of-requires
+    start-of-requires
+    length-of-requires
+    returns-2)

@@ -1,0 +1,124 @@
+-- The words that a call writes into `out` for its answer, and the number that it returns where the answer's own crate has none for it.
+-- Assumes nothing.
+use Prim.Native.Nat.{ℕ, _+_, _-_, _^_, _≤_}
+use mathlib.Core.Bool.{cond}
+use mathlib.Core.List.{List, [], _∷_}
+use lib.Dec.{eqb}
+use lib.IntN.{ℤ, pos, negsuc}
+use lib.ListN.{length}
+use Rattle.record.specs.Value.{bigEndian}
+use Rattle.record.specs.declared.entry.Entry.{Entry}
+use Rattle.record.specs.declared.entry.EntryRead.{EntryRead}
+use Rattle.record.specs.declared.entry.EntryRead.the-variants.{Of as Reads, Refused as Bad}
+use Rattle.record.specs.declared.record.Decoded.{Decoded}
+use Rattle.record.specs.declared.record.Decoded.the-variants.{Of, Nothing}
+use Rattle.record.specs.declared.record.Length.{Length}
+use Rattle.record.specs.declared.record.Length.the-variants.{Bytes, Reserved}
+use Rattle.record.specs.declared.record.Value.{Value}
+use Rattle.record.specs.declared.record.Value.the-variants.{Null, Int, Real, Text, Blob}
+use Rattle.record.specs.declared.varint.Read.{Read}
+use Rattle.record.specs.declared.varint.Read.the-variants.{Number, Nothing as Short}
+use Rattle.scan.specs.Scan.{writtenOf, placeOf, readOf, onceWrittenOf}
+use Rattle.scan.specs.declared.schema_sig.Attempted.{Attempted}
+use Rattle.scan.specs.declared.schema_sig.Compatible.{Compatible}
+use Rattle.scan.specs.declared.schema_sig.Compatible.the-variants.{Suits, Differs, Refused}
+use Rattle.scan.specs.declared.schema_sig.Scanned.{Scanned}
+use Rattle.sheet.specs.Refusal.{refusalNumber}
+
+-- phs_read_varint: found, value, bytes taken
+abbrev pub varintWords : Read → List ℕ
+varintWords (Number v n) = 1 ∷ v ∷ n ∷ []
+varintWords Short = 0 ∷ 0 ∷ 0 ∷ []
+
+-- phs_body_length: known, length
+abbrev pub lengthWords : Length → List ℕ
+lengthWords (Bytes n) = 1 ∷ n ∷ []
+lengthWords Reserved = 0 ∷ 0 ∷ []
+
+-- ---- a value
+
+-- which of the five it is; 0 stands for none
+abbrev pub tagOf : Value → ℕ
+tagOf Null = 1
+tagOf (Int z) = 2
+tagOf (Real x) = 3
+tagOf (Text start n) = 4
+tagOf (Blob start n) = 5
+
+-- two's complement in 64 bits, where negsuc n is -1 - n
+unfoldable pub wordOf : ℤ → ℕ
+wordOf (pos n) = n
+wordOf (negsuc n) = 2 ^ 64 - 1 - n
+
+-- the bits of a number; those of a real are the eight bytes of its body, which is at `at`
+abbrev pub bitsOf : List ℕ → ℕ → Value → ℕ
+bitsOf s at Null = 0
+bitsOf s at (Int z) = wordOf z
+bitsOf s at (Real x) = bigEndian s at 8
+bitsOf s at (Text start n) = 0
+bitsOf s at (Blob start n) = 0
+
+-- where a text or a blob lies
+abbrev pub startOf : Value → ℕ
+startOf Null = 0
+startOf (Int z) = 0
+startOf (Real x) = 0
+startOf (Text start n) = start
+startOf (Blob start n) = start
+
+abbrev pub lengthOf : Value → ℕ
+lengthOf Null = 0
+lengthOf (Int z) = 0
+lengthOf (Real x) = 0
+lengthOf (Text start n) = n
+lengthOf (Blob start n) = n
+
+-- phs_decode_serial_type: tag, bits, start, bytes taken
+abbrev pub decodedWords : List ℕ → ℕ → Decoded → List ℕ
+decodedWords s at (Of v n) = tagOf v ∷ bitsOf s at v ∷ startOf v ∷ n ∷ []
+decodedWords s at Nothing = 0 ∷ 0 ∷ 0 ∷ 0 ∷ []
+
+-- the code asks itself that the eight bytes of a real are there
+abbrev pub BodyThere : List ℕ → ℕ → Value → Type 0
+BodyThere s at Null = Unit
+BodyThere s at (Int z) = Unit
+BodyThere s at (Real x) = at + 8 ≤ length s
+BodyThere s at (Text start n) = Unit
+BodyThere s at (Blob start n) = Unit
+
+-- ---- an entry
+abbrev pub entryOf : ℕ → ℕ → ℕ → ℕ → Entry
+entryOf state kind start len = record { state = state; kind = kind; start = start; len = len }
+
+-- phs_read_entry: tag, bits, start, length
+abbrev pub entryWords : List ℕ → ℕ → EntryRead → List ℕ
+entryWords s at (Reads v) = tagOf v ∷ bitsOf s at v ∷ startOf v ∷ lengthOf v ∷ []
+entryWords s at Bad = 0 ∷ 0 ∷ 0 ∷ 0 ∷ []
+
+-- phs_view_entry: start and length of the bytes that an entry shows from its start on
+abbrev pub viewWords : ℕ → List ℕ → List ℕ
+viewWords start shown = cond (eqb (length shown) 0) (0 ∷ 0 ∷ []) (start ∷ length shown ∷ [])
+
+-- ---- hints and rows
+
+-- phs_is_compatible: whether the type suits the hint
+abbrev pub suitsNumber : Compatible → ℕ
+suitsNumber Suits = 0
+suitsNumber Differs = 0
+suitsNumber (Refused r) = refusalNumber r
+
+abbrev pub suitsWord : Compatible → ℕ
+suitsWord Suits = 1
+suitsWord Differs = 0
+suitsWord (Refused r) = 0
+
+abbrev pub suitsWords : Compatible → List ℕ
+suitsWords a = suitsWord a ∷ []
+
+-- phs_try_parse_record: rows written; its place and its count are 0
+abbrev pub onceWords : Attempted → List ℕ
+onceWords a = onceWrittenOf a ∷ 0 ∷ 0 ∷ []
+
+-- phs_scan_region: rows written, place, header bytes read
+abbrev pub scanWords : Scanned → List ℕ
+scanWords a = writtenOf a ∷ placeOf a ∷ readOf a ∷ []

@@ -1,0 +1,172 @@
+/*
+ * Phsarodil: rows carved out of what is left in SQLite pages.
+ *
+ * Link with libphsarodil.a (x86-64 Linux), which `rt staticlib phsarodil` writes to target/staticlib.
+ *
+ * Memory. A call allocates nothing, keeps no pointer and has no state, so calls may run on any threads at once. All
+ * memory stays the caller's. A slice is a pointer and a length in elements. No pointer may be NULL, not even where its
+ * length is 0, and memory that a call writes may overlap nothing else that is lent to the same call. A call reads
+ * nothing outside its slices and takes any bytes and numbers whatever: what it cannot answer it refuses.
+ *
+ * Answers. Each call returns a refusal number, 0 for none, and puts the rest of its answer into `out`. Every word of
+ * `out` is written by every call; a word with nothing to say is 0.
+ *
+ * Lists. Rows and their column entries go into two lists, `rows` and `cols`, which are filled from the front. Row i
+ * has the words rows[8 * i ..] and, for n hints, the n entries cols[4 * n * i ..]. There is room for the smaller of
+ * rows_len / 8 and cols_len / (4 * n) rows. Only the cells of rows that out[0] counts are written; all others keep
+ * what they held. Refusals 1 to 7 write neither list.
+ */
+#ifndef PHSARODIL_H
+#define PHSARODIL_H
+
+#include <stddef.h>
+#include <stdint.h>
+
+#ifdef __cplusplus
+extern "C" {
+#endif
+
+/* Refusals. The checks of a call come in rising order; the first that holds is returned. */
+enum phs_refusal {
+    PHS_OK = 0,
+    PHS_COLUMN_COUNT = 1,   /* no hints, or more than PHS_MOST_COLUMNS */
+    PHS_MALFORMED = 2,      /* a hint code above 5, or a bad column entry */
+    PHS_TOO_LARGE = 3,      /* a region of more than PHS_LARGEST_REGION bytes */
+    PHS_BASE_TOO_FAR = 4,   /* a base above PHS_LARGEST_BASE */
+    PHS_PAGE_SIZE = 5,      /* not a page size of the file format */
+    PHS_NO_SUCH_PAGE = 6,   /* page 0, or a page that is not wholly in the database */
+    PHS_NO_COLUMN_LIST = 7, /* a statement without brackets around its columns */
+    PHS_WALK_SPACE = 8,     /* too few page flags, or a full page stack */
+    PHS_NO_ROOM = 9         /* one row more than there is room for */
+};
+
+#define PHS_WORDS_PER_ROW 8
+#define PHS_WORDS_PER_ENTRY 4
+#define PHS_MOST_COLUMNS 126
+#define PHS_LARGEST_REGION 16777216
+#define PHS_LARGEST_BASE UINT64_C(0x1000000000000) /* 2 to the power of 48 */
+
+/* What a column is expected to hold. Every hint takes a NULL. */
+enum phs_hint {
+    PHS_HINT_INTEGER = 0,
+    PHS_HINT_REAL = 1,
+    PHS_HINT_TEXT = 2,
+    PHS_HINT_BLOB = 3,
+    PHS_HINT_NULL = 4,
+    PHS_HINT_ANY = 5
+};
+
+/* The tag of a value. */
+enum phs_tag { PHS_NONE = 0, PHS_NULL = 1, PHS_INTEGER = 2, PHS_REAL = 3, PHS_TEXT = 4, PHS_BLOB = 5 };
+
+/* The words of a row. */
+enum phs_row_word {
+    PHS_ROW_OFFSET = 0,     /* of its first byte: the base, plus its place in the region */
+    PHS_ROW_CONSUMED = 1,   /* its bytes, header and bodies */
+    PHS_ROW_HAS_ID = 2,     /* 1 if there is a row id, else 0 */
+    PHS_ROW_ID = 3,         /* the row id's bits, two's complement; 0 if there is none */
+    PHS_ROW_SOURCE = 4,     /* an enum phs_source */
+    PHS_ROW_PERCENT = 5,    /* for people, from 0 to 100; 0 for the sources 0 and 1 */
+    PHS_ROW_CONFIDENCE = 6, /* the bits of a 32-bit float: the share of columns that suit their hints, or less */
+    PHS_ROW_MODE = 7        /* an enum phs_mode, plus 4 times the table's index where tables are lent */
+};
+
+enum phs_source {
+    PHS_SOURCE_SCAN = 0,
+    PHS_SOURCE_FREELIST = 1,
+    PHS_SOURCE_CARVED_INTRA_PAGE = 2,
+    PHS_SOURCE_CARVED_UNALLOC = 3
+};
+
+enum phs_mode { PHS_MODE_NONE = 0, PHS_MODE_NORMAL = 1, PHS_MODE_COLUMNS_ONLY = 2, PHS_MODE_FIRST_COL_MISSING = 3 };
+
+/* The words of a column entry. phs_read_entry makes a value of them. */
+enum phs_entry_word {
+    PHS_ENTRY_STATE = 0,  /* an enum phs_state */
+    PHS_ENTRY_KIND = 1,   /* the serial type */
+    PHS_ENTRY_START = 2,  /* of the body, in the slice that the row was found in */
+    PHS_ENTRY_LENGTH = 3  /* of the body, in bytes */
+};
+
+/* In the states 2 and 3 all other words are 0, in state 1 start and length are. */
+enum phs_state {
+    PHS_BODY = 0,  /* the body is there */
+    PHS_UNFIT = 1, /* the body does not fit; reads as NULL, as the next two do */
+    PHS_LOST = 2,  /* the column's type was overwritten */
+    PHS_UNUSED = 3 /* the entry pads its row's group */
+};
+
+/*
+ * The varint at bytes[offset].
+ * out: 1 if it is whole, else 0; its value; the bytes that it takes, 1 to 9.
+ * Returns 0.
+ */
+uint64_t phs_read_varint(const uint8_t *bytes, size_t len, size_t offset, uint64_t out[3]);
+
+/*
+ * The body length of the serial type `kind`.
+ * out: 1 if it has one, and 0 for the types 10 and 11; the length.
+ * Returns 0.
+ */
+uint64_t phs_body_length(uint64_t kind, uint64_t out[2]);
+
+/*
+ * The value of the serial type `kind` whose body starts at bytes[offset].
+ * out: its tag, PHS_NONE if the type is 10 or 11 or the body leaves the slice;
+ *      the bits of an integer, two's complement, or of a real, a double's, any NaN's payload with them;
+ *      where a text or a blob starts; the bytes that the body takes.
+ * A text is bytes: nothing says that they are UTF-8. Returns 0.
+ */
+uint64_t phs_decode_serial_type(uint64_t kind, const uint8_t *bytes, size_t len, size_t offset, uint64_t out[4]);
+
+/*
+ * The value of a column entry, given as its four words, over the slice that its row was found in.
+ * out: tag, bits and start as above; the length of a text or a blob.
+ * Returns PHS_MALFORMED for a bad entry: the state is above 3 or, in state 0, the length is not the type's, the type
+ * is 10 or 11, or the body leaves the slice.
+ */
+uint64_t phs_read_entry(uint64_t state, uint64_t kind, uint64_t start, uint64_t length, const uint8_t *bytes,
+                        size_t len, uint64_t out[4]);
+
+/*
+ * The bytes of a column entry that is a text or a blob.
+ * out: their start and length in the slice. An empty text or blob, any other entry and a bad one have 0 and 0.
+ * Returns 0: phs_read_entry tells a bad entry.
+ */
+uint64_t phs_view_entry(uint64_t state, uint64_t kind, uint64_t start, uint64_t length, const uint8_t *bytes,
+                        size_t len, uint64_t out[2]);
+
+/*
+ * Whether the serial type `kind` suits a hint.
+ * out: 1 if it does, else 0.
+ * Returns PHS_MALFORMED for a hint above 5.
+ */
+uint64_t phs_is_compatible(uint8_t hint, uint64_t kind, uint64_t out[1]);
+
+/*
+ * The row that starts at region[offset], if there is one, for a table whose columns have these hints. `base` is where
+ * the region lies in its file; it is added to row offsets only.
+ * out: the rows written, 0 or 1; 0; 0.
+ * Returns PHS_COLUMN_COUNT, PHS_MALFORMED, PHS_TOO_LARGE, PHS_BASE_TOO_FAR, or PHS_NO_ROOM for a row without room.
+ */
+uint64_t phs_try_parse_record(const uint8_t *region, size_t len, const uint8_t *hints, size_t hints_len, uint64_t base,
+                              size_t offset, uint64_t *rows, size_t rows_len, uint64_t *cols, size_t cols_len,
+                              uint64_t out[3]);
+
+/*
+ * All rows of a region from `start` on, one behind the other: behind a row the scan goes on at its end, elsewhere at
+ * the next byte. No row starts in the last two bytes.
+ * out: the rows written; the place, which is `len` when the scan is through; the header bytes that it read to decide.
+ * Returns PHS_COLUMN_COUNT, PHS_MALFORMED, PHS_TOO_LARGE or PHS_BASE_TOO_FAR; or PHS_NO_ROOM, with the place of the
+ * first row that found no room. With room for at least one row, calling again with that place for `start` goes on
+ * there, and the counts of all calls add up to those of one scan.
+ */
+uint64_t phs_scan_region(const uint8_t *region, size_t len, const uint8_t *hints, size_t hints_len, uint64_t base,
+                         size_t start, uint64_t *rows, size_t rows_len, uint64_t *cols, size_t cols_len,
+                         uint64_t out[3]);
+
+#ifdef __cplusplus
+}
+#endif
+
+#endif

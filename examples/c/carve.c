@@ -1,0 +1,213 @@
+/*
+ * carve FILE HINTS [PAGE]: prints every row that a scan of FILE finds, for a table whose columns have these hints.
+ * With PAGE, every PAGE bytes are scanned by themselves: no record of a database reaches from one page into the next,
+ * so what seems to is none. From the repository's top:
+ *
+ *     rt staticlib phsarodil
+ *     cc -Wall -Wextra -std=c99 -O2 -Iinclude -o carve examples/c/carve.c target/staticlib/libphsarodil.a
+ *     ./carve tablet.db ITR 4096
+ */
+#include <errno.h>
+#include <inttypes.h>
+#include <stdio.h>
+#include <stdlib.h>
+#include <string.h>
+
+#include "phsarodil.h"
+
+/* Few on purpose: a list that is full is emptied, and the scan goes on. */
+enum { ROOM = 16 };
+
+/* In the order of the hint codes. */
+static const char LETTERS[] = "IRTBNA";
+
+static const char *const REFUSALS[] = {
+    "not refused",
+    "a table has 1 to 126 columns",
+    "an unknown hint, or a bad column entry",
+    "the region is larger than 16 MiB",
+    "the base is above 2^48",
+    "not a page size",
+    "no such page",
+    "the statement has no column list",
+    "too little space for the walk",
+    "no room for another row",
+};
+
+/* Writes the codes of a string of hint letters, or of digits from 0 to 5; returns 0 at a letter that is none. */
+static int read_hints(const char *letters, uint8_t *hints)
+{
+    for (size_t i = 0; letters[i] != '\0'; i++) {
+        const char *known = strchr(LETTERS, letters[i]);
+        if (known != NULL)
+            hints[i] = (uint8_t)(known - LETTERS);
+        else if (letters[i] >= '0' && letters[i] <= '5')
+            hints[i] = (uint8_t)(letters[i] - '0');
+        else
+            return 0;
+    }
+    return 1;
+}
+
+static void print_text(const uint8_t *text, uint64_t length)
+{
+    putchar('"');
+    for (uint64_t i = 0; i < length; i++) {
+        if (text[i] == '"' || text[i] == '\\')
+            printf("\\%c", text[i]);
+        else if (text[i] >= 0x20 && text[i] < 0x7f)
+            putchar(text[i]);
+        else
+            printf("\\x%02x", text[i]);
+    }
+    putchar('"');
+}
+
+static void print_blob(const uint8_t *blob, uint64_t length)
+{
+    printf("x'");
+    for (uint64_t i = 0; i < length; i++)
+        printf("%02x", blob[i]);
+    putchar('\'');
+}
+
+/* Prints the value of a column entry of the region; returns the refusal. */
+static uint64_t print_entry(const uint64_t *entry, const uint8_t *region, size_t len)
+{
+    uint64_t value[4]; /* tag, bits, start, length */
+    uint64_t refusal = phs_read_entry(entry[PHS_ENTRY_STATE], entry[PHS_ENTRY_KIND], entry[PHS_ENTRY_START],
+                                      entry[PHS_ENTRY_LENGTH], region, len, value);
+    int64_t integer;
+    double real;
+
+    switch (value[0]) {
+    case PHS_NULL:
+        printf("NULL");
+        break;
+    case PHS_INTEGER:
+        memcpy(&integer, &value[1], sizeof integer);
+        printf("%" PRId64, integer);
+        break;
+    case PHS_REAL:
+        memcpy(&real, &value[1], sizeof real);
+        printf("%.17g", real);
+        break;
+    case PHS_TEXT:
+        print_text(region + value[2], value[3]);
+        break;
+    case PHS_BLOB:
+        print_blob(region + value[2], value[3]);
+        break;
+    }
+    return refusal;
+}
+
+/* Prints a row and its columns on one line; returns the refusal. */
+static uint64_t print_row(const uint64_t *row, const uint64_t *entries, size_t columns, const uint8_t *region,
+                          size_t len)
+{
+    uint32_t bits = (uint32_t)row[PHS_ROW_CONFIDENCE];
+    uint64_t refusal = PHS_OK;
+    float confidence;
+
+    memcpy(&confidence, &bits, sizeof confidence);
+    printf("%" PRIu64 " %" PRIu64 " %.3f ", row[PHS_ROW_OFFSET], row[PHS_ROW_CONSUMED], confidence);
+    for (size_t i = 0; i < columns && refusal == PHS_OK; i++) {
+        if (i > 0)
+            printf(" | ");
+        refusal = print_entry(entries + i * PHS_WORDS_PER_ENTRY, region, len);
+    }
+    putchar('\n');
+    return refusal;
+}
+
+/* Prints the rows of a region and adds their number to `found`; returns the refusal. */
+static uint64_t carve(const uint8_t *region, size_t len, uint64_t base, const uint8_t *hints, size_t columns,
+                      uint64_t *found)
+{
+    uint64_t rows[ROOM * PHS_WORDS_PER_ROW];
+    uint64_t cols[ROOM * PHS_MOST_COLUMNS * PHS_WORDS_PER_ENTRY];
+    uint64_t out[3] = {0, 0, 0}; /* rows written, place, header bytes read */
+    uint64_t refusal;
+
+    do {
+        refusal = phs_scan_region(region, len, hints, columns, base, (size_t)out[1], rows, ROOM * PHS_WORDS_PER_ROW,
+                                  cols, ROOM * columns * PHS_WORDS_PER_ENTRY, out);
+        for (uint64_t i = 0; i < out[0]; i++) {
+            uint64_t bad = print_row(rows + i * PHS_WORDS_PER_ROW, cols + i * columns * PHS_WORDS_PER_ENTRY, columns,
+                                     region, len);
+            if (bad != PHS_OK)
+                return bad;
+        }
+        *found += out[0];
+    } while (refusal == PHS_NO_ROOM);
+    return refusal;
+}
+
+/* Carves the file, one region of `size` bytes after the other. */
+static int carve_file(FILE *file, const char *name, uint8_t *region, size_t size, const uint8_t *hints,
+                      size_t columns)
+{
+    uint64_t base = 0;
+    uint64_t found = 0;
+    size_t len;
+
+    do {
+        len = fread(region, 1, size, file);
+        if (ferror(file)) {
+            fprintf(stderr, "carve: %s: cannot be read\n", name);
+            return 1;
+        }
+        uint64_t refusal = carve(region, len, base, hints, columns, &found);
+        if (refusal != PHS_OK) {
+            fprintf(stderr, "carve: refused %" PRIu64 ": %s\n", refusal, REFUSALS[refusal]);
+            return 1;
+        }
+        base += len;
+    } while (len == size);
+    printf("rows %" PRIu64 "\n", found);
+    return 0;
+}
+
+int main(int argc, char **argv)
+{
+    uint8_t hints[PHS_MOST_COLUMNS];
+    unsigned long size = PHS_LARGEST_REGION;
+    char *rest = "";
+
+    if (argc != 3 && argc != 4) {
+        fprintf(stderr, "usage: carve FILE HINTS [PAGE]\n"
+                        "HINTS has a letter for each column: I integer, R real, T text, B blob, N null, A any;\n"
+                        "or a digit, its code from 0 to 5. PAGE is the file's page size\n");
+        return 2;
+    }
+    if (argc == 4)
+        size = strtoul(argv[3], &rest, 10);
+    if (*rest != '\0' || size < 1 || size > PHS_LARGEST_REGION) {
+        fprintf(stderr, "carve: a page has 1 to %d bytes, not '%s'\n", PHS_LARGEST_REGION, argv[3]);
+        return 2;
+    }
+    size_t columns = strlen(argv[2]);
+    if (columns < 1 || columns > PHS_MOST_COLUMNS) {
+        fprintf(stderr, "carve: give 1 to %d hints, not %zu\n", PHS_MOST_COLUMNS, columns);
+        return 2;
+    }
+    if (!read_hints(argv[2], hints)) {
+        fprintf(stderr, "carve: hints are letters of %s or digits from 0 to 5, not '%s'\n", LETTERS, argv[2]);
+        return 2;
+    }
+    FILE *file = fopen(argv[1], "rb");
+    if (file == NULL) {
+        fprintf(stderr, "carve: %s: %s\n", argv[1], strerror(errno));
+        return 1;
+    }
+    uint8_t *region = malloc(size);
+    int status = 1;
+    if (region == NULL)
+        fprintf(stderr, "carve: not enough memory\n");
+    else
+        status = carve_file(file, argv[1], region, size, hints, columns);
+    free(region);
+    fclose(file);
+    return status;
+}

@@ -1,0 +1,24 @@
+//! Safe calls into Phsarodil, which carves rows out of what is left in SQLite pages.
+//!
+//! The work is done by the proved library behind `include/phsarodil.h`; this crate lends it memory and gives its words
+//! names and types. Values borrow from the bytes that they were found in.
+//!
+//! ```
+//! use phsarodil::{scan, Hint, Value};
+//!
+//! let region = [0x03, 0x01, 0x17, 0x2a, 0x68, 0x69, 0x70, 0x69, 0x6b];
+//! for record in scan(&region, &[Hint::Integer, Hint::Text], 0)? {
+//!     assert_eq!(record.row.offset, 0);
+//!     assert_eq!(record.values()?, [Value::Integer(42), Value::Text(b"hipik")]);
+//! }
+//! # Ok::<(), phsarodil::Refusal>(())
+//! ```
+
+mod door;
+mod refusal;
+mod rows;
+mod values;
+
+pub use refusal::Refusal;
+pub use rows::{scan, try_parse_record, Hint, Mode, Record, Row, Scan, Source};
+pub use values::{body_length, decode_serial_type, read_varint, Entry, Value};

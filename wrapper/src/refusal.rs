@@ -1,0 +1,70 @@
+//! Why a call is refused.
+
+use std::error::Error;
+use std::fmt;
+
+/// A refusal; its number is that of the header.
+#[derive(Clone, Copy, Debug, PartialEq, Eq, Hash)]
+pub enum Refusal {
+    /// No hints, or more than 126.
+    ColumnCount = 1,
+    /// An unknown hint code, or a bad column entry.
+    Malformed = 2,
+    /// A region of more than 16 MiB.
+    TooLarge = 3,
+    /// A base above 2^48.
+    BaseTooFar = 4,
+    /// Not a page size of the file format.
+    PageSize = 5,
+    /// Page 0, or a page that is not wholly in the database.
+    NoSuchPage = 6,
+    /// A statement without brackets around its columns.
+    NoColumnList = 7,
+    /// Too few page flags, or a full page stack.
+    WalkSpace = 8,
+    /// One row more than there is room for.
+    NoRoom = 9,
+}
+
+impl Refusal {
+    /// The number of the header, 1 to 9.
+    pub fn number(self) -> u64 {
+        self as u64
+    }
+
+    /// What a call returned; `None` for 0, which is no refusal.
+    pub(crate) fn of(number: u64) -> Option<Refusal> {
+        Some(match number {
+            0 => return None,
+            1 => Refusal::ColumnCount,
+            2 => Refusal::Malformed,
+            3 => Refusal::TooLarge,
+            4 => Refusal::BaseTooFar,
+            5 => Refusal::PageSize,
+            6 => Refusal::NoSuchPage,
+            7 => Refusal::NoColumnList,
+            8 => Refusal::WalkSpace,
+            9 => Refusal::NoRoom,
+            other => unreachable!("the library returns 0 to 9, not {other}"),
+        })
+    }
+}
+
+impl fmt::Display for Refusal {
+    fn fmt(&self, f: &mut fmt::Formatter<'_>) -> fmt::Result {
+        let why = match self {
+            Refusal::ColumnCount => "a table has 1 to 126 columns",
+            Refusal::Malformed => "an unknown hint, or a bad column entry",
+            Refusal::TooLarge => "the region is larger than 16 MiB",
+            Refusal::BaseTooFar => "the base is above 2^48",
+            Refusal::PageSize => "not a page size",
+            Refusal::NoSuchPage => "no such page",
+            Refusal::NoColumnList => "the statement has no column list",
+            Refusal::WalkSpace => "too little space for the walk",
+            Refusal::NoRoom => "no room for another row",
+        };
+        write!(f, "refused {}: {why}", self.number())
+    }
+}
+
+impl Error for Refusal {}

@@ -1,0 +1,232 @@
+//! Varints, serial types, values and column entries.
+
+use crate::door;
+use crate::Refusal;
+
+/// A value, with the bytes of a text or a blob where they lie.
+#[derive(Clone, Copy, Debug, PartialEq)]
+pub enum Value<'a> {
+    Null,
+    Integer(i64),
+    Real(f64),
+    /// Bytes that need not be UTF-8.
+    Text(&'a [u8]),
+    Blob(&'a [u8]),
+}
+
+impl<'a> Value<'a> {
+    /// The value of a tag, the bits of a number, and the bytes of a text or a blob; `None` for the tag 0.
+    fn of(tag: u64, bits: u64, bytes: &'a [u8], start: u64, length: u64) -> Option<Value<'a>> {
+        let part = || &bytes[start as usize..][..length as usize];
+        Some(match tag {
+            0 => return None,
+            1 => Value::Null,
+            2 => Value::Integer(bits as i64),
+            3 => Value::Real(f64::from_bits(bits)),
+            4 => Value::Text(part()),
+            5 => Value::Blob(part()),
+            other => unreachable!("a tag is 0 to 5, not {other}"),
+        })
+    }
+}
+
+/// The varint at `offset` and the bytes that it takes, or `None` where it runs off the slice.
+pub fn read_varint(bytes: &[u8], offset: usize) -> Option<(u64, usize)> {
+    let mut out = [0; 3];
+    unsafe { door::phs_read_varint(bytes.as_ptr(), bytes.len(), offset, &mut out) };
+    let [found, value, taken] = out;
+    (found == 1).then_some((value, taken as usize))
+}
+
+/// The body length of a serial type; the types 10 and 11 have none.
+pub fn body_length(kind: u64) -> Option<u64> {
+    let mut out = [0; 2];
+    unsafe { door::phs_body_length(kind, &mut out) };
+    let [known, length] = out;
+    (known == 1).then_some(length)
+}
+
+/// The value of a serial type whose body starts at `offset` and the bytes that the body takes, or `None` where the type
+/// is 10 or 11 or the body leaves the slice.
+pub fn decode_serial_type(kind: u64, bytes: &[u8], offset: usize) -> Option<(Value<'_>, usize)> {
+    let mut out = [0; 4];
+    unsafe { door::phs_decode_serial_type(kind, bytes.as_ptr(), bytes.len(), offset, &mut out) };
+    let [tag, bits, start, taken] = out;
+    Some((Value::of(tag, bits, bytes, start, taken)?, taken as usize))
+}
+
+/// A column entry: a state (0 a body, 1 one that does not fit, 2 a lost column, 3 unused), a serial type, and where the
+/// body lies in the bytes that the row was found in.
+#[derive(Clone, Copy, Debug, PartialEq, Eq, Hash)]
+pub struct Entry {
+    pub state: u64,
+    pub kind: u64,
+    pub start: u64,
+    pub length: u64,
+}
+
+impl Entry {
+    pub(crate) const WORDS: usize = 4;
+
+    pub(crate) fn of(words: &[u64]) -> Entry {
+        Entry {
+            state: words[0],
+            kind: words[1],
+            start: words[2],
+            length: words[3],
+        }
+    }
+
+    /// The entry's value, or [`Refusal::Malformed`] for a bad entry.
+    pub fn read(self, bytes: &[u8]) -> Result<Value<'_>, Refusal> {
+        let Entry {
+            state,
+            kind,
+            start,
+            length,
+        } = self;
+        let mut out = [0; 4];
+        let number = unsafe {
+            door::phs_read_entry(
+                state,
+                kind,
+                start,
+                length,
+                bytes.as_ptr(),
+                bytes.len(),
+                &mut out,
+            )
+        };
+        let [tag, bits, start, length] = out;
+        match Refusal::of(number) {
+            Some(refusal) => Err(refusal),
+            None => Ok(Value::of(tag, bits, bytes, start, length)
+                .expect("what is not refused has a value")),
+        }
+    }
+
+    /// The bytes of a text or a blob; any other entry, a bad one too, has none.
+    pub fn view(self, bytes: &[u8]) -> &[u8] {
+        let Entry {
+            state,
+            kind,
+            start,
+            length,
+        } = self;
+        let mut out = [0; 2];
+        unsafe {
+            door::phs_view_entry(
+                state,
+                kind,
+                start,
+                length,
+                bytes.as_ptr(),
+                bytes.len(),
+                &mut out,
+            )
+        };
+        let [start, length] = out;
+        &bytes[start as usize..][..length as usize]
+    }
+}
+
+#[cfg(test)]
+mod tests {
+    use super::*;
+
+    #[test]
+    fn varints() {
+        assert_eq!(read_varint(&[0x81, 0x00], 0), Some((128, 2)));
+        assert_eq!(read_varint(&[0x7f, 0x80, 0x02], 1), Some((2, 2)));
+        assert_eq!(read_varint(&[0xff; 9], 0), Some((u64::MAX, 9)));
+        assert_eq!(read_varint(&[0x81], 0), None);
+        assert_eq!(read_varint(&[], usize::MAX), None);
+    }
+
+    #[test]
+    fn lengths() {
+        assert_eq!(
+            [0, 5, 7, 9].map(body_length),
+            [Some(0), Some(6), Some(8), Some(0)]
+        );
+        assert_eq!(
+            [10, 11, 12, 13].map(body_length),
+            [None, None, Some(0), Some(0)]
+        );
+        assert_eq!(body_length(u64::MAX), Some((u64::MAX - 13) / 2));
+    }
+
+    #[test]
+    fn integers_keep_their_sign() {
+        let int = |kind, bytes: &[u8]| match decode_serial_type(kind, bytes, 0) {
+            Some((Value::Integer(v), n)) => (v, n),
+            other => panic!("{other:?}"),
+        };
+        assert_eq!(int(1, &[0x80]), (-128, 1));
+        assert_eq!(int(3, &[0x80, 0, 0]), (-8388608, 3));
+        assert_eq!(int(5, &[0xff, 0xff, 0xff, 0xff, 0xff, 0xfe]), (-2, 6));
+        assert_eq!(int(6, &[0x80, 0, 0, 0, 0, 0, 0, 0]), (i64::MIN, 8));
+        assert_eq!(
+            int(6, &[0x7f, 0xff, 0xff, 0xff, 0xff, 0xff, 0xff, 0xff]),
+            (i64::MAX, 8)
+        );
+        assert_eq!(int(9, &[]), (1, 0));
+    }
+
+    #[test]
+    fn reals_keep_their_bits() {
+        let payload = 0x7ff8_0000_0000_1234_u64;
+        let mut bytes = vec![0xaa];
+        bytes.extend(payload.to_be_bytes());
+        match decode_serial_type(7, &bytes, 1) {
+            Some((Value::Real(x), 8)) => assert_eq!(x.to_bits(), payload),
+            other => panic!("{other:?}"),
+        }
+        assert_eq!(decode_serial_type(7, &bytes, 2), None);
+    }
+
+    #[test]
+    fn texts_and_blobs_are_parts_of_the_slice() {
+        assert_eq!(
+            decode_serial_type(23, b"..hipik", 2),
+            Some((Value::Text(b"hipik"), 5))
+        );
+        assert_eq!(
+            decode_serial_type(16, b"..hipik", 2),
+            Some((Value::Blob(b"hi"), 2))
+        );
+        assert_eq!(decode_serial_type(23, b"..hipik", 3), None);
+        assert_eq!(decode_serial_type(10, b"..hipik", 0), None);
+    }
+
+    #[test]
+    fn entries() {
+        let text = Entry {
+            state: 0,
+            kind: 23,
+            start: 2,
+            length: 5,
+        };
+        assert_eq!(text.read(b"..hipik"), Ok(Value::Text(b"hipik")));
+        assert_eq!(text.view(b"..hipik"), b"hipik");
+        assert_eq!(text.read(b"..hipi"), Err(Refusal::Malformed));
+        assert_eq!(text.view(b"..hipi"), b"");
+        assert_eq!(Entry { state: 2, ..text }.read(b""), Ok(Value::Null));
+        assert_eq!(
+            Entry { state: 4, ..text }.read(b"..hipik"),
+            Err(Refusal::Malformed)
+        );
+        assert_eq!(
+            Entry { length: 4, ..text }.read(b"..hipik"),
+            Err(Refusal::Malformed)
+        );
+        let number = Entry {
+            state: 0,
+            kind: 1,
+            start: 0,
+            length: 1,
+        };
+        assert_eq!(number.read(b"*"), Ok(Value::Integer(42)));
+        assert_eq!(number.view(b"*"), b"");
+    }
+}

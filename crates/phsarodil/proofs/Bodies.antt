@@ -18,7 +18,7 @@ use Rattle.record.specs.declared.record.Length.{Length}
 use Rattle.record.specs.declared.record.Length.the-variants.{Bytes, Reserved}
 use Rattle.record.specs.declared.record.Value.{Value}
 use Rattle.record.specs.declared.record.Value.the-variants.{Null}
-use Rattle.phsarodil.specs.Door.{BodyThere}
+use Rattle.phsarodil.specs.Inner.{BodyThere}
 
 pick : {A : Type 0} (P : A → Type 0) (b : Bool) {x y : A} → (b ≡ true → P x) → P y → P (cond b x y)
 pick P true p q = p refl
@@ -90,7 +90,7 @@ as-many zero l = refl
 as-many (suc n) [] = refl
 as-many (suc n) (x ∷ l) = ap (λ k. x ∷ k) (as-many n l)
 
--- THE LAW: so they are those that the words of `phs_view_entry` name, from the entry's start on
+-- THE LAW: they are those that the words of `phs_view_entry` name, so many from the entry's start on
 pub view-named : (e : Entry) (s : List ℕ) → take (length (entryBytes e s)) (drop (e .start) s) ≡ entryBytes e s
 unfolding entryBytes readEntry valueOf
 view-named e s =

@@ -1,6 +1,6 @@
 -- The words that a call writes into `out` for its answer, and the number that it returns where the answer's own crate has none for it.
 -- Assumes nothing.
-use Prim.Native.Nat.{ℕ, _+_, _-_, _^_, _≤_}
+use Prim.Native.Nat.{ℕ, _-_, _^_}
 use mathlib.Core.Bool.{cond}
 use mathlib.Core.List.{List, [], _∷_}
 use lib.Dec.{eqb}
@@ -77,14 +77,6 @@ lengthOf (Blob start n) = n
 abbrev pub decodedWords : List ℕ → ℕ → Decoded → List ℕ
 decodedWords s at (Of v n) = tagOf v ∷ bitsOf s at v ∷ startOf v ∷ n ∷ []
 decodedWords s at Nothing = 0 ∷ 0 ∷ 0 ∷ 0 ∷ []
-
--- the code asks itself that the eight bytes of a real are there
-abbrev pub BodyThere : List ℕ → ℕ → Value → Type 0
-BodyThere s at Null = Unit
-BodyThere s at (Int z) = Unit
-BodyThere s at (Real x) = at + 8 ≤ length s
-BodyThere s at (Text start n) = Unit
-BodyThere s at (Blob start n) = Unit
 
 -- ---- an entry
 abbrev pub entryOf : ℕ → ℕ → ℕ → ℕ → Entry

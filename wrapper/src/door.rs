@@ -1,66 +1,166 @@
-//! The calls as `include/phsarodil.h` declares them. A slice is a pointer and a length; the library keeps to both, and
-//! a Rust slice is never null, so each call is sound for any slices that do not overlap.
+//! The calls of `include/phsarodil.h` over slices: each answers the refusal number and the words. All that is unsafe
+//! stands here. A call is sound for any slices: the library keeps to their lengths, a slice's pointer is never null, and
+//! the borrow checker sees to it that what is written overlaps nothing.
 
-extern "C" {
-    pub fn phs_read_varint(bytes: *const u8, len: usize, offset: usize, out: *mut [u64; 3]) -> u64;
+/// A refusal number, 0 for none, with the words of `out`.
+pub type Answer<const N: usize> = (u64, [u64; N]);
 
-    pub fn phs_body_length(kind: u64, out: *mut [u64; 2]) -> u64;
+/// Declared as in the header.
+mod c {
+    extern "C" {
+        pub fn phs_read_varint(
+            bytes: *const u8,
+            len: usize,
+            offset: usize,
+            out: *mut [u64; 3],
+        ) -> u64;
 
-    pub fn phs_decode_serial_type(
-        kind: u64,
-        bytes: *const u8,
-        len: usize,
-        offset: usize,
-        out: *mut [u64; 4],
-    ) -> u64;
+        pub fn phs_body_length(kind: u64, out: *mut [u64; 2]) -> u64;
 
-    pub fn phs_read_entry(
-        state: u64,
-        kind: u64,
-        start: u64,
-        length: u64,
-        bytes: *const u8,
-        len: usize,
-        out: *mut [u64; 4],
-    ) -> u64;
+        pub fn phs_decode_serial_type(
+            kind: u64,
+            bytes: *const u8,
+            len: usize,
+            offset: usize,
+            out: *mut [u64; 4],
+        ) -> u64;
 
-    pub fn phs_view_entry(
-        state: u64,
-        kind: u64,
-        start: u64,
-        length: u64,
-        bytes: *const u8,
-        len: usize,
-        out: *mut [u64; 2],
-    ) -> u64;
+        pub fn phs_read_entry(
+            state: u64,
+            kind: u64,
+            start: u64,
+            length: u64,
+            bytes: *const u8,
+            len: usize,
+            out: *mut [u64; 4],
+        ) -> u64;
 
-    pub fn phs_is_compatible(hint: u8, kind: u64, out: *mut [u64; 1]) -> u64;
+        pub fn phs_view_entry(
+            state: u64,
+            kind: u64,
+            start: u64,
+            length: u64,
+            bytes: *const u8,
+            len: usize,
+            out: *mut [u64; 2],
+        ) -> u64;
 
-    pub fn phs_try_parse_record(
-        region: *const u8,
-        len: usize,
-        hints: *const u8,
-        hints_len: usize,
-        base: u64,
-        offset: usize,
-        rows: *mut u64,
-        rows_len: usize,
-        cols: *mut u64,
-        cols_len: usize,
-        out: *mut [u64; 3],
-    ) -> u64;
+        pub fn phs_is_compatible(hint: u8, kind: u64, out: *mut [u64; 1]) -> u64;
 
-    pub fn phs_scan_region(
-        region: *const u8,
-        len: usize,
-        hints: *const u8,
-        hints_len: usize,
-        base: u64,
-        start: usize,
-        rows: *mut u64,
-        rows_len: usize,
-        cols: *mut u64,
-        cols_len: usize,
-        out: *mut [u64; 3],
-    ) -> u64;
+        pub fn phs_try_parse_record(
+            region: *const u8,
+            len: usize,
+            hints: *const u8,
+            hints_len: usize,
+            base: u64,
+            offset: usize,
+            rows: *mut u64,
+            rows_len: usize,
+            cols: *mut u64,
+            cols_len: usize,
+            out: *mut [u64; 3],
+        ) -> u64;
+
+        pub fn phs_scan_region(
+            region: *const u8,
+            len: usize,
+            hints: *const u8,
+            hints_len: usize,
+            base: u64,
+            start: usize,
+            rows: *mut u64,
+            rows_len: usize,
+            cols: *mut u64,
+            cols_len: usize,
+            out: *mut [u64; 3],
+        ) -> u64;
+    }
+}
+
+fn answer<const N: usize>(call: impl FnOnce(*mut [u64; N]) -> u64) -> Answer<N> {
+    let mut out = [0; N];
+    let number = call(&mut out);
+    (number, out)
+}
+
+pub fn read_varint(bytes: &[u8], offset: usize) -> Answer<3> {
+    answer(|out| unsafe { c::phs_read_varint(bytes.as_ptr(), bytes.len(), offset, out) })
+}
+
+pub fn body_length(kind: u64) -> Answer<2> {
+    answer(|out| unsafe { c::phs_body_length(kind, out) })
+}
+
+pub fn decode_serial_type(kind: u64, bytes: &[u8], offset: usize) -> Answer<4> {
+    answer(|out| unsafe {
+        c::phs_decode_serial_type(kind, bytes.as_ptr(), bytes.len(), offset, out)
+    })
+}
+
+/// Of an entry's four words.
+pub fn read_entry([state, kind, start, length]: [u64; 4], bytes: &[u8]) -> Answer<4> {
+    answer(|out| unsafe {
+        c::phs_read_entry(state, kind, start, length, bytes.as_ptr(), bytes.len(), out)
+    })
+}
+
+/// Of an entry's four words.
+pub fn view_entry([state, kind, start, length]: [u64; 4], bytes: &[u8]) -> Answer<2> {
+    answer(|out| unsafe {
+        c::phs_view_entry(state, kind, start, length, bytes.as_ptr(), bytes.len(), out)
+    })
+}
+
+pub fn is_compatible(hint: u8, kind: u64) -> Answer<1> {
+    answer(|out| unsafe { c::phs_is_compatible(hint, kind, out) })
+}
+
+pub fn try_parse_record(
+    region: &[u8],
+    hints: &[u8],
+    base: u64,
+    offset: usize,
+    rows: &mut [u64],
+    cols: &mut [u64],
+) -> Answer<3> {
+    answer(|out| unsafe {
+        c::phs_try_parse_record(
+            region.as_ptr(),
+            region.len(),
+            hints.as_ptr(),
+            hints.len(),
+            base,
+            offset,
+            rows.as_mut_ptr(),
+            rows.len(),
+            cols.as_mut_ptr(),
+            cols.len(),
+            out,
+        )
+    })
+}
+
+pub fn scan_region(
+    region: &[u8],
+    hints: &[u8],
+    base: u64,
+    start: usize,
+    rows: &mut [u64],
+    cols: &mut [u64],
+) -> Answer<3> {
+    answer(|out| unsafe {
+        c::phs_scan_region(
+            region.as_ptr(),
+            region.len(),
+            hints.as_ptr(),
+            hints.len(),
+            base,
+            start,
+            rows.as_mut_ptr(),
+            rows.len(),
+            cols.as_mut_ptr(),
+            cols.len(),
+            out,
+        )
+    })
 }

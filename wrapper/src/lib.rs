@@ -14,6 +14,9 @@
 //! # Ok::<(), phsarodil::Refusal>(())
 //! ```
 
+#![deny(unsafe_code)]
+
+#[allow(unsafe_code)]
 mod door;
 mod refusal;
 mod rows;

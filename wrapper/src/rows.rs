@@ -17,9 +17,7 @@ pub enum Hint {
 impl Hint {
     /// Whether a serial type suits the hint.
     pub fn suits(self, kind: u64) -> bool {
-        let mut out = [0; 1];
-        unsafe { door::phs_is_compatible(self as u8, kind, &mut out) };
-        out == [1]
+        door::is_compatible(self as u8, kind) == (0, [1])
     }
 }
 
@@ -146,25 +144,12 @@ pub fn try_parse_record<'a>(
 ) -> Result<Option<Record<'a>>, Refusal> {
     let codes = codes(hints);
     let mut lists = Lists::new(1, codes.len());
-    let mut out = [0; 3];
-    let number = unsafe {
-        door::phs_try_parse_record(
-            region.as_ptr(),
-            region.len(),
-            codes.as_ptr(),
-            codes.len(),
-            base,
-            offset,
-            lists.rows.as_mut_ptr(),
-            lists.rows.len(),
-            lists.cols.as_mut_ptr(),
-            lists.cols.len(),
-            &mut out,
-        )
-    };
+    let Lists { rows, cols, .. } = &mut lists;
+    let (number, [written, _, _]) =
+        door::try_parse_record(region, &codes, base, offset, rows, cols);
     match Refusal::of(number) {
         Some(refusal) => Err(refusal),
-        None => Ok((out[0] == 1).then(|| lists.record(0, region))),
+        None => Ok((written == 1).then(|| lists.record(0, region))),
     }
 }
 
@@ -223,29 +208,15 @@ impl<'a> Scan<'a> {
     }
 
     fn go_on(&mut self) -> Result<(), Refusal> {
-        let mut out = [0; 3];
-        let number = unsafe {
-            door::phs_scan_region(
-                self.region.as_ptr(),
-                self.region.len(),
-                self.codes.as_ptr(),
-                self.codes.len(),
-                self.base,
-                self.place,
-                self.lists.rows.as_mut_ptr(),
-                self.lists.rows.len(),
-                self.lists.cols.as_mut_ptr(),
-                self.lists.cols.len(),
-                &mut out,
-            )
-        };
-        let [rows, place, read] = out;
+        let Lists { rows, cols, .. } = &mut self.lists;
+        let (number, [written, place, read]) =
+            door::scan_region(self.region, &self.codes, self.base, self.place, rows, cols);
         self.more = match Refusal::of(number) {
             None => false,
             Some(Refusal::NoRoom) => true,
             Some(refusal) => return Err(refusal),
         };
-        self.filled = rows as usize;
+        self.filled = written as usize;
         self.given = 0;
         self.place = place as usize;
         self.header_bytes += read;

@@ -32,26 +32,20 @@ impl<'a> Value<'a> {
 
 /// The varint at `offset` and the bytes that it takes, or `None` where it runs off the slice.
 pub fn read_varint(bytes: &[u8], offset: usize) -> Option<(u64, usize)> {
-    let mut out = [0; 3];
-    unsafe { door::phs_read_varint(bytes.as_ptr(), bytes.len(), offset, &mut out) };
-    let [found, value, taken] = out;
+    let (_, [found, value, taken]) = door::read_varint(bytes, offset);
     (found == 1).then_some((value, taken as usize))
 }
 
 /// The body length of a serial type; the types 10 and 11 have none.
 pub fn body_length(kind: u64) -> Option<u64> {
-    let mut out = [0; 2];
-    unsafe { door::phs_body_length(kind, &mut out) };
-    let [known, length] = out;
+    let (_, [known, length]) = door::body_length(kind);
     (known == 1).then_some(length)
 }
 
 /// The value of a serial type whose body starts at `offset` and the bytes that the body takes, or `None` where the type
 /// is 10 or 11 or the body leaves the slice.
 pub fn decode_serial_type(kind: u64, bytes: &[u8], offset: usize) -> Option<(Value<'_>, usize)> {
-    let mut out = [0; 4];
-    unsafe { door::phs_decode_serial_type(kind, bytes.as_ptr(), bytes.len(), offset, &mut out) };
-    let [tag, bits, start, taken] = out;
+    let (_, [tag, bits, start, taken]) = door::decode_serial_type(kind, bytes, offset);
     Some((Value::of(tag, bits, bytes, start, taken)?, taken as usize))
 }
 
@@ -77,27 +71,13 @@ impl Entry {
         }
     }
 
+    fn words(self) -> [u64; Entry::WORDS] {
+        [self.state, self.kind, self.start, self.length]
+    }
+
     /// The entry's value, or [`Refusal::Malformed`] for a bad entry.
     pub fn read(self, bytes: &[u8]) -> Result<Value<'_>, Refusal> {
-        let Entry {
-            state,
-            kind,
-            start,
-            length,
-        } = self;
-        let mut out = [0; 4];
-        let number = unsafe {
-            door::phs_read_entry(
-                state,
-                kind,
-                start,
-                length,
-                bytes.as_ptr(),
-                bytes.len(),
-                &mut out,
-            )
-        };
-        let [tag, bits, start, length] = out;
+        let (number, [tag, bits, start, length]) = door::read_entry(self.words(), bytes);
         match Refusal::of(number) {
             Some(refusal) => Err(refusal),
             None => Ok(Value::of(tag, bits, bytes, start, length)
@@ -107,25 +87,7 @@ impl Entry {
 
     /// The bytes of a text or a blob; any other entry, a bad one too, has none.
     pub fn view(self, bytes: &[u8]) -> &[u8] {
-        let Entry {
-            state,
-            kind,
-            start,
-            length,
-        } = self;
-        let mut out = [0; 2];
-        unsafe {
-            door::phs_view_entry(
-                state,
-                kind,
-                start,
-                length,
-                bytes.as_ptr(),
-                bytes.len(),
-                &mut out,
-            )
-        };
-        let [start, length] = out;
+        let (_, [start, length]) = door::view_entry(self.words(), bytes);
         &bytes[start as usize..][..length as usize]
     }
 }

@@ -3,6 +3,8 @@
 use mathlib.Core.Path.{sym, _∙_}
 use denote.Ref.{now}
 use Rattle.record.proofs.Unique.{Fixes, FixesSeen}
+use Rattle.phsarodil.proofs.lists.phs_boyer_moore_search.Reads as boyer-moore-search
+use Rattle.phsarodil.proofs.lists.phs_from_create_sql.Reads as from-create-sql
 use Rattle.phsarodil.proofs.rows.phs_is_compatible.Reads as is-compatible
 use Rattle.phsarodil.proofs.rows.phs_scan_region.Reads as scan-region
 use Rattle.phsarodil.proofs.rows.phs_try_parse_record.Reads as try-parse-record
@@ -73,3 +75,21 @@ scan-region-rows k a x y s t p q = p .1 .1 .0 ∙ sym (q .1 .1 .0)
 
 pub scan-region-cols : FixesSeen scan-region.Post (λ k r s. now (s .1 .1 .1 .1 .1 .0))
 scan-region-cols k a x y s t p q = p .1 .1 .1 ∙ sym (q .1 .1 .1)
+
+pub from-create-sql-number : Fixes from-create-sql.Post
+from-create-sql-number k a x y s t p q = p .0 ∙ sym (q .0)
+
+pub from-create-sql-words : FixesSeen from-create-sql.Post (λ k r s. now (s .1 .1 .0))
+from-create-sql-words k a x y s t p q = p .1 .0 ∙ sym (q .1 .0)
+
+pub from-create-sql-hints : FixesSeen from-create-sql.Post (λ k r s. now (s .1 .0))
+from-create-sql-hints k a x y s t p q = p .1 .1 ∙ sym (q .1 .1)
+
+pub boyer-moore-search-number : Fixes boyer-moore-search.Post
+boyer-moore-search-number k a x y s t p q = p .0 ∙ sym (q .0)
+
+pub boyer-moore-search-words : FixesSeen boyer-moore-search.Post (λ k r s. now (s .1 .1 .1 .0))
+boyer-moore-search-words k a x y s t p q = p .1 .0 ∙ sym (q .1 .0)
+
+pub boyer-moore-search-places : FixesSeen boyer-moore-search.Post (λ k r s. now (s .1 .1 .0))
+boyer-moore-search-places k a x y s t p q = p .1 .1 ∙ sym (q .1 .1)

@@ -1,0 +1,30 @@
+-- `phs_boyer_moore_search` meets its contract: number, word and list are those of the search.
+-- Assumes nothing.
+use borrow.Author.Needs.{needs}
+use Rattle.phsarodil.proofs.lists.phs_boyer_moore_search.Statement.{statement}
+use Rattle.phsarodil.proofs.lists.phs_boyer_moore_search.Tie as tie
+
+boyer-moore-search-requires : tie.Need-boyer-moore-search-requires
+boyer-moore-search-requires c κs = search needs
+
+searched-written-requires : tie.Need-searched-written-requires
+searched-written-requires c κs = search needs
+
+searched-number-requires : tie.Need-searched-number-requires
+searched-number-requires c κs = search needs
+
+same-length : tie.Need-same-length
+same-length c = search needs
+
+returns : tie.Need-returns
+returns c = (cc, (cc, cc))
+
+pub phs-boyer-moore-search-spec : {M : Type 1} → statement M
+phs-boyer-moore-search-spec =
+    tie.close
+    (tie.spec
+    boyer-moore-search-requires
+    searched-written-requires
+    searched-number-requires
+    same-length
+    returns)

@@ -1,0 +1,30 @@
+-- `phs_from_create_sql` meets its contract: number, word and list are those of the statement.
+-- Assumes nothing.
+use borrow.Author.Needs.{needs}
+use Rattle.phsarodil.proofs.lists.phs_from_create_sql.Statement.{statement}
+use Rattle.phsarodil.proofs.lists.phs_from_create_sql.Tie as tie
+
+from-create-sql-requires : tie.Need-from-create-sql-requires
+from-create-sql-requires c κs = search needs
+
+hinted-written-requires : tie.Need-hinted-written-requires
+hinted-written-requires c κs = search needs
+
+hinted-number-requires : tie.Need-hinted-number-requires
+hinted-number-requires c κs = search needs
+
+same-length : tie.Need-same-length
+same-length c = search needs
+
+returns : tie.Need-returns
+returns c = (cc, (cc, cc))
+
+pub phs-from-create-sql-spec : {M : Type 1} → statement M
+phs-from-create-sql-spec =
+    tie.close
+    (tie.spec
+    from-create-sql-requires
+    hinted-written-requires
+    hinted-number-requires
+    same-length
+    returns)

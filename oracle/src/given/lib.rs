@@ -1,0 +1,14 @@
+//! The given Rust, as build.rs opens it up, with stand-ins for the types that were not given.
+
+extern crate self as chat4n6_plugin_api;
+
+include!(concat!(env!("OUT_DIR"), "/given.rs"));
+
+/// Stands in for a type of the host program: the cases that the given text makes.
+#[derive(Debug, Clone, PartialEq)]
+pub enum EvidenceSource {
+    Live,
+    Freelist,
+    CarvedIntraPage { confidence_pct: u8 },
+    CarvedUnalloc { confidence_pct: u8 },
+}

@@ -1,0 +1,85 @@
+//! The calls of the C interface: for each, the answer by the rules and the answer of the given Rust. A new call is a
+//! line here, a case in server/server.c, and a file of cases.
+
+pub mod entry;
+pub mod scan;
+pub mod statement;
+pub mod value;
+
+use crate::case::{Answer, Case, Cell};
+use crate::rules::limits::Limits;
+
+/// What the given Rust says of an answer.
+#[derive(Clone, Debug, PartialEq, Eq)]
+pub enum Given {
+    Agrees,
+    Differs(String),
+    /// The case is outside the domain for comparing; the rules alone decide.
+    NotAsked,
+}
+
+pub struct Call {
+    pub name: &'static str,
+    pub numbers: usize,
+    pub slices: usize,
+    /// The words of `out`.
+    pub out: usize,
+    pub lists: &'static [Cell],
+    pub answer: fn(&Limits, &Case) -> Answer,
+    pub given: fn(&Case, &Answer) -> Given,
+}
+
+pub const READ_VARINT: u8 = 1;
+pub const BODY_LENGTH: u8 = 2;
+pub const DECODE: u8 = 3;
+pub const READ_ENTRY: u8 = 4;
+pub const VIEW_ENTRY: u8 = 5;
+pub const COMPATIBLE: u8 = 6;
+pub const ATTEMPT: u8 = 7;
+pub const SCAN: u8 = 8;
+pub const STATEMENT: u8 = 9;
+pub const SEARCH: u8 = 10;
+
+const ROWS_AND_COLUMNS: &[Cell] = &[Cell::Word, Cell::Word];
+
+/// The call with the number n stands at n - 1.
+pub const CALLS: &[Call] = &[
+    call("read_varint", (1, 1, 3), &[], value::varint, value::given_varint),
+    call("body_length", (1, 0, 2), &[], value::body, value::given_body),
+    call("decode_serial_type", (2, 1, 4), &[], value::decode, value::given_decode),
+    call("read_entry", (4, 1, 4), &[], entry::read, entry::given_read),
+    call("view_entry", (4, 1, 2), &[], entry::view, entry::given_view),
+    call("is_compatible", (2, 0, 1), &[], value::compatible, value::given_compatible),
+    call("try_parse_record", (2, 2, 3), ROWS_AND_COLUMNS, scan::attempt, scan::given_attempt),
+    call("scan_region", (2, 2, 3), ROWS_AND_COLUMNS, scan::scan, scan::given_scan),
+    call("from_create_sql", (0, 1, 1), &[Cell::Byte], statement::statement, statement::given_statement),
+    call("boyer_moore_search", (0, 2, 1), &[Cell::Word], statement::search, statement::given_search),
+];
+
+const fn call(
+    name: &'static str,
+    (numbers, slices, out): (usize, usize, usize),
+    lists: &'static [Cell],
+    answer: fn(&Limits, &Case) -> Answer,
+    given: fn(&Case, &Answer) -> Given,
+) -> Call {
+    Call { name, numbers, slices, out, lists, answer, given }
+}
+
+pub fn of(case: &Case) -> &'static Call {
+    &CALLS[case.call as usize - 1]
+}
+
+/// Agrees, or differs with both sides shown.
+pub fn held<T: PartialEq + std::fmt::Debug>(what: &str, rust: T, rules: T) -> Given {
+    if rust == rules {
+        Given::Agrees
+    } else {
+        Given::Differs(format!("{what}: the Rust says {rust:?}, the rules {rules:?}"))
+    }
+}
+
+/// The first of them that does not agree.
+pub fn all(parts: impl IntoIterator<Item = Given>) -> Given {
+    parts.into_iter().find(|g| *g != Given::Agrees).unwrap_or(Given::Agrees)
+}

@@ -1,0 +1,8 @@
+//! The rules, written plainly: what each call has to answer, refusals and header counts too. Nothing here is taken
+//! from the proved code, and nothing is fast.
+
+pub mod attempt;
+pub mod limits;
+pub mod statement;
+pub mod value;
+pub mod varint;

@@ -1,0 +1,102 @@
+//! One attempt at an offset, and the scan over a region.
+
+use crate::rules::limits::Limits;
+use crate::rules::value::body_length;
+use crate::rules::varint::{read, Varint};
+
+/// A row that an attempt finds. Places count from the attempt's offset.
+pub struct Found {
+    pub header: u64,
+    pub kinds: Vec<u64>,
+    pub suited: usize,
+    pub consumed: u64,
+}
+
+pub struct Attempt {
+    /// How many header bytes it read.
+    pub read: u64,
+    pub found: Option<Found>,
+}
+
+pub fn suits(hint: u8, kind: u64) -> bool {
+    match hint {
+        0 => kind <= 6 || kind == 8 || kind == 9,
+        1 => kind == 0 || kind == 7,
+        2 => kind == 0 || (kind >= 13 && kind % 2 == 1),
+        3 => kind == 0 || (kind >= 12 && kind.is_multiple_of(2)),
+        4 => kind == 0,
+        _ => hint == 5,
+    }
+}
+
+pub fn attempt(limits: &Limits, region: &[u8], hints: &[u8], o: usize) -> Attempt {
+    let part = region.get(o..).unwrap_or(&[]);
+    let (header, width) = match read(limits, part, 0) {
+        Varint::Whole { value, width } => (value, width),
+        Varint::Cut(read) => return miss(read),
+    };
+    let passed = header >= limits.least_header && header <= limits.most_header && header <= part.len() as u64;
+    if !passed {
+        return miss(width);
+    }
+    let mut kinds = Vec::new();
+    let mut at = width;
+    while (at as u64) < header {
+        match read(limits, part, at) {
+            Varint::Whole { value, width } => {
+                kinds.push(value);
+                at += width;
+            }
+            Varint::Cut(more) => return miss(at + more),
+        }
+    }
+    Attempt { read: at as u64, found: judge(limits, part.len(), hints, header, kinds) }
+}
+
+fn miss(read: usize) -> Attempt {
+    Attempt { read: read as u64, found: None }
+}
+
+/// Whether the types make a row.
+fn judge(limits: &Limits, length: usize, hints: &[u8], header: u64, kinds: Vec<u64>) -> Option<Found> {
+    if kinds.len() != hints.len() {
+        return None;
+    }
+    let suited = hints.iter().zip(&kinds).filter(|(h, k)| suits(**h, **k)).count();
+    let mut end = u128::from(header);
+    for &kind in &kinds {
+        end += u128::from(body_length(kind)?);
+    }
+    let fits = suited > 0 && end <= length as u128 && end <= u128::from(limits.consumed);
+    fits.then_some(Found { header, kinds, suited, consumed: end as u64 })
+}
+
+/// What a scan comes to.
+pub struct Scan {
+    pub rows: Vec<(usize, Found)>,
+    /// A row found no room.
+    pub full: bool,
+    pub place: usize,
+    pub read: u64,
+}
+
+pub fn scan(limits: &Limits, region: &[u8], hints: &[u8], start: usize, room: usize) -> Scan {
+    let mut scan = Scan { rows: Vec::new(), full: false, place: region.len(), read: 0 };
+    let mut o = start;
+    while o < region.len().saturating_sub(2) {
+        let tried = attempt(limits, region, hints, o);
+        let mut step = 1;
+        if let Some(found) = tried.found {
+            if scan.rows.len() == room {
+                scan.full = true;
+                scan.place = o;
+                return scan;
+            }
+            step = found.consumed as usize;
+            scan.rows.push((o, found));
+        }
+        scan.read += tried.read;
+        o += step;
+    }
+    scan
+}

@@ -1,0 +1,54 @@
+//! The numbers of the rules. They stand in a value so that the oracle's own test can change one.
+
+#[derive(Clone, Debug)]
+pub struct Limits {
+    pub columns: usize,
+    pub hint: u8,
+    pub region: usize,
+    pub base: u64,
+    pub statement: usize,
+    pub least_header: u64,
+    pub most_header: u64,
+    pub consumed: u64,
+    /// How many bytes of a varint may ask for more.
+    pub more_bytes: usize,
+}
+
+pub const WORDS_PER_ROW: usize = 8;
+pub const WORDS_PER_ENTRY: usize = 4;
+
+impl Limits {
+    pub fn of_the_rules() -> Limits {
+        Limits {
+            columns: 126,
+            hint: 5,
+            region: 16_777_216,
+            base: 1 << 48,
+            statement: 65_536,
+            least_header: 2,
+            most_header: 512,
+            consumed: 65_536,
+            more_bytes: 8,
+        }
+    }
+
+    /// The first refusal of a call over one region and one table.
+    pub fn region_refusal(&self, region: &[u8], hints: &[u8], base: u64) -> Option<u64> {
+        first(&[
+            (1, hints.is_empty() || hints.len() > self.columns),
+            (2, hints.iter().any(|&h| h > self.hint)),
+            (3, region.len() > self.region),
+            (4, base > self.base),
+        ])
+    }
+}
+
+/// The number of the first test that holds.
+pub fn first(tests: &[(u64, bool)]) -> Option<u64> {
+    tests.iter().find(|t| t.1).map(|t| t.0)
+}
+
+/// How many rows two lists hold, each with a group of `width` entries.
+pub fn room(rows: usize, cols: usize, width: usize) -> usize {
+    (rows / WORDS_PER_ROW).min(cols / (WORDS_PER_ENTRY * width))
+}

@@ -1,0 +1,25 @@
+//! Varints: the width first, then the value.
+
+use crate::rules::limits::Limits;
+
+pub enum Varint {
+    Whole {
+        value: u64,
+        width: usize,
+    },
+    /// It runs off the slice, after so many bytes.
+    Cut(usize),
+}
+
+pub fn read(limits: &Limits, bytes: &[u8], at: usize) -> Varint {
+    let rest = bytes.get(at..).unwrap_or(&[]);
+    let asking = rest.iter().take(limits.more_bytes).take_while(|&&b| b >= 128).count();
+    if asking >= rest.len() {
+        return Varint::Cut(rest.len());
+    }
+    let high = rest[..asking].iter().fold(0u64, |v, &b| v << 7 | u64::from(b & 127));
+    let last = u64::from(rest[asking]);
+    // The byte behind eight that ask for more gives all its bits.
+    let bits = if asking == limits.more_bytes { 8 } else { 7 };
+    Varint::Whole { value: high << bits | last, width: asking + 1 }
+}

@@ -1,0 +1,179 @@
+//! Runs cases through all three sides in batches and stops at the first difference, which it cuts down.
+
+use crate::calls;
+use crate::case::Case;
+use crate::compare::{against_ours, against_the_rust, expected};
+use crate::panics;
+use crate::rules::limits::Limits;
+use crate::server::{Left, Server};
+use crate::shrink::shrink;
+use crate::tally::Tally;
+use crate::text;
+use std::io;
+
+/// Where generated cases go.
+pub trait Sink {
+    fn put(&mut self, case: Case);
+}
+
+/// A batch is answered when it has so many cases, or cases of so many bytes and cells.
+const BATCH_CASES: usize = 4096;
+const BATCH_SIZE: usize = 1 << 20;
+
+/// Which sides are held against the rules; the oracle's own test looks at one at a time.
+#[derive(Clone, Copy, PartialEq, Eq)]
+pub enum Sides {
+    Both,
+    RustOnly,
+    OursOnly,
+}
+
+pub struct Difference {
+    pub case: Case,
+    pub why: String,
+    pub first: Case,
+}
+
+pub struct Runner {
+    pub limits: Limits,
+    pub tally: Tally,
+    pub difference: Option<Difference>,
+    server: Server,
+    /// Which calls the archive has.
+    there: Vec<bool>,
+    sides: Sides,
+    batch: Vec<Case>,
+    size: usize,
+}
+
+impl Sink for Runner {
+    fn put(&mut self, case: Case) {
+        if self.difference.is_some() || !self.there[case.call as usize - 1] {
+            return;
+        }
+        self.size += case.size();
+        self.batch.push(case);
+        if self.batch.len() >= BATCH_CASES || self.size >= BATCH_SIZE {
+            self.finish();
+        }
+    }
+}
+
+impl Runner {
+    pub fn new(limits: Limits, command: &[String], sides: Sides) -> Runner {
+        let mut server = Server::start(command).unwrap_or_else(|e| fatal(&e));
+        let there = server.calls_there().unwrap_or_else(|e| fatal(&e));
+        Runner { limits, tally: Tally::new(), difference: None, server, there, sides, batch: Vec::new(), size: 0 }
+    }
+
+    /// Answers what has been put so far.
+    pub fn finish(&mut self) {
+        let batch = std::mem::take(&mut self.batch);
+        self.size = 0;
+        if batch.is_empty() || self.difference.is_some() {
+            return;
+        }
+        if let Some((case, why)) = self.first_difference(&batch) {
+            self.cut_down(case, why);
+        }
+    }
+
+    /// The server works on the batch while this side works out what is due.
+    fn first_difference(&mut self, batch: &[Case]) -> Option<(Case, String)> {
+        let sent = self.server.send(batch);
+        let due: Vec<_> = batch.iter().map(|c| expected(&self.limits, c)).collect();
+        if sent.is_err() {
+            return self.one_by_one(batch);
+        }
+        for (case, (answer, asked)) in batch.iter().zip(&due) {
+            let Ok(ours) = self.server.receive(case) else {
+                return self.one_by_one(batch);
+            };
+            let rust = against_the_rust(asked).filter(|_| self.sides != Sides::OursOnly);
+            let differs = against_ours(case, answer, &ours).filter(|_| self.sides != Sides::RustOnly);
+            if let Some(why) = rust.or(differs) {
+                self.restart();
+                return Some((case.clone(), why));
+            }
+            self.tally.add(case, answer, asked);
+        }
+        None
+    }
+
+    /// The server died in this batch: each case by itself shows where.
+    fn one_by_one(&mut self, batch: &[Case]) -> Option<(Case, String)> {
+        for case in batch {
+            self.restart();
+            if let Some(why) = self.differs(case) {
+                return Some((case.clone(), why));
+            }
+        }
+        Some((batch[0].clone(), "the server died in a batch, and in no case of it".into()))
+    }
+
+    fn restart(&mut self) {
+        if let Err(e) = self.server.restart() {
+            eprintln!("oracle: the server cannot be started again: {e}");
+            std::process::exit(2);
+        }
+    }
+
+    /// Why a case by itself differs.
+    pub fn differs(&mut self, case: &Case) -> Option<String> {
+        let (answer, asked) = expected(&self.limits, case);
+        let rust = against_the_rust(&asked);
+        if self.sides != Sides::OursOnly && rust.is_some() {
+            return rust;
+        }
+        if self.sides == Sides::RustOnly {
+            return None;
+        }
+        match self.server.ask(case) {
+            Ok(ours) => against_ours(case, &answer, &ours),
+            Err(e) => {
+                self.restart();
+                Some(format!("the server died: {e}"))
+            }
+        }
+    }
+
+    /// What our side leaves, for showing it.
+    pub fn ask(&mut self, case: &Case) -> io::Result<Left> {
+        self.server.ask(case)
+    }
+
+    /// The names of the calls that the archive does not have.
+    pub fn missing(&self) -> Vec<&'static str> {
+        let calls = calls::CALLS.iter().zip(&self.there);
+        calls.filter(|(_, there)| !**there).map(|(call, _)| call.name).collect()
+    }
+
+    /// Checks the list of the Rust's panics.
+    pub fn panics(&mut self) -> Result<usize, String> {
+        panics::check(&self.limits, &mut self.server, &self.there)
+    }
+
+    fn cut_down(&mut self, first: Case, why: String) {
+        let panics = |why: &str| why.contains("panics");
+        let case = shrink(first.clone(), |smaller| {
+            // A panic must stay one, and a difference must not turn into a known panic.
+            self.differs(smaller).is_some_and(|w| panics(&w) == panics(&why))
+        });
+        let why = self.differs(&case).unwrap_or(why);
+        self.difference = Some(Difference { case, why, first });
+    }
+}
+
+impl Difference {
+    pub fn print(&self) {
+        println!("DIFFERENCE in {}: {}", calls::of(&self.case).name, self.why);
+        println!("  cut down from {} bytes and cells to {}:", self.first.size(), self.case.size());
+        println!("  oracle/run --case '{}'", text::line(&self.case));
+    }
+}
+
+/// An error of the machine, not a difference.
+pub fn fatal(e: &io::Error) -> ! {
+    eprintln!("oracle: {e}");
+    std::process::exit(2);
+}

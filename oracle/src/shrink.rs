@@ -1,0 +1,122 @@
+//! Cuts a differing case down: whatever can go while the case still differs, goes.
+
+use crate::case::Case;
+
+/// What trying may cost: each try counts its bytes and cells, and a little for itself.
+const BUDGET: usize = 150_000_000;
+const EACH_TRY: usize = 5_000;
+
+/// Only slices below this have their bytes made plainer one by one.
+const SHORT: usize = 2000;
+
+struct Shrink<D> {
+    best: Case,
+    differs: D,
+    left: usize,
+    changed: bool,
+}
+
+pub fn shrink(case: Case, differs: impl FnMut(&Case) -> bool) -> Case {
+    let mut shrink = Shrink { best: case, differs, left: BUDGET, changed: true };
+    while shrink.changed {
+        shrink.changed = false;
+        shrink.pass();
+    }
+    shrink.best
+}
+
+impl<D: FnMut(&Case) -> bool> Shrink<D> {
+    fn pass(&mut self) {
+        for l in 0..self.best.lists.len() {
+            let cells = self.best.lists[l] as u64;
+            self.lower(cells, |case, n| case.lists[l] = n as usize);
+        }
+        for n in 0..self.best.numbers.len() {
+            let number = self.best.numbers[n];
+            self.lower(number, |case, value| case.numbers[n] = value);
+        }
+        // The last slice first: hints and patterns are short, and a try costs what the case is long.
+        for s in (0..self.best.slices.len()).rev() {
+            self.shorten(s);
+        }
+        for s in 0..self.best.slices.len() {
+            self.make_plain(s);
+        }
+    }
+
+    /// Takes the changed case in place of the best one, if it differs too.
+    fn try_with(&mut self, change: impl FnOnce(&mut Case)) -> bool {
+        let cost = EACH_TRY + self.best.size();
+        if self.left < cost {
+            return false;
+        }
+        self.left -= cost;
+        let mut smaller = self.best.clone();
+        change(&mut smaller);
+        let taken = smaller != self.best && (self.differs)(&smaller);
+        if taken {
+            self.best = smaller;
+            self.changed = true;
+        }
+        taken
+    }
+
+    /// Takes parts out of a slice: halves first, single bytes last, each from the end.
+    fn shorten(&mut self, s: usize) {
+        let mut size = self.best.slices[s].len();
+        while size > 0 {
+            let mut end = self.best.slices[s].len();
+            while end > 0 && self.left > 0 {
+                let start = end.saturating_sub(size);
+                let taken = self.try_with(|case| drop(case.slices[s].drain(start..end)));
+                end = if taken { start.min(self.best.slices[s].len()) } else { start };
+                if self.left < EACH_TRY + self.best.size() {
+                    return;
+                }
+            }
+            size /= 2;
+        }
+    }
+
+    /// The lowest of some lower values that still differs; each is half as far off as the one before.
+    fn lower(&mut self, value: u64, set: impl Fn(&mut Case, u64)) {
+        let mut gap = value;
+        while gap > 0 {
+            if self.try_with(|case| set(case, value - gap)) {
+                return;
+            }
+            gap /= 2;
+        }
+    }
+
+    fn make_plain(&mut self, s: usize) {
+        let length = self.best.slices[s].len();
+        for i in 0..if length < SHORT { length } else { 0 } {
+            let byte = u64::from(self.best.slices[s][i]);
+            self.lower(byte, |case, value| case.slices[s][i] = value as u8);
+        }
+    }
+}
+
+#[cfg(test)]
+mod tests {
+    use super::*;
+
+    #[test]
+    fn what_does_not_matter_goes() {
+        let case = Case::new(8, &[77, 5], &[&[9; 40], &[1, 2]], &[100, 7]);
+        let small = shrink(case, |c| c.slices[0].len() >= 13 && c.lists[0] >= 3);
+        assert_eq!(small, Case::new(8, &[0, 0], &[&[0; 13], &[]], &[3, 0]));
+    }
+
+    #[test]
+    fn a_large_case_ends_soon() {
+        let case = Case::new(8, &[0, 0], &[&[9; 1 << 24], &[1]], &[8, 4]);
+        let mut tries = 0;
+        shrink(case, |_| {
+            tries += 1;
+            false
+        });
+        assert!(tries < 20);
+    }
+}

@@ -1,0 +1,92 @@
+//! What was compared, in numbers.
+
+use crate::calls::{Given, CALLS, READ_ENTRY, VIEW_ENTRY};
+use crate::case::{Answer, Case};
+use crate::compare::Asked;
+use std::collections::BTreeMap;
+
+const STATES: usize = 4;
+
+#[derive(Default)]
+struct PerCall {
+    cases: u64,
+    with_the_rust: u64,
+    /// Rows, hints or places written.
+    written: u64,
+    numbers: BTreeMap<u64, u64>,
+}
+
+pub struct Tally {
+    calls: Vec<PerCall>,
+    /// Column entries by state: as written by our side, and as read by it (the last place is for bad states).
+    states_written: [u64; STATES],
+    states_read: [u64; STATES + 1],
+    values: [u64; 6],
+}
+
+impl Tally {
+    pub fn new() -> Tally {
+        Tally {
+            calls: CALLS.iter().map(|_| PerCall::default()).collect(),
+            states_written: [0; STATES],
+            states_read: [0; STATES + 1],
+            values: [0; 6],
+        }
+    }
+
+    pub fn add(&mut self, case: &Case, answer: &Answer, asked: &Asked) {
+        let call = &mut self.calls[case.call as usize - 1];
+        call.cases += 1;
+        call.with_the_rust += u64::from(*asked != Asked::Said(Given::NotAsked));
+        *call.numbers.entry(answer.number).or_default() += 1;
+        if !case.lists.is_empty() {
+            call.written += answer.out[0];
+        }
+        if case.call == READ_ENTRY || case.call == VIEW_ENTRY {
+            let state = (case.numbers[0] as usize).min(STATES);
+            self.states_read[state] += 1;
+        }
+        if case.call == READ_ENTRY {
+            self.values[answer.out[0] as usize] += 1;
+        }
+        if let Some(columns) = answer.lists.get(1) {
+            for entry in columns.chunks(4) {
+                self.states_written[entry[0] as usize] += 1;
+            }
+        }
+    }
+
+    pub fn total(&self) -> u64 {
+        self.calls.iter().map(|c| c.cases).sum()
+    }
+
+    /// Rows that the scan and the attempts wrote.
+    pub fn print(&self) {
+        println!("{:<20} {:>10} {:>12} {:>10}  refusals", "call", "cases", "with Rust", "written");
+        for (call, per) in CALLS.iter().zip(&self.calls) {
+            println!(
+                "{:<20} {:>10} {:>12} {:>10}  {}",
+                call.name,
+                per.cases,
+                per.with_the_rust,
+                per.written,
+                numbered(&per.numbers)
+            );
+        }
+        let mut all = BTreeMap::new();
+        for (number, count) in self.calls.iter().flat_map(|c| &c.numbers) {
+            *all.entry(*number).or_default() += count;
+        }
+        let asked: u64 = self.calls.iter().map(|c| c.with_the_rust).sum();
+        println!("{:<20} {:>10} {:>12} {:>10}  {}", "all", self.total(), asked, "", numbered(&all));
+        println!("column states written by a call (0 to 3): {:?}", self.states_written);
+        println!("column states read by a call (0 to 3, above): {:?}", self.states_read);
+        println!("values read (none, NULL, integer, real, text, blob): {:?}", self.values);
+    }
+}
+
+fn numbered(numbers: &BTreeMap<u64, u64>) -> String {
+    let refused = numbers.iter().filter(|(n, _)| **n != 0);
+    let shown: Vec<String> = refused.map(|(n, count)| format!("{n}: {count}")).collect();
+    shown.join(", ")
+}

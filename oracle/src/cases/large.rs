@@ -1,0 +1,79 @@
+//! Slices of the largest size and one more.
+
+use super::limits::refusals;
+use super::regions::{attempt, lists, scan};
+use crate::calls::{SCAN, SEARCH, STATEMENT};
+use crate::case::Case;
+use crate::random::Random;
+use crate::runner::Sink;
+
+const LARGEST: usize = 16_777_216;
+const STATEMENT_MOST: usize = 65_536;
+
+pub fn all(sink: &mut dyn Sink, random: &mut Random, long: bool) {
+    for length in LARGEST - 1..=LARGEST + 1 {
+        regions(sink, length);
+        haystacks(sink, length);
+    }
+    refusals_of_size(sink);
+    for length in STATEMENT_MOST - 1..=STATEMENT_MOST + 1 {
+        statements(sink, length);
+    }
+    if long {
+        refusals(sink, &vec![0; LARGEST + 1]);
+        scan(sink, &random.bytes(LARGEST), &[0, 2, 1], 3000);
+    } else {
+        scan(sink, &random.bytes(LARGEST / 64), &[0, 2, 1], 300);
+    }
+}
+
+/// A row at either end and nothing between.
+pub fn regions(sink: &mut dyn Sink, length: usize) {
+    let row = [3, 1, 0x17, 0x2A, 0x68, 0x69, 0x70, 0x69, 0x6B];
+    let mut region = vec![0; length];
+    region[..9].copy_from_slice(&row);
+    region[length - 9..].copy_from_slice(&row);
+    scan(sink, &region, &[0, 2], 3);
+    attempt(sink, &region, &[0, 2], length as u64 - 9);
+    let near_the_end = length as u64 - 20;
+    sink.put(Case::new(SCAN, &[1 << 48, near_the_end], &[&region, &[0, 2]], &lists(1, 2)));
+}
+
+fn haystacks(sink: &mut dyn Sink, length: usize) {
+    let mut haystack = vec![0; length];
+    haystack[0] = 7;
+    haystack[length - 1] = 7;
+    for pattern in [&[7][..], &[0, 7], &[]] {
+        sink.put(Case::new(SEARCH, &[], &[&haystack, pattern], &[2]));
+    }
+    // A pattern is no region: it may be of any length, and then stands nowhere.
+    sink.put(Case::new(SEARCH, &[], &[&[7, 0], &haystack], &[2]));
+}
+
+/// Refusal 3 with each that comes before it and each that comes behind.
+fn refusals_of_size(sink: &mut dyn Sink) {
+    let region = vec![2; LARGEST + 1];
+    for (hints, base) in [(&[][..], 0), (&[0; 127], 1 << 60), (&[9], 0), (&[0, 6], 1 << 60), (&[0], 1 << 60), (&[0], 0)]
+    {
+        sink.put(Case::new(SCAN, &[base, 0], &[&region, hints], &[0, 0]));
+    }
+    attempt(sink, &region, &[6], 0);
+    attempt(sink, &region, &[5], 0);
+}
+
+/// Long statements: with columns, with none, and without brackets.
+fn statements(sink: &mut dyn Sink, length: usize) {
+    let fill = |start: &str, end: &str| {
+        let blanks = " ".repeat(length - start.len() - end.len());
+        [start, &blanks, end].concat()
+    };
+    for text in [fill("(a INT,", "b TEXT)"), fill("(", ")"), fill("(", ""), fill("", "")] {
+        for room in [0, 1, 2, 3] {
+            sink.put(Case::new(STATEMENT, &[], &[text.as_bytes()], &[room]));
+        }
+    }
+    let commas = format!("({})", ",".repeat(length - 2));
+    sink.put(Case::new(STATEMENT, &[], &[commas.as_bytes()], &[3]));
+    let names = "a,".repeat((length - 2) / 2);
+    sink.put(Case::new(STATEMENT, &[], &[format!("({names})").as_bytes()], &[200]));
+}

@@ -1,0 +1,201 @@
+//! The boundaries of the rules: one below, at and above each.
+
+use super::bytes::{varint, width};
+use super::regions::{attempt, lists, scan};
+use crate::calls::{ATTEMPT, SCAN};
+use crate::case::Case;
+use crate::random::Random;
+use crate::rules::value::body_length;
+use crate::runner::Sink;
+
+pub fn all(sink: &mut dyn Sink, random: &mut Random, count: usize) {
+    header_lengths(sink);
+    past_the_header(sink);
+    column_counts(sink);
+    consumed(sink);
+    bases(sink);
+    refusals(sink, &[3, 1, 0x17, 0x2A, 0x68, 0x69, 0x70, 0x69, 0x6B]);
+    for _ in 0..count {
+        random_header(sink, random);
+    }
+}
+
+/// The boundaries that short cases can show.
+pub fn to_be_recorded(sink: &mut dyn Sink) {
+    for h in [1, 2, 3, 511, 512, 513] {
+        for wide in 1..=3 {
+            for columns in [1, 57, 126] {
+                if let Some(header) = exact(h, wide, columns, 0) {
+                    scan(sink, &header, &vec![0; columns], 1);
+                    attempt(sink, &header, &vec![5; columns], 0);
+                }
+            }
+        }
+    }
+    bases(sink);
+    refusals(sink, &[2, 13, 0]);
+}
+
+/// So many types in so many bytes, each of 1 to 9; none where they do not go in.
+fn filled(columns: usize, bytes: usize, kind: u64) -> Option<Vec<u8>> {
+    if columns == 0 || bytes < columns || bytes > 9 * columns {
+        return None;
+    }
+    let mut types = Vec::new();
+    for i in 0..columns {
+        // The rest is spread over the columns that are left.
+        types.extend(varint(kind, (bytes - types.len()).div_ceil(columns - i)));
+    }
+    Some(types)
+}
+
+/// A header of just h bytes that says so in `wide` bytes, with so many types.
+fn exact(h: usize, wide: usize, columns: usize, kind: u64) -> Option<Vec<u8>> {
+    if width(h as u64) > wide {
+        return None;
+    }
+    let mut header = varint(h as u64, wide);
+    header.extend(filled(columns, h.checked_sub(wide)?, kind)?);
+    Some(header)
+}
+
+fn header_lengths(sink: &mut dyn Sink) {
+    for h in [0, 1, 2, 3, 4, 10, 126, 127, 128, 129, 130, 255, 256, 257, 510, 511, 512, 513, 514, 600] {
+        for wide in 1..=9 {
+            for columns in [1, 2, 3, 13, 14, 15, 56, 57, 58, 63, 64, 125, 126] {
+                for kind in [0, 9] {
+                    if let Some(header) = exact(h, wide, columns, kind) {
+                        around(sink, &header, columns);
+                    }
+                }
+            }
+        }
+        bare(sink, h as u64);
+    }
+}
+
+/// The region ends before the header does, with it, and after it; the count is right, and off by one.
+fn around(sink: &mut dyn Sink, header: &[u8], columns: usize) {
+    let mut region = header.to_vec();
+    region.extend([0, 0, 0, 2]);
+    for end in header.len() - 1..=region.len() {
+        scan(sink, &region[..end], &vec![0; columns], 2);
+        attempt(sink, &region[..end], &vec![0; columns], 0);
+    }
+    for other in [columns - 1, columns + 1] {
+        scan(sink, &region, &vec![5; other], 2);
+    }
+}
+
+/// A header length of every width with nothing in order behind it.
+fn bare(sink: &mut dyn Sink, h: u64) {
+    for wide in width(h)..=9 {
+        for fill in [0, 0x80, 0xFF] {
+            let mut region = varint(h, wide);
+            region.extend(vec![fill; 620]);
+            scan(sink, &region, &[5], 2);
+            attempt(sink, &region, &[0, 5], 0);
+        }
+    }
+}
+
+/// The last type begins in the header and ends behind it.
+fn past_the_header(sink: &mut dyn Sink) {
+    for wide in 1..=9 {
+        for over in 0..wide {
+            for h_wide in [1, 2] {
+                let mut region = varint((h_wide + 1 + wide - over) as u64, h_wide);
+                region.extend([1]);
+                region.extend(varint(13, wide));
+                region.extend([7, 7, 7]);
+                for end in h_wide..=region.len() {
+                    scan(sink, &region[..end], &[0, 2], 2);
+                }
+            }
+        }
+    }
+}
+
+fn column_counts(sink: &mut dyn Sink) {
+    for columns in [0, 1, 2, 63, 64, 125, 126, 127, 128, 129, 200, 255, 256, 257] {
+        for kind in [0, 8, 1] {
+            let types: Vec<(u64, usize)> = vec![(kind, 1); columns];
+            let mut region = super::records::header(&types, 1);
+            region.extend(vec![0x55; columns + 3]);
+            for hint in [0, 4, 5, 6] {
+                scan(sink, &region, &vec![hint; columns], 2);
+                attempt(sink, &region, &vec![hint; columns], 0);
+            }
+        }
+    }
+}
+
+/// Rows that take 65,535 to 65,538 bytes, in regions that end with them, before, and after.
+fn consumed(sink: &mut dyn Sink) {
+    for total in 65_534..=65_538usize {
+        for (first, wide) in [(1u64, 1), (9, 3), (13, 1)] {
+            for text in [0, 1] {
+                let size = body_length(first).unwrap_or(0) as usize;
+                let mut header = vec![0; wide];
+                header.extend([first as u8]);
+                let body = total - wide - 1 - 3 - size;
+                let kind = 12 + 2 * body as u64 + text;
+                header.splice(..wide, varint((wide + 4) as u64, wide));
+                header.extend(varint(kind, 3));
+                for spare in [-1i64, 0, 1, 3] {
+                    let mut region = header.clone();
+                    region.resize((total as i64 + spare) as usize, 0);
+                    scan(sink, &region, &[5, 2 + (1 - text as u8)], 1);
+                    attempt(sink, &region, &[5, 5], 0);
+                }
+            }
+        }
+    }
+}
+
+fn bases(sink: &mut dyn Sink) {
+    let region = [2, 9, 2, 8, 0, 2, 1, 5, 0, 0];
+    let top = 1u64 << 48;
+    for base in [0, 1, top - 1, top, top + 1, top + 2, 1 << 49, 1 << 63, u64::MAX - 8, u64::MAX] {
+        for start in [0, 2, 4, 9] {
+            for call in [ATTEMPT, SCAN] {
+                sink.put(Case::new(call, &[base, start], &[&region, &[0]], &lists(3, 1)));
+            }
+        }
+    }
+}
+
+/// Every set of refusals that can hold at once, but for the size of the region, which large.rs adds.
+pub fn refusals(sink: &mut dyn Sink, region: &[u8]) {
+    for columns in [0, 1, 2, 126, 127] {
+        for bad in [None, Some(0), Some(columns.max(1) - 1)] {
+            for base in [0, 1 << 48, (1 << 48) + 1] {
+                for rows in [0, 1] {
+                    let mut hints = vec![2; columns];
+                    if let Some(at) = bad.filter(|&at| at < columns) {
+                        hints[at] = 6 + at as u8;
+                    }
+                    for call in [ATTEMPT, SCAN] {
+                        sink.put(Case::new(call, &[base, 0], &[region, &hints], &lists(rows, columns.max(1))));
+                    }
+                }
+            }
+        }
+    }
+}
+
+/// A header of any length up to 530, full of types.
+fn random_header(sink: &mut dyn Sink, random: &mut Random) {
+    let h = 2 + random.below(529);
+    let wide = width(h as u64) + random.below(3);
+    let most = h.saturating_sub(wide).clamp(1, 127);
+    let least = h.saturating_sub(wide).div_ceil(9).clamp(1, most);
+    let columns = least + random.below(most - least + 1);
+    let kind = random.pick(&[0, 8, 9, 12, 13]);
+    if let Some(mut region) = exact(h, wide, columns, kind) {
+        let more = random.below(6);
+        region.extend(random.bytes(more));
+        let hints: Vec<u8> = (0..columns).map(|_| random.below(6) as u8).collect();
+        scan(sink, &region, &hints, 2);
+    }
+}

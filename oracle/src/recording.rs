@@ -1,0 +1,119 @@
+//! Cases with their answers in one file, for a program that has no Rust at hand. README.md has the format.
+
+use crate::calls::{self, Given};
+use crate::case::{Answer, Case};
+use crate::cases::{self, limits, regions, Plan};
+use crate::compare::{against_the_rust, expected, Asked};
+use crate::panics;
+use crate::rules::limits::Limits;
+use crate::runner::Sink;
+use crate::text;
+use std::collections::HashMap;
+use std::{fs, io, path::Path};
+
+/// Slices and cells of a recorded case, and bytes of the whole file, at most.
+const LARGEST_CASE: usize = 1200;
+const LARGEST_FILE: usize = 960_000;
+
+/// Cases of one kind: the first few, and then ever fewer of the many.
+const FIRST: usize = 24;
+const GROWTH: f64 = 1.12;
+
+struct Recorder {
+    file: Vec<u8>,
+    cases: usize,
+    with_the_rust: usize,
+    limits: Limits,
+    /// By call, number and rows: how many came, and the next one to take.
+    kinds: HashMap<(u8, u64, u64), (usize, f64)>,
+    keep_all: bool,
+    differs: Option<String>,
+}
+
+impl Sink for Recorder {
+    fn put(&mut self, case: Case) {
+        if case.size() > LARGEST_CASE || self.file.len() > LARGEST_FILE || self.differs.is_some() {
+            return;
+        }
+        let answer = (calls::of(&case).answer)(&self.limits, &case);
+        if self.keep_all || self.wanted(&case, &answer) {
+            self.take(&case);
+        }
+    }
+}
+
+impl Recorder {
+    fn wanted(&mut self, case: &Case, answer: &Answer) -> bool {
+        let found = answer.out[0].min(3);
+        let (seen, next) = self.kinds.entry((case.call, answer.number, found)).or_insert((0, 0.0));
+        *seen += 1;
+        if *seen <= FIRST || *seen as f64 >= *next {
+            *next = *seen as f64 * GROWTH;
+            return true;
+        }
+        false
+    }
+
+    fn take(&mut self, case: &Case) {
+        let (answer, asked) = expected(&self.limits, case);
+        if let Some(why) = against_the_rust(&asked).filter(|_| asked != Asked::Panicked) {
+            self.differs = Some(format!("{why}: {}", text::line(case)));
+            return;
+        }
+        let rust = asked == Asked::Said(Given::Agrees);
+        self.cases += 1;
+        self.with_the_rust += usize::from(rust);
+        let mut frame = Vec::new();
+        case.frame(&mut frame);
+        put_answer(&mut frame, case, &answer, rust);
+        self.file.extend((frame.len() as u32).to_le_bytes());
+        self.file.extend(frame);
+    }
+}
+
+fn put_answer(frame: &mut Vec<u8>, case: &Case, answer: &Answer, rust: bool) {
+    frame.extend([answer.number as u8, u8::from(rust), answer.out.len() as u8]);
+    for word in &answer.out {
+        frame.extend(word.to_le_bytes());
+    }
+    for (cells, cell) in answer.lists.iter().zip(calls::of(case).lists) {
+        frame.extend((cells.len() as u32).to_le_bytes());
+        for value in cells {
+            frame.extend(&value.to_le_bytes()[..cell.bytes()]);
+        }
+    }
+}
+
+/// Writes DIR/cases.bin; false where the Rust and the rules differ.
+pub fn record(folder: &str, seed: u64) -> io::Result<bool> {
+    let mut recorder = Recorder {
+        file: Vec::new(),
+        cases: 0,
+        with_the_rust: 0,
+        limits: Limits::of_the_rules(),
+        kinds: HashMap::new(),
+        keep_all: true,
+        differs: None,
+    };
+    for case in panics::list() {
+        recorder.put(case);
+    }
+    regions::bench_cases(&mut recorder);
+    limits::to_be_recorded(&mut recorder);
+    recorder.keep_all = false;
+    let plan = Plan { seed, random: 200_000, large: false, long: false };
+    cases::all(&mut recorder, &plan);
+    if let Some(why) = recorder.differs {
+        println!("DIFFERENCE: {why}");
+        return Ok(false);
+    }
+    fs::create_dir_all(folder)?;
+    fs::write(Path::new(folder).join("cases.bin"), &recorder.file)?;
+    println!(
+        "{} cases, {} of them with the Rust's answer, in {} bytes, seed {seed}",
+        recorder.cases,
+        recorder.with_the_rust,
+        recorder.file.len()
+    );
+    Ok(true)
+}

@@ -8,6 +8,8 @@ use std::path::{Path, PathBuf};
 /// One file of the given Rust.
 struct Part {
     module: &'static str,
+    /// The one function that is kept of the file, where the rest is not needed and leans on files not given.
+    only: Option<&'static str>,
     /// Functions and structs that are made public.
     opened: usize,
     /// Fields that are made public, as they stand at the start of their line.
@@ -16,9 +18,9 @@ struct Part {
 
 /// The files in use. A later call adds its file here and its calls in src/calls.rs.
 const PARTS: &[Part] = &[
-    Part { module: "varint", opened: 0, fields: &[] },
-    Part { module: "record", opened: 0, fields: &[] },
-    Part { module: "schema_sig", opened: 1, fields: &[] },
+    Part { module: "varint", only: None, opened: 0, fields: &[] },
+    Part { module: "record", only: None, opened: 0, fields: &[] },
+    Part { module: "schema_sig", only: None, opened: 1, fields: &[] },
 ];
 
 const PRIVATE: [&str; 3] = ["fn ", "pub(crate) fn ", "struct "];
@@ -33,7 +35,8 @@ fn main() {
         println!("cargo:rerun-if-changed={}", path.display());
         let text = fs::read_to_string(&path)
             .unwrap_or_else(|e| panic!("{}: {e}; name a folder in PHSARODIL_RUST", path.display()));
-        all.push_str(&module(part, &text));
+        let kept = part.only.map_or(text.clone(), |name| function(&text, name));
+        all.push_str(&module(part, &kept));
     }
     let out = PathBuf::from(env::var("OUT_DIR").expect("cargo sets OUT_DIR"));
     fs::write(out.join("given.rs"), all).expect("OUT_DIR can be written");
@@ -76,6 +79,21 @@ fn module(part: &Part, text: &str) -> String {
     assert_eq!(opened, part.opened, "{}: items made public", part.module);
     assert_eq!(fields, part.fields.len(), "{}: fields made public", part.module);
     format!("#[allow(clippy::all, dead_code)]\npub mod {} {{\n{body}}}\n", part.module)
+}
+
+/// The text of one function, up to the bracket at the start of a line that ends it.
+fn function(text: &str, name: &str) -> String {
+    let head = format!("fn {name}(");
+    let mut lines = text.lines().skip_while(|line| !line.contains(&head));
+    let mut kept = String::new();
+    for line in lines.by_ref() {
+        kept.push_str(line);
+        kept.push('\n');
+        if line == "}" {
+            return kept;
+        }
+    }
+    panic!("no function {name}");
 }
 
 /// The line without its privacy, if it begins a private function or struct.

@@ -87,7 +87,9 @@ fn compare(mut runner: Runner, options: &Options) -> bool {
         println!("NOT COMPARED, since the archive does not have it: {}", missing.join(", "));
     }
     match runner.panics() {
-        Ok(count) => println!("the Rust panics on all {count} cases of its list, where ours answers by the rules"),
+        Ok((all, ours)) => {
+            println!("the Rust panics on all {all} cases of its list; ours answers {ours} of them, by the rules");
+        }
         Err(why) => {
             println!("DIFFERENCE: {why}");
             return false;

@@ -36,9 +36,10 @@ pub fn list() -> Vec<Case> {
     all
 }
 
-/// Checks the list; the number of its cases, or what is wrong.
-pub fn check(limits: &Limits, server: &mut Server, there: &[bool]) -> Result<usize, String> {
+/// Checks the list. Answers how many cases it has and how many of them our side answered, or what is wrong.
+pub fn check(limits: &Limits, server: &mut Server, there: &[bool]) -> Result<(usize, usize), String> {
     let cases = list();
+    let mut answered = 0;
     for case in &cases {
         let (answer, asked) = expected(limits, case);
         if asked != Asked::Panicked {
@@ -47,10 +48,11 @@ pub fn check(limits: &Limits, server: &mut Server, there: &[bool]) -> Result<usi
         if !there[case.call as usize - 1] {
             continue;
         }
+        answered += 1;
         let ours = server.ask(case).map_err(|e| format!("the server died: {e}"))?;
         if let Some(why) = against_ours(case, &answer, &ours) {
             return Err(format!("{why}, where the Rust panics: {}", text::line(case)));
         }
     }
-    Ok(cases.len())
+    Ok((cases.len(), answered))
 }

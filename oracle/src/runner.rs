@@ -149,7 +149,7 @@ impl Runner {
     }
 
     /// Checks the list of the Rust's panics.
-    pub fn panics(&mut self) -> Result<usize, String> {
+    pub fn panics(&mut self) -> Result<(usize, usize), String> {
         panics::check(&self.limits, &mut self.server, &self.there)
     }
 

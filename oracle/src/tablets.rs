@@ -3,15 +3,17 @@
 
 use crate::calls::{self, SCAN, STATEMENT};
 use crate::case::Case;
+use crate::cases::regions::lists;
+use crate::random::Random;
 use crate::rules::value::{self, decode};
 use crate::runner::{Runner, Sink};
 use std::collections::HashSet;
 use std::path::Path;
 use std::{fs, io};
 
-/// Rows that one page can have, at most.
-const ROWS: usize = 2000;
-const NULL_HINT: u64 = 4;
+/// No row of these tables is shorter.
+const SHORTEST_ROW: usize = 5;
+const NULL_HINT: u8 = 4;
 
 struct Tablet {
     name: String,
@@ -33,7 +35,7 @@ pub fn run(runner: &mut Runner, folder: &str) -> io::Result<bool> {
         .filter_map(|e| Some(e.ok()?.file_name().to_string_lossy().strip_suffix(".db")?.to_string()))
         .collect();
     names.sort();
-    println!("| database | hints | deleted | found | also there | none |");
+    println!("| database | hints | deleted | of these found | rows kept, found | rows that are none |");
     println!("|---|---|---|---|---|---|");
     for name in &names {
         let statement = fs::read(Path::new(folder).join(format!("{name}.sql")))?;
@@ -41,7 +43,7 @@ pub fn run(runner: &mut Runner, folder: &str) -> io::Result<bool> {
         scan_both(runner, folder, name, hints.clone(), "statement")?;
         if name.contains("-key") {
             // The key's column is NULL in each record, and the statement's hints leave it out.
-            let with_key = [&[NULL_HINT as u8][..], &hints].concat();
+            let with_key = [&[NULL_HINT][..], &hints].concat();
             scan_both(runner, folder, name, with_key, "key as NULL")?;
         }
     }
@@ -50,7 +52,8 @@ pub fn run(runner: &mut Runner, folder: &str) -> io::Result<bool> {
         difference.print();
         return Ok(false);
     }
-    println!("\nboth sides gave the same words for all {} scans and statements", runner.tally.total());
+    println!("\nThe Rust, the rules and our side agree on all {} cases:", runner.tally.total());
+    println!("the statements, every page and every frame of a log, and a damaged copy of each.");
     Ok(true)
 }
 
@@ -102,16 +105,28 @@ fn pages(file: &[u8], head: usize, before: usize, size: usize) -> Vec<(usize, &[
 fn report(runner: &mut Runner, tablet: &Tablet, which: &str, pages: &[(usize, &[u8])]) {
     let mut back = Back::default();
     for (at, page) in pages {
-        let lists = [8 * ROWS, 4 * tablet.hints.len() * ROWS];
+        let lists = lists(page.len() / SHORTEST_ROW, tablet.hints.len());
         let case = Case::new(SCAN, &[*at as u64, 0], &[page, &tablet.hints], &lists);
         let answer = (calls::of(&case).answer)(&runner.limits, &case);
         for group in answer.lists[1].chunks(4 * tablet.hints.len()) {
             sort_in(tablet, page, group, &mut back);
         }
+        put_damaged(runner, &case, *at as u64);
         runner.put(case);
     }
     let Back { deleted, live, none } = back;
     println!("| {} | {which} | {} | {} | {live} | {none} |", tablet.name, tablet.deleted.len(), deleted.len());
+}
+
+/// The same page with a few bytes changed: nothing is counted, but all sides must agree on it too.
+fn put_damaged(runner: &mut Runner, case: &Case, seed: u64) {
+    let mut random = Random::new(seed);
+    let mut damaged = case.clone();
+    for _ in 0..1 + random.below(40) {
+        let at = random.below(damaged.slices[0].len());
+        damaged.slices[0][at] ^= 1 << random.below(8);
+    }
+    runner.put(damaged);
 }
 
 fn sort_in(tablet: &Tablet, page: &[u8], group: &[u64], back: &mut Back) {

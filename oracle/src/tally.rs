@@ -60,7 +60,6 @@ impl Tally {
         self.calls.iter().map(|c| c.cases).sum()
     }
 
-    /// Rows that the scan and the attempts wrote.
     pub fn print(&self) {
         println!("{:<20} {:>10} {:>12} {:>10}  refusals", "call", "cases", "with Rust", "written");
         for (call, per) in CALLS.iter().zip(&self.calls) {

@@ -46,6 +46,10 @@ fn haystacks(sink: &mut dyn Sink, length: usize) {
     for pattern in [&[7][..], &[0, 7], &[]] {
         sink.put(Case::new(SEARCH, &[], &[&haystack, pattern], &[2]));
     }
+    if length > LARGEST {
+        // Found more often than there is room, which is not even looked at.
+        sink.put(Case::new(SEARCH, &[], &[&haystack, &[0]], &[2]));
+    }
     // A pattern is no region: it may be of any length, and then stands nowhere.
     sink.put(Case::new(SEARCH, &[], &[&[7, 0], &haystack], &[2]));
 }

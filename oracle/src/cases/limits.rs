@@ -130,27 +130,30 @@ fn column_counts(sink: &mut dyn Sink) {
     }
 }
 
-/// Rows that take 65,535 to 65,538 bytes, in regions that end with them, before, and after.
+/// Rows that take 65,534 to 65,538 bytes, in regions that end with them, before, and after.
 fn consumed(sink: &mut dyn Sink) {
-    for total in 65_534..=65_538usize {
-        for (first, wide) in [(1u64, 1), (9, 3), (13, 1)] {
-            for text in [0, 1] {
-                let size = body_length(first).unwrap_or(0) as usize;
-                let mut header = vec![0; wide];
-                header.extend([first as u8]);
-                let body = total - wide - 1 - 3 - size;
-                let kind = 12 + 2 * body as u64 + text;
-                header.splice(..wide, varint((wide + 4) as u64, wide));
-                header.extend(varint(kind, 3));
-                for spare in [-1i64, 0, 1, 3] {
+    for total in 65_534..=65_538 {
+        for (first, wide) in [(1, 1), (9, 3), (13, 1)] {
+            for last_is_text in [false, true] {
+                let header = long_row(total, first, wide, last_is_text);
+                for length in [total - 1, total, total + 1, total + 3] {
                     let mut region = header.clone();
-                    region.resize((total as i64 + spare) as usize, 0);
-                    scan(sink, &region, &[5, 2 + (1 - text as u8)], 1);
+                    region.resize(length, 0);
+                    scan(sink, &region, &[5, if last_is_text { 2 } else { 3 }], 1);
                     attempt(sink, &region, &[5, 5], 0);
                 }
             }
         }
     }
+}
+
+/// The header of a row of so many bytes: a short column, and a long one that takes what is left.
+fn long_row(total: usize, first: u64, wide: usize, last_is_text: bool) -> Vec<u8> {
+    const LONG_TYPE: usize = 3;
+    let length = wide + 1 + LONG_TYPE;
+    let body = total - length - body_length(first).unwrap_or(0) as usize;
+    let kind = 12 + 2 * body as u64 + u64::from(last_is_text);
+    [varint(length as u64, wide), varint(first, 1), varint(kind, LONG_TYPE)].concat()
 }
 
 fn bases(sink: &mut dyn Sink) {

@@ -26,12 +26,12 @@
 extern "C" {
 #endif
 
-/* Refusals. The checks of a call come in rising order; the first that holds is returned. */
+/* Refusals. The checks of a call come in rising order, unless it says otherwise; the first that holds is returned. */
 enum phs_refusal {
     PHS_OK = 0,
-    PHS_COLUMN_COUNT = 1,   /* no hints, or more than PHS_MOST_COLUMNS */
+    PHS_COLUMN_COUNT = 1,   /* no columns, or more than PHS_MOST_COLUMNS */
     PHS_MALFORMED = 2,      /* a hint code above 5, or a bad column entry */
-    PHS_TOO_LARGE = 3,      /* a region of more than PHS_LARGEST_REGION bytes */
+    PHS_TOO_LARGE = 3,      /* more than PHS_LARGEST_REGION bytes, or PHS_LARGEST_STATEMENT */
     PHS_BASE_TOO_FAR = 4,   /* a base above PHS_LARGEST_BASE */
     PHS_PAGE_SIZE = 5,      /* not a page size of the file format */
     PHS_NO_SUCH_PAGE = 6,   /* page 0, or a page that is not wholly in the database */
@@ -44,6 +44,7 @@ enum phs_refusal {
 #define PHS_WORDS_PER_ENTRY 4
 #define PHS_MOST_COLUMNS 126
 #define PHS_LARGEST_REGION 16777216
+#define PHS_LARGEST_STATEMENT 65536
 #define PHS_LARGEST_BASE UINT64_C(0x1000000000000) /* 2 to the power of 48 */
 
 /* What a column is expected to hold. Every hint takes a NULL. */
@@ -164,6 +165,24 @@ uint64_t phs_try_parse_record(const uint8_t *region, size_t len, const uint8_t *
 uint64_t phs_scan_region(const uint8_t *region, size_t len, const uint8_t *hints, size_t hints_len, uint64_t base,
                          size_t start, uint64_t *rows, size_t rows_len, uint64_t *cols, size_t cols_len,
                          uint64_t out[3]);
+
+/*
+ * The hints of a CREATE TABLE statement, one code of enum phs_hint for each column. A column that is the key itself
+ * (INTEGER PRIMARY KEY) gets none: its record holds a NULL there, so for such a table lend PHS_HINT_NULL as well, in
+ * that column's place.
+ * out: the hints written, from the front.
+ * Returns PHS_TOO_LARGE, PHS_NO_COLUMN_LIST or PHS_COLUMN_COUNT, in this order and with `hints` as it was; or
+ * PHS_NO_ROOM, with as many hints as there was room for.
+ */
+uint64_t phs_from_create_sql(const uint8_t *statement, size_t len, uint8_t *hints, size_t hints_len, uint64_t out[1]);
+
+/*
+ * The places of a pattern in a haystack, rising; they may overlap. An empty pattern is nowhere.
+ * out: the places written, from the front.
+ * Returns PHS_TOO_LARGE, with `places` as it was; or PHS_NO_ROOM, with the first places, as many as there was room for.
+ */
+uint64_t phs_boyer_moore_search(const uint8_t *haystack, size_t len, const uint8_t *pattern, size_t pattern_len,
+                                uint64_t *places, size_t places_len, uint64_t out[1]);
 
 #ifdef __cplusplus
 }

@@ -74,6 +74,24 @@ mod c {
             cols_len: usize,
             out: *mut [u64; 3],
         ) -> u64;
+
+        pub fn phs_from_create_sql(
+            statement: *const u8,
+            len: usize,
+            hints: *mut u8,
+            hints_len: usize,
+            out: *mut [u64; 1],
+        ) -> u64;
+
+        pub fn phs_boyer_moore_search(
+            haystack: *const u8,
+            len: usize,
+            pattern: *const u8,
+            pattern_len: usize,
+            places: *mut u64,
+            places_len: usize,
+            out: *mut [u64; 1],
+        ) -> u64;
     }
 }
 
@@ -160,6 +178,32 @@ pub fn scan_region(
             rows.len(),
             cols.as_mut_ptr(),
             cols.len(),
+            out,
+        )
+    })
+}
+
+pub fn from_create_sql(statement: &[u8], hints: &mut [u8]) -> Answer<1> {
+    answer(|out| unsafe {
+        c::phs_from_create_sql(
+            statement.as_ptr(),
+            statement.len(),
+            hints.as_mut_ptr(),
+            hints.len(),
+            out,
+        )
+    })
+}
+
+pub fn boyer_moore_search(haystack: &[u8], pattern: &[u8], places: &mut [u64]) -> Answer<1> {
+    answer(|out| unsafe {
+        c::phs_boyer_moore_search(
+            haystack.as_ptr(),
+            haystack.len(),
+            pattern.as_ptr(),
+            pattern.len(),
+            places.as_mut_ptr(),
+            places.len(),
             out,
         )
     })

@@ -20,8 +20,10 @@
 mod door;
 mod refusal;
 mod rows;
+mod search;
 mod values;
 
 pub use refusal::Refusal;
 pub use rows::{scan, try_parse_record, Hint, Mode, Record, Row, Scan, Source};
+pub use search::search;
 pub use values::{body_length, decode_serial_type, read_varint, Entry, Value};

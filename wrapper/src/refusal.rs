@@ -6,11 +6,11 @@ use std::fmt;
 /// A refusal; its number is that of the header.
 #[derive(Clone, Copy, Debug, PartialEq, Eq, Hash)]
 pub enum Refusal {
-    /// No hints, or more than 126.
+    /// No columns, or more than 126.
     ColumnCount = 1,
     /// An unknown hint code, or a bad column entry.
     Malformed = 2,
-    /// A region of more than 16 MiB.
+    /// A region of more than 16 MiB, or a statement of more than 65,536 bytes.
     TooLarge = 3,
     /// A base above 2^48.
     BaseTooFar = 4,
@@ -55,7 +55,9 @@ impl fmt::Display for Refusal {
         let why = match self {
             Refusal::ColumnCount => "a table has 1 to 126 columns",
             Refusal::Malformed => "an unknown hint, or a bad column entry",
-            Refusal::TooLarge => "the region is larger than 16 MiB",
+            Refusal::TooLarge => {
+                "a region larger than 16 MiB, or a statement of more than 65,536 bytes"
+            }
             Refusal::BaseTooFar => "the base is above 2^48",
             Refusal::PageSize => "not a page size",
             Refusal::NoSuchPage => "no such page",

@@ -3,6 +3,9 @@
 use crate::door;
 use crate::{Entry, Refusal, Value};
 
+/// The most columns that a table may have.
+const MOST_COLUMNS: usize = 126;
+
 /// What a column is expected to hold; a NULL suits every hint. Its number is the hint's code.
 #[derive(Clone, Copy, Debug, PartialEq, Eq, Hash)]
 pub enum Hint {
@@ -15,6 +18,32 @@ pub enum Hint {
 }
 
 impl Hint {
+    fn of(code: u8) -> Hint {
+        match code {
+            0 => Hint::Integer,
+            1 => Hint::Real,
+            2 => Hint::Text,
+            3 => Hint::Blob,
+            4 => Hint::Null,
+            5 => Hint::Any,
+            other => unreachable!("a hint is 0 to 5, not {other}"),
+        }
+    }
+
+    /// The hints of a CREATE TABLE statement. A column that is the key itself gets none, though its records hold a NULL
+    /// there: add [`Hint::Null`] in its place.
+    pub fn of_statement(statement: &[u8]) -> Result<Vec<Hint>, Refusal> {
+        let mut codes = [0; MOST_COLUMNS];
+        let (number, [written]) = door::from_create_sql(statement, &mut codes);
+        match Refusal::of(number) {
+            Some(refusal) => Err(refusal),
+            None => Ok(codes[..written as usize]
+                .iter()
+                .map(|&code| Hint::of(code))
+                .collect()),
+        }
+    }
+
     /// Whether a serial type suits the hint.
     pub fn suits(self, kind: u64) -> bool {
         door::is_compatible(self as u8, kind) == (0, [1])
@@ -259,6 +288,21 @@ mod tests {
         assert_eq!(suiting(Hint::Blob), [0, 12]);
         assert_eq!(suiting(Hint::Null), [0]);
         assert_eq!(suiting(Hint::Any).len(), 14);
+    }
+
+    #[test]
+    fn hints_of_a_statement() {
+        assert_eq!(
+            Hint::of_statement(b"CREATE TABLE r (plot INTEGER, depth REAL, note TEXT, x)"),
+            Ok(vec![Hint::Integer, Hint::Real, Hint::Text, Hint::Any])
+        );
+        assert_eq!(Hint::of_statement(b")("), Err(Refusal::NoColumnList));
+        assert_eq!(
+            Hint::of_statement(b"(id INTEGER PRIMARY KEY)"),
+            Err(Refusal::ColumnCount)
+        );
+        let most = format!("({})", vec!["a INT"; 126].join(","));
+        assert_eq!(Hint::of_statement(most.as_bytes()).unwrap().len(), 126);
     }
 
     #[test]

@@ -4,6 +4,7 @@ mod Checks
 pub mod Demand3
 mod Going
 mod Judging
+pub mod Laws
 pub mod Quiet
 mod Single
 mod Types

@@ -136,7 +136,7 @@ module _ (x y : List ℕ) (same : length x ≡ length y) where
 
 -- ---- the count
 
-finished-few : (s : List ℕ) (t : Run) → length (finishedPlaces s t) ≤ 520 * triedOffsets t
+pub finished-few : (s : List ℕ) (t : Run) → length (finishedPlaces s t) ≤ 520 * triedOffsets t
 finished-few s through = zero-le
 finished-few s (noRoom o) = zero-le
 finished-few s (missed o t) = omega (arith, length-append (attemptPlaces s o) (finishedPlaces s t), places-few s o, finished-few s t)

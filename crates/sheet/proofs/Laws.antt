@@ -117,3 +117,13 @@ room-cols rows cols (suc w) n h =
     let k = wordsPerEntry * suc w in
     let some = simp (ne-eqb (suc w) 0 (λ z. omega arith)) at h in
     rw (← suc-mul) (le-div-iff-mul-le {k = k} (omega arith) .0 (le-trans some (min-le-right (rows / wordsPerRow) (cols / k))))
+
+-- THE LAW: lists that hold one row have room
+pub room-some : (rows cols width : ℕ) → wordsPerRow ≤ rows → wordsPerEntry * width ≤ cols → 0 < roomOf rows cols width
+unfolding roomOf
+room-some rows cols zero h g = omega arith
+room-some rows cols (suc w) h g =
+    let k = wordsPerEntry * suc w in
+    let one : 1 * k ≤ cols = omega arith in
+    let some : 1 ≤ cols / k = le-div-iff-mul-le {k = k} (omega arith) .1 one in
+    simp (ne-eqb (suc w) 0 (λ z. omega arith)) (omega arith)

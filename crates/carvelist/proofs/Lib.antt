@@ -1,0 +1,5 @@
+mod Cases
+mod Inputs
+mod Parts
+mod Texts
+pub mod Unique

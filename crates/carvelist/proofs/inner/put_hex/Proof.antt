@@ -1,0 +1,67 @@
+-- `carvelist::inner::put_hex` meets its contract.
+-- Assumes nothing.
+use Rattle.carvelist.specs.Text.{hex8}
+use mathlib.Core.Path.{_≡_}
+use mathlib.Core.List.{List, [], _∷_}
+use Prim.Native.Nat.{ℕ}
+use Rattle.carvelist.specs.Inner.{Put}
+use borrow.Author.Needs.{needs}
+use Rattle.carvelist.proofs.inner.put_hex.Statement.{statement}
+use Rattle.carvelist.proofs.inner.put_hex.Tie as tie
+
+hex-digit-requires : tie.Need-hex-digit-requires
+hex-digit-requires c κs = search needs
+
+hex-digit-requires-2 : tie.Need-hex-digit-requires-2
+hex-digit-requires-2 c κs = search needs
+
+hex-digit-requires-3 : tie.Need-hex-digit-requires-3
+hex-digit-requires-3 c κs = search needs
+
+hex-digit-requires-4 : tie.Need-hex-digit-requires-4
+hex-digit-requires-4 c κs = search needs
+
+hex-digit-requires-5 : tie.Need-hex-digit-requires-5
+hex-digit-requires-5 c κs = search needs
+
+hex-digit-requires-6 : tie.Need-hex-digit-requires-6
+hex-digit-requires-6 c κs = search needs
+
+hex-digit-requires-7 : tie.Need-hex-digit-requires-7
+hex-digit-requires-7 c κs = search needs
+
+hex-digit-requires-8 : tie.Need-hex-digit-requires-8
+hex-digit-requires-8 c κs = search needs
+
+slice-aggregate-put-bytes : tie.Need-slice-aggregate-put-bytes
+slice-aggregate-put-bytes c = search needs
+
+put-bytes-requires : tie.Need-put-bytes-requires
+put-bytes-requires c κs = search needs
+
+same-length : tie.Need-same-length
+same-length c = search needs
+
+returns : tie.Need-returns
+unfolding hex8
+returns c =
+    let d₁ = c .before .before .before .before .before .before .before .before .before .before .before .before in
+    let p = c .before .before .put-bytes in
+    (rw (← (c .before .before .before .before .before .before .before .before .before .before .before .before .hex-digit .ensures), ← (c .before .before .before .before .before .before .before .before .before .before .before .hex-digit2 .ensures), ← (c .before .before .before .before .before .before .before .before .before .before .hex-digit3 .ensures), ← (c .before .before .before .before .before .before .before .before .before .hex-digit4 .ensures), ← (c .before .before .before .before .before .before .before .before .hex-digit5 .ensures), ← (c .before .before .before .before .before .before .before .hex-digit6 .ensures), ← (c .before .before .before .before .before .before .hex-digit7 .ensures), ← (c .before .before .before .before .before .hex-digit8 .ensures)) (p .ensures), search needs)
+
+pub put-hex-spec : {M : Type 1} → statement M
+put-hex-spec =
+    tie.close
+    (tie.spec
+    hex-digit-requires
+    hex-digit-requires-2
+    hex-digit-requires-3
+    hex-digit-requires-4
+    hex-digit-requires-5
+    hex-digit-requires-6
+    hex-digit-requires-7
+    hex-digit-requires-8
+    slice-aggregate-put-bytes
+    put-bytes-requires
+    same-length
+    returns)

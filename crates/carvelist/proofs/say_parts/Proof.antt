@@ -1,0 +1,121 @@
+-- `carvelist::say_parts` meets its contract. The loop's invariant: what is counted, with the parts from `at` on, comes to the whole (`On`); places rise, so the sums fit.
+-- Assumes nothing.
+use Prim.Native.Nat.{ℕ, _+_, _*_, _-_, _≤_, _<_}
+use mathlib.Core.Path.{_≡_, refl, sym}
+use mathlib.Core.Logic.{⊎-elim}
+use native.Mathlib.Omega.{arith}
+use denote.Ref.{now}
+use lib.ListN.{length}
+use borrow.Author.Needs.{needs}
+use Rattle.carvelist.proofs.Parts.{Small, part-small, On, on-start, on-full, on-end}
+use Rattle.carvelist.specs.Part.{partAnswer}
+use Rattle.scan.specs.declared.schema_sig.Scanned.the-variants.{Full}
+use Rattle.carvelist.proofs.say_parts.Statement.{statement}
+use Rattle.carvelist.proofs.say_parts.Tie as tie
+
+abbrev Inv-loop : tie.InvT-loop
+Inv-loop region hints rows₀ cols₀ text₀ at₀ count₀ read₀ rows cols text at count read =
+    On region hints at count read × (at ≤ length region) × (count ≤ 8 * at) × (read ≤ 34078720 * at)
+
+abbrev μ-loop : tie.MeasureT-loop
+μ-loop region hints rows₀ cols₀ text₀ at₀ count₀ read₀ rows cols text at count read = length region - at
+
+answer : (c : tie.After-list-part Inv-loop μ-loop) →
+    let a = c .before .before .before .before .before .before .before .before .before .before .args in
+    partAnswer (now (a .region)) (now (a .hints)) (c .before .before .before .before .loop .at) ≡ c .list-part .result .found
+answer c = sym (c .list-part .ensures .0)
+
+small : (c : tie.After-list-part Inv-loop μ-loop) → Small (length (now (c .before .before .before .before .before .before .before .before .before .before .args .region))) (c .before .before .before .before .loop .at) (c .list-part .result .found)
+small c = let b = c .before .before .before .before .before .before .before .before .before .before in rw (answer c) at (part-small (now (b .args .region)) (now (b .args .hints)) (c .before .before .before .before .loop .at) (b .pre .0) (b .pre .1))
+
+-- where the next part starts
+past : (c : tie.After-known-told Inv-loop μ-loop) →
+    let p = c .before .before .before .before .before .before .before in
+    (p .before .before .before .before .loop .at < c .before .found .given .0 .1 .0) × (c .before .found .given .0 .1 .0 < length (now (p .before .before .before .before .before .before .before .before .before .before .args .region)))
+past c = small (c .before .before .before .before .before .before .before) .past _ _ _ (c .before .found .given .1)
+
+row-space-requires : tie.Need-row-space-requires Inv-loop μ-loop
+row-space-requires c κs = search needs
+
+col-space-requires : tie.Need-col-space-requires Inv-loop μ-loop
+col-space-requires c κs = search needs
+
+text-space-requires : tie.Need-text-space-requires Inv-loop μ-loop
+text-space-requires c κs = search needs
+
+loop-holds : tie.Need-loop-holds Inv-loop μ-loop
+loop-holds c = (on-start _ _, search needs, search needs, search needs)
+
+list-part-requires : tie.Need-list-part-requires Inv-loop μ-loop
+list-part-requires c κs = search needs
+
+array-share-prefix-text : tie.Need-array-share-prefix-text Inv-loop μ-loop
+array-share-prefix-text c = search needs
+
+slice-aggregate-say : tie.Need-slice-aggregate-say Inv-loop μ-loop
+slice-aggregate-say c = search needs
+
+say-requires : tie.Need-say-requires Inv-loop μ-loop
+say-requires c κs = search needs
+
+rows-in-requires : tie.Need-rows-in-requires Inv-loop μ-loop
+rows-in-requires c κs = search needs
+
+add-count : tie.Need-add-count Inv-loop μ-loop
+add-count c = let p = c .before .before .before in omega (arith, c .rows-in .ensures, small p .rows, p .before .before .before .before .loop .inv .1, p .before .before .before .before .loop .inv .2, p .before .before .before .before .before .before .before .before .before .before .pre)
+
+read-in-requires : tie.Need-read-in-requires Inv-loop μ-loop
+read-in-requires c κs = search needs
+
+add-read : tie.Need-add-read Inv-loop μ-loop
+add-read c = let p = c .before .before .before .before in omega (arith, c .read-in .ensures, small p .read, p .before .before .before .before .loop .inv .1, p .before .before .before .before .loop .inv .3, p .before .before .before .before .before .before .before .before .before .before .pre)
+
+enum-known-found : tie.Need-enum-known-found Inv-loop μ-loop
+enum-known-found c = search needs
+
+returns : tie.Need-returns Inv-loop μ-loop
+returns c =
+    let p = c .before .before .before .before .before in
+    let l = p .before .before .before .before .loop in
+    let none : (n place r : ℕ) → p .list-part .result .found ≡ Full n place r → ⊥ = λ n place r e. ⊎-elim (λ z. omega arith) (λ z. omega arith) (rw e at (c .match .keys2)) in
+    let t = on-end _ _ _ _ _ _ (l .inv .1) (answer p) none (l .inv .0) in
+    rw (c .before .before .rows-in .ensures, c .before .read-in .ensures, t .0, t .1) refl
+
+loop-less : tie.Need-loop-less Inv-loop μ-loop
+loop-less c = let w = past c in omega (arith, w .0, w .1)
+
+loop-again : tie.Need-loop-again Inv-loop μ-loop
+loop-again c =
+    let p = c .before .before .before .before .before .before .before in
+    let l = p .before .before .before .before .loop in
+    let w = past c in
+    let rows = c .before .before .before .before .rows-in .ensures in
+    let read = c .before .before .before .read-in .ensures in (
+      rw (rows, read) (on-full _ _ _ _ _ _ (l .inv .1) (answer p) _ _ _ (c .before .found .given .1) (w .0) (l .inv .0)),
+      omega (arith, w .1),
+      omega (arith, rows, small p .rows, w .0, l .inv .2),
+      omega (arith, read, small p .read, w .0, l .inv .3),
+    )
+
+pub say-parts-spec : {M : Type 1} → statement M
+say-parts-spec =
+    tie.close
+    (tie.spec
+    Inv-loop
+    μ-loop
+    row-space-requires
+    col-space-requires
+    text-space-requires
+    loop-holds
+    list-part-requires
+    array-share-prefix-text
+    slice-aggregate-say
+    say-requires
+    rows-in-requires
+    add-count
+    read-in-requires
+    add-read
+    enum-known-found
+    returns
+    loop-less
+    loop-again)

@@ -1,0 +1,4 @@
+pub mod Inner
+pub mod Input
+pub mod Part
+pub mod Text

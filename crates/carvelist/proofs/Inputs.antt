@@ -7,7 +7,7 @@ use mathlib.Core.List.{List}
 use native.Mathlib.Omega.{arith}
 use borrow.Author.Tests.{ltb-false}
 use lib.Dec.{ltb, eqb}
-use lib.ListN.{length, take, drop, length-take, length-drop}
+use lib.ListN.{length, length-take, length-drop}
 use Rattle.carvelist.specs.Input.{largestInput, countOf, hintsOf, regionOf, inputChecks, Taken}
 use Rattle.sheet.proofs.Laws.{count-fits}
 use Rattle.sheet.specs.Limits.{mostColumns, countFits, hintsKnown}

@@ -1,13 +1,13 @@
 -- A part, and the parts one after the other: what has been counted so far, with what is still to come, comes to the whole.
 -- Assumes nothing.
-use Prim.Native.Nat.{ℕ, zero, suc, _+_, _*_, _≤_, _<_}
-use mathlib.Core.Path.{_≡_, refl, sym, ap, _∙_}
+use Prim.Native.Nat.{ℕ, zero, suc, _+_, _≤_, _<_}
+use mathlib.Core.Path.{_≡_, refl, _∙_}
 use mathlib.Core.List.{List, [], _∷_}
 use native.Mathlib.Omega.{arith}
 use lib.ListN.{length}
 use Rattle.carvelist.proofs.Texts.{room-holds}
 use Rattle.carvelist.specs.Input.{largestInput}
-use Rattle.carvelist.specs.Part.{rowSpace, colSpace, partAnswer, partText, thenFrom, partsFrom, partsOf, rowsSum, readSum, totalsOf}
+use Rattle.carvelist.specs.Part.{rowSpace, colSpace, partAnswer, partText, partsFrom, partsOf, rowsSum, readSum}
 use Rattle.carvelist.specs.Text.{rowsText}
 use Rattle.scan.proofs.Laws.{scan-bounded, Bounded}
 use Rattle.scan.specs.Scan.{scanAnswer, scanRows, scanCols, writtenOf, readOf}
@@ -15,7 +15,7 @@ use Rattle.scan.specs.declared.schema_sig.Scanned.{Scanned}
 use Rattle.scan.specs.declared.schema_sig.Scanned.the-variants.{Done, Full, Refused}
 use Rattle.sheet.proofs.Laws.{room-some}
 use Rattle.sheet.specs.Columns.{roomOf}
-use Rattle.sheet.specs.Limits.{mostColumns, wordsPerEntry}
+use Rattle.sheet.specs.Limits.{mostColumns}
 
 -- ---- one part
 module _ (s hints : List ℕ) (start : ℕ) where

@@ -1,13 +1,13 @@
 -- Texts written one behind the other, and the two definitions of decimal digits.
 -- Assumes nothing.
 use Prim.Native.Nat.{ℕ, zero, suc, _+_, _-_, _*_, _/_, _%_, _^_, _≤_, _<_}
-use mathlib.Core.Path.{_≡_, refl, sym, ap, _∙_}
+use mathlib.Core.Path.{_≡_, refl, _∙_}
 use mathlib.Core.List.{List, [], _∷_, _++_}
 use native.Mathlib.Nat.{add-mul, one-mul, suc-mul, mul-add, mul-left-comm, mul-le-mul-right, mod-lt, pow-suc, one-le-pow, pow-le-pow-right}
 use native.Mathlib.Numerals.{add-one}
 use native.Mathlib.Omega.{arith}
 use borrow.Author.Tests.{lt-ltb, le-ltb}
-use lib.ListN.{getD, length, length-append}
+use lib.ListN.{getD, length-append}
 use Rattle.carvelist.specs.Inner.{Put, mostType, mostLine}
 use Rattle.carvelist.specs.Text.{mostDigits, decimalFrom, decimal, field, hex8, typeText, typesText, lineText, rowsText}
 use Rattle.io.specs.Digits.{digits, Fewest}

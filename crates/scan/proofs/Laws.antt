@@ -1,7 +1,7 @@
 -- What other crates rest on: they cite these laws and unfold no definition of this one.
 -- Assumes nothing.
 use Prim.Native.Nat.{ℕ, zero, suc, _+_, _-_, _*_, _≤_, _<_}
-use mathlib.Core.Path.{_≡_, refl, sym, ap, _∙_}
+use mathlib.Core.Path.{_≡_, refl}
 use mathlib.Core.Bool.{Bool, true, false, cond, _&&_, and-eq-true-iff}
 use mathlib.Core.List.{List}
 use native.Mathlib.Omega.{arith}
@@ -14,9 +14,9 @@ use Rattle.record.specs.declared.varint.Varint.{Varint}
 use Rattle.record.specs.declared.varint.Varint.the-variants.{Value, Short}
 use Rattle.scan.specs.Attempt.{Types, isWhole, kinds, Bodies, unfit, laid, bodiesFrom, Found, Tried, miss, hit, sized, judged, judgedWhole, headerFits, attemptWith, attemptAt, typesFrom, mostHeader, mostBytes}
 use Rattle.scan.specs.Hints.{suited}
-use Rattle.scan.specs.Scan.{Run, through, noRoom, missed, found, scanFrom, rowCount, finishedPlaces, triedOffsets, endOf, answerOf, orRefused, scanChecks, scanRun, scanAnswer, writtenOf, readOf}
+use Rattle.scan.specs.Scan.{Run, through, noRoom, missed, found, scanFrom, rowCount, finishedPlaces, triedOffsets, endOf, answerOf, orRefused, scanChecks, scanAnswer, writtenOf, readOf}
 use Rattle.scan.specs.declared.schema_sig.Scanned.{Scanned}
-use Rattle.scan.specs.declared.schema_sig.Scanned.the-variants.{Done, Full, Refused}
+use Rattle.scan.specs.declared.schema_sig.Scanned.the-variants.{Full}
 use Rattle.scan.proofs.Bodies.{laid-ends}
 use Rattle.scan.proofs.Going.{scan-none, scan-missed, scan-found, scan-full, scan-end}
 use Rattle.scan.proofs.Quiet.{finished-few}

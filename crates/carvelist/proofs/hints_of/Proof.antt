@@ -4,8 +4,8 @@ use Prim.Native.Nat.{_+_, _-_}
 use mathlib.Core.Path.{_≡_}
 use native.Mathlib.Omega.{arith}
 use denote.Ref.{now}
-use Rattle.carvelist.specs.Input.{countOf}
 use borrow.Author.Needs.{needs}
+use Rattle.carvelist.specs.Input.{countOf}
 use Rattle.carvelist.proofs.hints_of.Statement.{statement}
 use Rattle.carvelist.proofs.hints_of.Tie as tie
 

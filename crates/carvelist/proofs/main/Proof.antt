@@ -2,9 +2,9 @@
 -- Assumes nothing.
 use mathlib.Core.Path.{sym, _∙_}
 use lib.ListN.{take}
+use borrow.Author.Needs.{needs}
 use Rattle.carvelist.proofs.Inputs.{taken, taken-sizes}
 use Rattle.carvelist.specs.Input.{Taken}
-use borrow.Author.Needs.{needs}
 use Rattle.carvelist.proofs.main.Statement.{statement}
 use Rattle.carvelist.proofs.main.Tie as tie
 

@@ -1,12 +1,12 @@
 -- `carvelist::region_of` meets its contract: the part up to the end is all that is left.
 -- Assumes nothing.
 use Prim.Native.Nat.{_+_, _-_}
+use native.Mathlib.Omega.{arith}
 use denote.Ref.{now}
 use lib.ListN.{length, drop, length-drop}
-use Rattle.carvelist.specs.Input.{countOf}
-use native.Mathlib.Omega.{arith}
 use lib.Seq.{take-all}
 use borrow.Author.Needs.{needs}
+use Rattle.carvelist.specs.Input.{countOf}
 use Rattle.carvelist.proofs.region_of.Statement.{statement}
 use Rattle.carvelist.proofs.region_of.Tie as tie
 

@@ -1,6 +1,6 @@
 -- `carvelist::say_parts` meets its contract. The loop's invariant: what is counted, with the parts from `at` on, comes to the whole (`On`); places rise, so the sums fit.
 -- Assumes nothing.
-use Prim.Native.Nat.{ℕ, _+_, _*_, _-_, _≤_, _<_}
+use Prim.Native.Nat.{ℕ, _*_, _-_, _≤_, _<_}
 use mathlib.Core.Path.{_≡_, refl, sym}
 use mathlib.Core.Logic.{⊎-elim}
 use native.Mathlib.Omega.{arith}
@@ -25,13 +25,17 @@ answer : (c : tie.After-list-part Inv-loop μ-loop) →
     partAnswer (now (a .region)) (now (a .hints)) (c .before .before .before .before .loop .at) ≡ c .list-part .result .found
 answer c = sym (c .list-part .ensures .0)
 
-small : (c : tie.After-list-part Inv-loop μ-loop) → Small (length (now (c .before .before .before .before .before .before .before .before .before .before .args .region))) (c .before .before .before .before .loop .at) (c .list-part .result .found)
-small c = let b = c .before .before .before .before .before .before .before .before .before .before in rw (answer c) at (part-small (now (b .args .region)) (now (b .args .hints)) (c .before .before .before .before .loop .at) (b .pre .0) (b .pre .1))
+small : (c : tie.After-list-part Inv-loop μ-loop) →
+    Small (length (now (c .before .before .before .before .before .before .before .before .before .before .args .region))) (c .before .before .before .before .loop .at) (c .list-part .result .found)
+small c =
+    let b = c .before .before .before .before .before .before .before .before .before .before in
+    rw (answer c) at (part-small (now (b .args .region)) (now (b .args .hints)) (c .before .before .before .before .loop .at) (b .pre .0) (b .pre .1))
 
 -- where the next part starts
 past : (c : tie.After-known-told Inv-loop μ-loop) →
     let p = c .before .before .before .before .before .before .before in
-    (p .before .before .before .before .loop .at < c .before .found .given .0 .1 .0) × (c .before .found .given .0 .1 .0 < length (now (p .before .before .before .before .before .before .before .before .before .before .args .region)))
+    let place = c .before .found .given .0 .1 .0 in
+    (p .before .before .before .before .loop .at < place) × (place < length (now (p .before .before .before .before .before .before .before .before .before .before .args .region)))
 past c = small (c .before .before .before .before .before .before .before) .past _ _ _ (c .before .found .given .1)
 
 row-space-requires : tie.Need-row-space-requires Inv-loop μ-loop
@@ -62,13 +66,17 @@ rows-in-requires : tie.Need-rows-in-requires Inv-loop μ-loop
 rows-in-requires c κs = search needs
 
 add-count : tie.Need-add-count Inv-loop μ-loop
-add-count c = let p = c .before .before .before in omega (arith, c .rows-in .ensures, small p .rows, p .before .before .before .before .loop .inv .1, p .before .before .before .before .loop .inv .2, p .before .before .before .before .before .before .before .before .before .before .pre)
+add-count c =
+    let p = c .before .before .before in
+    omega (arith, c .rows-in .ensures, small p .rows, p .before .before .before .before .loop .inv .1, p .before .before .before .before .loop .inv .2, p .before .before .before .before .before .before .before .before .before .before .pre)
 
 read-in-requires : tie.Need-read-in-requires Inv-loop μ-loop
 read-in-requires c κs = search needs
 
 add-read : tie.Need-add-read Inv-loop μ-loop
-add-read c = let p = c .before .before .before .before in omega (arith, c .read-in .ensures, small p .read, p .before .before .before .before .loop .inv .1, p .before .before .before .before .loop .inv .3, p .before .before .before .before .before .before .before .before .before .before .pre)
+add-read c =
+    let p = c .before .before .before .before in
+    omega (arith, c .read-in .ensures, small p .read, p .before .before .before .before .loop .inv .1, p .before .before .before .before .loop .inv .3, p .before .before .before .before .before .before .before .before .before .before .pre)
 
 enum-known-found : tie.Need-enum-known-found Inv-loop μ-loop
 enum-known-found c = search needs
@@ -77,7 +85,8 @@ returns : tie.Need-returns Inv-loop μ-loop
 returns c =
     let p = c .before .before .before .before .before in
     let l = p .before .before .before .before .loop in
-    let none : (n place r : ℕ) → p .list-part .result .found ≡ Full n place r → ⊥ = λ n place r e. ⊎-elim (λ z. omega arith) (λ z. omega arith) (rw e at (c .match .keys2)) in
+    let none : (n place r : ℕ) → p .list-part .result .found ≡ Full n place r → ⊥ =
+    λ n place r e. ⊎-elim (λ z. omega arith) (λ z. omega arith) (rw e at (c .match .keys2)) in
     let t = on-end _ _ _ _ _ _ (l .inv .1) (answer p) none (l .inv .0) in
     rw (c .before .before .rows-in .ensures, c .before .read-in .ensures, t .0, t .1) refl
 

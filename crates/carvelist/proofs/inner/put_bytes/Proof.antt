@@ -6,9 +6,9 @@ use mathlib.Core.List.{List}
 use native.Mathlib.Nat.{add-zero, add-suc}
 use native.Mathlib.Numerals.{add-one}
 use native.Mathlib.Omega.{arith}
-use borrow.Author.Needs.{needs}
 use lib.ListN.{length, drop, getD, set, length-set}
 use lib.Seq.{sets, drop-cons, drop-length}
+use borrow.Author.Needs.{needs}
 use Rattle.carvelist.proofs.inner.put_bytes.Statement.{statement}
 use Rattle.carvelist.proofs.inner.put_bytes.Tie as tie
 

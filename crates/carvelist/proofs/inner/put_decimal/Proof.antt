@@ -3,9 +3,9 @@
 use Prim.Native.Nat.{_≤_}
 use mathlib.Core.Path.{_∙_}
 use native.Mathlib.Omega.{arith}
+use borrow.Author.Needs.{needs}
 use Rattle.carvelist.proofs.Texts.{digits-few, decimal-is}
 use Rattle.carvelist.specs.Text.{mostDigits}
-use borrow.Author.Needs.{needs}
 use Rattle.carvelist.proofs.inner.put_decimal.Statement.{statement}
 use Rattle.carvelist.proofs.inner.put_decimal.Tie as tie
 

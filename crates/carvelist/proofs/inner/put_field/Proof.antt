@@ -1,8 +1,7 @@
 -- `carvelist::inner::put_field` meets its contract.
 -- Assumes nothing.
-use native.Mathlib.Omega.{arith}
-use Rattle.carvelist.proofs.Texts.{put-more}
 use borrow.Author.Needs.{needs}
+use Rattle.carvelist.proofs.Texts.{put-more}
 use Rattle.carvelist.proofs.inner.put_field.Statement.{statement}
 use Rattle.carvelist.proofs.inner.put_field.Tie as tie
 

@@ -1,11 +1,7 @@
 -- `carvelist::inner::put_hex` meets its contract.
 -- Assumes nothing.
-use Rattle.carvelist.specs.Text.{hex8}
-use mathlib.Core.Path.{_≡_}
-use mathlib.Core.List.{List, [], _∷_}
-use Prim.Native.Nat.{ℕ}
-use Rattle.carvelist.specs.Inner.{Put}
 use borrow.Author.Needs.{needs}
+use Rattle.carvelist.specs.Text.{hex8}
 use Rattle.carvelist.proofs.inner.put_hex.Statement.{statement}
 use Rattle.carvelist.proofs.inner.put_hex.Tie as tie
 
@@ -45,9 +41,26 @@ same-length c = search needs
 returns : tie.Need-returns
 unfolding hex8
 returns c =
-    let d₁ = c .before .before .before .before .before .before .before .before .before .before .before .before in
-    let p = c .before .before .put-bytes in
-    (rw (← (c .before .before .before .before .before .before .before .before .before .before .before .before .hex-digit .ensures), ← (c .before .before .before .before .before .before .before .before .before .before .before .hex-digit2 .ensures), ← (c .before .before .before .before .before .before .before .before .before .before .hex-digit3 .ensures), ← (c .before .before .before .before .before .before .before .before .before .hex-digit4 .ensures), ← (c .before .before .before .before .before .before .before .before .hex-digit5 .ensures), ← (c .before .before .before .before .before .before .before .hex-digit6 .ensures), ← (c .before .before .before .before .before .before .hex-digit7 .ensures), ← (c .before .before .before .before .before .hex-digit8 .ensures)) (p .ensures), search needs)
+    let d₈ = c .before .before .before .before .before in
+    let d₇ = d₈ .before in
+    let d₆ = d₇ .before in
+    let d₅ = d₆ .before in
+    let d₄ = d₅ .before in
+    let d₃ = d₄ .before in
+    let d₂ = d₃ .before in
+    let d₁ = d₂ .before in (
+      rw (
+        ← (d₁ .hex-digit .ensures),
+        ← (d₂ .hex-digit2 .ensures),
+        ← (d₃ .hex-digit3 .ensures),
+        ← (d₄ .hex-digit4 .ensures),
+        ← (d₅ .hex-digit5 .ensures),
+        ← (d₆ .hex-digit6 .ensures),
+        ← (d₇ .hex-digit7 .ensures),
+        ← (d₈ .hex-digit8 .ensures),
+      ) (c .before .before .put-bytes .ensures),
+      c .before .before .put-bytes .ensures .ends,
+    )
 
 pub put-hex-spec : {M : Type 1} → statement M
 put-hex-spec =

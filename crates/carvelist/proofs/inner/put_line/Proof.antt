@@ -1,8 +1,8 @@
 -- `carvelist::inner::put_line` meets its contract: its fields stand one behind the other.
 -- Assumes nothing.
-use Rattle.carvelist.proofs.Texts.{line-put}
 use denote.Ref.{now}
 use borrow.Author.Needs.{needs}
+use Rattle.carvelist.proofs.Texts.{line-put}
 use Rattle.carvelist.proofs.inner.put_line.Statement.{statement}
 use Rattle.carvelist.proofs.inner.put_line.Tie as tie
 

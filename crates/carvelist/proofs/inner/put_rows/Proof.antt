@@ -1,12 +1,12 @@
 -- `carvelist::inner::put_rows` meets its contract. The loop's invariant: the lines of the first n rows are written.
 -- Assumes nothing.
+use Prim.Native.Nat.{_*_, _-_, _≤_}
 use mathlib.Core.Path.{_≡_, refl, _∙_}
-use Rattle.carvelist.proofs.Texts.{put-none, put-more, rows-none, rows-more, one-more, has-room}
-use Rattle.sheet.specs.Limits.{wordsPerEntry}
-use Prim.Native.Nat.{_+_, _*_, _-_, _≤_}
 use native.Mathlib.Omega.{arith}
 use lib.ListN.{length}
 use borrow.Author.Needs.{needs}
+use Rattle.carvelist.proofs.Texts.{put-none, put-more, rows-none, rows-more, one-more, has-room}
+use Rattle.sheet.specs.Limits.{wordsPerEntry}
 use Rattle.carvelist.specs.Inner.{Put, mostLine}
 use Rattle.carvelist.specs.Text.{rowsText}
 use Rattle.carvelist.proofs.inner.put_rows.Statement.{statement}

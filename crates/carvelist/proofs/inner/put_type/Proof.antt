@@ -2,8 +2,8 @@
 -- Assumes nothing.
 use mathlib.Core.Path.{_≡_}
 use native.Mathlib.Omega.{arith}
-use Rattle.carvelist.proofs.Texts.{put-more, type-first, type-next}
 use borrow.Author.Needs.{needs}
+use Rattle.carvelist.proofs.Texts.{put-more, type-first, type-next}
 use Rattle.carvelist.proofs.inner.put_type.Statement.{statement}
 use Rattle.carvelist.proofs.inner.put_type.Tie as tie
 

@@ -1,16 +1,16 @@
 -- `carvelist::part::list_part` meets its contract: the rows that the scan wrote have their words and their lines have room (`room-holds`).
 -- Assumes nothing.
 use Prim.Native.Nat.{_≤_}
-use mathlib.Core.Path.{_≡_, _∙_, ap}
+use mathlib.Core.Path.{_≡_, _∙_}
 use native.Mathlib.Omega.{arith}
 use denote.Ref.{now}
 use lib.ListN.{length}
+use borrow.Author.Needs.{needs}
 use Rattle.carvelist.proofs.Texts.{room-holds}
 use Rattle.carvelist.proofs.Parts.{part-answer, part-text, part-room}
 use Rattle.carvelist.specs.Part.{rowSpace, colSpace}
 use Rattle.sheet.specs.Columns.{roomOf}
 use Rattle.io.proofs.Counting.{counts}
-use borrow.Author.Needs.{needs}
 use Rattle.carvelist.proofs.part.list_part.Statement.{statement}
 use Rattle.carvelist.proofs.part.list_part.Tie as tie
 

@@ -1,9 +1,8 @@
 -- `carvelist::text::put_heading` meets its contract.
 -- Assumes nothing.
-use native.Mathlib.Omega.{arith}
+use borrow.Author.Needs.{needs}
 use Rattle.io.proofs.Counting.{counts}
 use Rattle.carvelist.specs.Text.{heading}
-use borrow.Author.Needs.{needs}
 use Rattle.carvelist.proofs.text.put_heading.Statement.{statement}
 use Rattle.carvelist.proofs.text.put_heading.Tie as tie
 

@@ -1,10 +1,9 @@
 -- `carvelist::text::put_refusal` meets its contract.
 -- Assumes nothing.
-use native.Mathlib.Omega.{arith}
+use borrow.Author.Needs.{needs}
 use Rattle.io.proofs.Counting.{counts}
 use Rattle.carvelist.proofs.Texts.{put-more}
 use Rattle.carvelist.specs.Text.{refusalLine}
-use borrow.Author.Needs.{needs}
 use Rattle.carvelist.proofs.text.put_refusal.Statement.{statement}
 use Rattle.carvelist.proofs.text.put_refusal.Tie as tie
 

@@ -1,10 +1,9 @@
 -- `carvelist::text::put_totals` meets its contract.
 -- Assumes nothing.
-use native.Mathlib.Omega.{arith}
+use borrow.Author.Needs.{needs}
 use Rattle.io.proofs.Counting.{counts}
 use Rattle.carvelist.proofs.Texts.{put-more}
 use Rattle.carvelist.specs.Text.{totalsLine}
-use borrow.Author.Needs.{needs}
 use Rattle.carvelist.proofs.text.put_totals.Statement.{statement}
 use Rattle.carvelist.proofs.text.put_totals.Tie as tie
 

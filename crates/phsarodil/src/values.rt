@@ -11,7 +11,7 @@ use record::varint::Read;
 use record::varint::read_varint;
 ghost use mathlib.Core.Path.{_≡_};
 ghost use Rattle.phsarodil.specs.Door.{varintWords, lengthWords, tagOf, wordOf, bitsOf, startOf, lengthOf, decodedWords, entryOf, entryWords, viewWords};
-ghost use Rattle.phsarodil.specs.Inner.{BodyThere};
+ghost use Rattle.record.specs.Inner.{BodyThere};
 ghost use Rattle.record.specs.Entry.{readEntry, refusalOf, entryBytes};
 ghost use Rattle.record.specs.Value.{bodyLength, decodeAt};
 ghost use Rattle.record.specs.Varint.{readVarint};

@@ -5,7 +5,7 @@ use denote.Ref.{now}
 use borrow.Author.Needs.{needs}
 use Rattle.record.specs.Value.{decodeAt}
 use Rattle.record.specs.declared.record.Decoded.the-variants.{Of}
-use Rattle.phsarodil.proofs.Bodies.{decoded-there}
+use Rattle.record.proofs.Bodies.{decoded-there}
 use Rattle.phsarodil.proofs.values.phs_decode_serial_type.Statement.{statement}
 use Rattle.phsarodil.proofs.values.phs_decode_serial_type.Tie as tie
 

@@ -6,7 +6,7 @@ use borrow.Author.Needs.{needs}
 use Rattle.record.specs.Entry.{readEntry}
 use Rattle.record.specs.declared.entry.EntryRead.the-variants.{Of}
 use Rattle.phsarodil.specs.Door.{entryOf}
-use Rattle.phsarodil.proofs.Bodies.{read-there}
+use Rattle.record.proofs.Bodies.{read-there}
 use Rattle.phsarodil.proofs.values.phs_read_entry.Statement.{statement}
 use Rattle.phsarodil.proofs.values.phs_read_entry.Tie as tie
 

@@ -8,17 +8,17 @@ use native.Mathlib.Omega.{arith}
 use lib.Dec.{ltb, eqb}
 use lib.ListN.{length, take, drop}
 use borrow.Author.Tests.{leb-true, ltb-false, eqb-true}
 use Rattle.record.specs.Entry.{unlike, badEntry, readEntry, valueBytes, shown, entryBytes}
 use Rattle.record.specs.Value.{bodyLength, bodyFits, valueOf, decodeAt, decodeAs}
 use Rattle.record.specs.declared.entry.Entry.{Entry}
 use Rattle.record.specs.declared.entry.EntryRead.{EntryRead}
 use Rattle.record.specs.declared.entry.EntryRead.the-variants.{Of as Reads, Refused as Bad}
 use Rattle.record.specs.declared.record.Decoded.the-variants.{Of, Nothing}
 use Rattle.record.specs.declared.record.Length.{Length}
 use Rattle.record.specs.declared.record.Length.the-variants.{Bytes, Reserved}
 use Rattle.record.specs.declared.record.Value.{Value}
 use Rattle.record.specs.declared.record.Value.the-variants.{Null}
-use Rattle.phsarodil.specs.Inner.{BodyThere}
+use Rattle.record.specs.Inner.{BodyThere}
 
 pick : {A : Type 0} (P : A → Type 0) (b : Bool) {x y : A} → (b ≡ true → P x) → P y → P (cond b x y)
 pick P true p q = p refl

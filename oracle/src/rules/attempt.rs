@@ -23,7 +23,7 @@ pub fn suits(hint: u8, kind: u64) -> bool {
         0 => kind <= 6 || kind == 8 || kind == 9,
         1 => kind == 0 || kind == 7,
         2 => kind == 0 || (kind >= 13 && kind % 2 == 1),
-        3 => kind == 0 || (kind >= 12 && kind.is_multiple_of(2)),
+        3 => kind == 0 || (kind >= 12 && kind % 2 == 0),
         4 => kind == 0,
         _ => hint == 5,
     }

@@ -49,7 +49,7 @@ pub fn decode(kind: u64, bytes: &[u8], at: u64) -> Option<Value> {
         1..=6 => number(INTEGER, signed(body)),
         7 => number(REAL, unsigned(body)),
         8 | 9 => number(INTEGER, kind - 8),
-        _ if kind.is_multiple_of(2) => Value { tag: BLOB, ..place },
+        _ if kind % 2 == 0 => Value { tag: BLOB, ..place },
         _ => Value { tag: TEXT, ..place },
     })
 }

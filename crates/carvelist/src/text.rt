@@ -5,7 +5,6 @@ use crate::part::TEXT_BYTES;
 use crate::part::Totals;
 use sheet::refusal::Refusal;
 use sheet::refusal::number;
-ghost use mathlib.Core.Path.{_≡_};
 ghost use Rattle.carvelist.specs.Inner.{Put};
 ghost use Rattle.carvelist.specs.Text.{heading, totalsLine, refusalLine};
 ghost use Rattle.io.specs.Counts.{Counts};

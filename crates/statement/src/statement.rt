@@ -5,9 +5,9 @@ ghost use mathlib.Core.Path.{_≡_};
 ghost use Prim.Native.Nat.{_+_, _≤_, _<_};
 ghost use lib.ListN.{length};
 ghost use lib.Seq.{sets};
-ghost use Rattle.statement.specs.Statement.{hintOf, isRowId, isSkipped, pieceHints, allHints, laid, statementAnswer, statementHints};
+ghost use Rattle.statement.specs.Statement.{closing, hintOf, isRowId, isSkipped, pieceHints, allHints, laid, statementAnswer, statementHints};
 ghost use Rattle.statement.specs.Inner.{inRun, Kept, matches, matchesOne, startsOrIs, PieceEnds, givenHints};
-ghost use Rattle.statement.specs.Words.{isBlank, raise, takeWhile, dropWhile, trim, behindFirst, pieces, firstWord, secondWord, startsWith, equals, holds};
+ghost use Rattle.statement.specs.Words.{isBlank, isNot, raise, takeWhile, dropWhile, trim, behindFirst, pieces, firstWord, secondWord, startsWith, equals, holds};
 
 // In bytes.
 pub const LARGEST_STATEMENT: usize = 65_536;
@@ -348,6 +348,13 @@ fn put_hints(columns: &[u8], hints: &mut [u8])
     }
 }
 
+// Where the columns end: behind the last `)`.
+fn list_end(rest: &[u8]) -> usize
+    ensures { λ r. ⌜ Kept (isNot closing) (now (rest .entry)) r ⌝ }
+{
+    kept(rest, Run::Until(b')'))
+}
+
 pub fn from_create_sql(statement: &[u8], hints: &mut [u8]) -> Hinted
     ensures answer { λ r. ⌜ r ≡ statementAnswer (now (statement .entry)) (length (now (hints .entry))) ⌝ }
     ensures list { λ _. ⌜ now (hints .exit) ≡ statementHints (now (statement .entry)) (now (hints .entry)) ⌝ }
@@ -356,7 +363,7 @@ pub fn from_create_sql(statement: &[u8], hints: &mut [u8]) -> Hinted
         return Hinted::Refused(Refusal::TooLarge);
     }
     let rest = behind_first(statement, b'(');
-    let end = kept(rest, Run::Until(b')'));
+    let end = list_end(rest);
     // Where there is no `(`, the rest is empty, so no `)` stands in it.
     if end == 0 {
         return Hinted::Refused(Refusal::NoColumnList);

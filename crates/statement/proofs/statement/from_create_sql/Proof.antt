@@ -15,13 +15,13 @@ use Rattle.statement.proofs.statement.from_create_sql.Tie as tie
 
 -- what is counted are the hints of the columns,
 counts : (c : tie.After-count-hints) →
-    let kept = c .before .before .before .kept .result in
+    let end = c .before .before .before .list-end .result in
     let rest = c .before .before .before .before .behind-first .result .now in
-    Counts (c .before .before .before .before .before .before .before .before .args .statement .now) (take (kept - 1) rest) (c .count-hints .result)
+    Counts (c .before .before .before .before .before .before .before .before .args .statement .now) (take (end - 1) rest) (c .count-hints .result)
 counts c =
     let k = c .before .before .before in
     record {
-      lists = lists-at _ _ _ (k .before .before .if1 .left) (k .before .behind-first .ensures) (k .kept .ensures) (omega arith);
+      lists = lists-at _ _ _ (k .before .before .if1 .left) (k .before .behind-first .ensures) (k .list-end .ensures) (omega arith);
       number = c .count-hints .ensures;
     }
 
@@ -35,19 +35,19 @@ returns c = too-large _ _ (c .if1 .taken)
 behind-first-requires : tie.Need-behind-first-requires
 behind-first-requires c κs = search needs
 
-kept-requires : tie.Need-kept-requires
-kept-requires c κs = search needs
+list-end-requires : tie.Need-list-end-requires
+list-end-requires c κs = search needs
 
 returns-2 : tie.Need-returns-2
 returns-2 c =
     let k = c .before in
-    no-list _ _ _ _ (k .before .before .if1 .left) (k .before .behind-first .ensures) (k .kept .ensures) (c .if2 .taken)
+    no-list _ _ _ _ (k .before .before .if1 .left) (k .before .behind-first .ensures) (k .list-end .ensures) (c .if2 .taken)
 
 sub-columns : tie.Need-sub-columns
 sub-columns c = search needs
 
 slice-aggregate-columns : tie.Need-slice-aggregate-columns
-slice-aggregate-columns c = sym (length-take-le _ _ (omega (arith, c .before .before .kept .ensures .within)))
+slice-aggregate-columns c = sym (length-take-le _ _ (omega (arith, c .before .before .list-end .ensures .within)))
 
 count-hints-requires : tie.Need-count-hints-requires
 count-hints-requires c κs = search needs
@@ -83,7 +83,7 @@ from-create-sql-spec =
     (tie.spec
     returns
     behind-first-requires
-    kept-requires
+    list-end-requires
     returns-2
     sub-columns
     slice-aggregate-columns

@@ -43,13 +43,6 @@ impl Cell {
             Cell::Byte => byte_pattern(i),
         }
     }
-
-    pub fn bytes(self) -> usize {
-        match self {
-            Cell::Word => 8,
-            Cell::Byte => 1,
-        }
-    }
 }
 
 impl Case {
@@ -62,7 +55,7 @@ impl Case {
         }
     }
 
-    /// The case as the server and a recording have it: four counts, the numbers, the lengths, the bytes.
+    /// The case as the server has it: four counts, the numbers, the lengths, the bytes.
     pub fn frame(&self, to: &mut Vec<u8>) {
         let counts = [self.numbers.len(), self.slices.len(), self.lists.len()];
         to.push(self.call);

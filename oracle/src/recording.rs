@@ -13,7 +13,7 @@ use std::{fs, io, path::Path};
 
 /// Slices and cells of a recorded case, and bytes of the whole file, at most.
 const LARGEST_CASE: usize = 1200;
-const LARGEST_FILE: usize = 960_000;
+const LARGEST_FILE: usize = 2_000_000;
 
 /// Cases of one kind: the first few, and then ever fewer of the many.
 const FIRST: usize = 24;
@@ -63,24 +63,33 @@ impl Recorder {
         let rust = asked == Asked::Said(Given::Agrees);
         self.cases += 1;
         self.with_the_rust += usize::from(rust);
-        let mut frame = Vec::new();
-        case.frame(&mut frame);
-        put_answer(&mut frame, case, &answer, rust);
-        self.file.extend((frame.len() as u32).to_le_bytes());
-        self.file.extend(frame);
+        put_case(&mut self.file, case, &answer, rust);
     }
 }
 
-fn put_answer(frame: &mut Vec<u8>, case: &Case, answer: &Answer, rust: bool) {
-    frame.extend([answer.number as u8, u8::from(rust), answer.out.len() as u8]);
-    for word in &answer.out {
-        frame.extend(word.to_le_bytes());
+/// A head of eighteen words, then the bytes of the slices, then the written cells of the lists.
+fn put_case(file: &mut Vec<u8>, case: &Case, answer: &Answer, rust: bool) {
+    let mut body: Vec<u8> = case.slices.concat();
+    body.extend(answer.lists.iter().flatten().flat_map(|cell| cell.to_be_bytes()));
+    let lengths: Vec<u64> = case.slices.iter().map(|slice| slice.len() as u64).collect();
+    let cells: Vec<u64> = case.lists.iter().map(|&n| n as u64).collect();
+    let written: Vec<u64> = answer.lists.iter().map(|list| list.len() as u64).collect();
+    put_words(file, &[body.len() as u64, u64::from(case.call)], 2);
+    put_words(file, &case.numbers, 4);
+    for sizes in [lengths, cells, written] {
+        put_words(file, &sizes, 2);
     }
-    for (cells, cell) in answer.lists.iter().zip(calls::of(case).lists) {
-        frame.extend((cells.len() as u32).to_le_bytes());
-        for value in cells {
-            frame.extend(&value.to_le_bytes()[..cell.bytes()]);
-        }
+    put_words(file, &[answer.number], 1);
+    put_words(file, &answer.out, 4);
+    put_words(file, &[u64::from(rust)], 1);
+    file.extend(body);
+}
+
+/// As many words as the head has room for; the rest are 0.
+fn put_words(file: &mut Vec<u8>, words: &[u64], room: usize) {
+    assert!(words.len() <= room);
+    for i in 0..room {
+        file.extend(words.get(i).unwrap_or(&0).to_be_bytes());
     }
 }
 

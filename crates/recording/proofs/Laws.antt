@@ -1,0 +1,18 @@
+-- What other crates may use of a recording's definitions.
+-- Assumes nothing.
+use Prim.Native.Nat.{ℕ, zero, suc, _≤_}
+use mathlib.Core.Path.{_≡_, refl, _∙_}
+use mathlib.Core.List.{List, [], _∷_}
+use native.Mathlib.Numerals.{add-one}
+use lib.ListN.{length, take, length-append}
+use lib.Seq.{length-take-le}
+use Rattle.recording.specs.Recording.{mostSize, cells}
+
+length-cells : (f : ℕ → ℕ) (n : ℕ) → length (cells f n) ≡ n
+unfolding cells
+length-cells f zero = refl
+length-cells f (suc n) = length-append (cells f n) (f n ∷ []) ∙ rw (length-cells f n, add-one)
+
+-- THE LAW: a list that is lent is as long as it is said to be
+pub lent-length : (f : ℕ → ℕ) (n : ℕ) {l : List ℕ} → l ≡ cells f mostSize → n ≤ mostSize → length (take n l) ≡ n
+lent-length f n {l = l} e h = length-take-le n l (rw (e, length-cells f mostSize) h)

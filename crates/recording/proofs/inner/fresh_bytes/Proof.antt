@@ -1,0 +1,57 @@
+-- `recording::inner::fresh_bytes` meets its contract. The loop's invariant: the first i cells are filled.
+-- Assumes nothing.
+use Prim.Native.Nat.{_-_, _≤_}
+use mathlib.Core.Path.{_≡_, refl, _∙_}
+use native.Mathlib.Omega.{arith}
+use borrow.Author.Needs.{needs}
+use lib.ListN.{length, length-set, take}
+use Rattle.recording.specs.Recording.{mostSize, freshByte, cells}
+use Rattle.recording.proofs.Recorded.{cells-none, cells-more, cells-all}
+use Rattle.recording.proofs.inner.fresh_bytes.Statement.{statement}
+use Rattle.recording.proofs.inner.fresh_bytes.Tie as tie
+
+abbrev Inv-loop : tie.InvT-loop
+Inv-loop list₀ i₀ list i = (i ≤ mostSize) × (length list ≡ mostSize) × (take i list ≡ cells freshByte i)
+
+abbrev μ-loop : tie.MeasureT-loop
+μ-loop list₀ i₀ list i = mostSize - i
+
+loop-holds : tie.Need-loop-holds Inv-loop μ-loop
+loop-holds c = (search needs, refl, cells-none freshByte)
+
+fresh-byte-requires : tie.Need-fresh-byte-requires Inv-loop μ-loop
+fresh-byte-requires c κs = search needs
+
+array-write-list : tie.Need-array-write-list Inv-loop μ-loop
+array-write-list c = search needs
+
+add-i : tie.Need-add-i Inv-loop μ-loop
+add-i c = search needs
+
+loop-less : tie.Need-loop-less Inv-loop μ-loop
+loop-less c = search needs
+
+loop-again : tie.Need-loop-again Inv-loop μ-loop
+loop-again c =
+    let l = c .before .before .loop in
+    (omega arith, simp length-set (l .inv .1), cells-more freshByte (l .list) (l .i) (l .inv .2) (c .fresh-byte .ensures) (omega arith))
+
+returns : tie.Need-returns Inv-loop μ-loop
+returns c =
+    let l = c .before .loop in
+    let e : l .i ≡ mostSize = omega arith in
+    rw e at (cells-all freshByte (l .list) (l .i) (l .inv .2) (omega arith))
+
+pub fresh-bytes-spec : {M : Type 1} → statement M
+fresh-bytes-spec =
+    tie.close
+    (tie.spec
+    Inv-loop
+    μ-loop
+    loop-holds
+    fresh-byte-requires
+    array-write-list
+    add-i
+    loop-less
+    loop-again
+    returns)

@@ -1,0 +1,113 @@
+// Lists that a call is lent: what their cells hold before it, and what they have to hold after it.
+use crate::case::MOST;
+use crate::case::OUT;
+use crate::case::RETURNED;
+use crate::case::word_at;
+ghost use mathlib.Core.Path.{_≡_};
+ghost use Prim.Native.Nat.{_+_, _*_, _≤_};
+ghost use lib.ListN.{length};
+ghost use Rattle.recording.specs.Recording.{mostSize, freshWord, freshByte, cells, after, holds, answered as answeredBy};
+
+fn fresh_word(i: usize) -> u64
+    requires { ⌜ i ≤ mostSize ⌝ }
+    ensures { λ r. ⌜ r ≡ freshWord i ⌝ }
+{
+    0x5EED_0000_0000_0000 + i as u64
+}
+
+fn fresh_byte(i: usize) -> u8
+    ensures { λ r. ⌜ r ≡ freshByte i ⌝ }
+{
+    200 + (i % 50) as u8
+}
+
+pub fn fresh_words() -> [u64; MOST]
+    ensures { λ r. ⌜ r ≡ cells freshWord mostSize ⌝ }
+{
+    let mut list = [0; MOST];
+    let mut i = 0;
+    while i < MOST {
+        list[i] = fresh_word(i);
+        i = i + 1;
+    }
+    list
+}
+
+pub fn fresh_bytes() -> [u8; MOST]
+    ensures { λ r. ⌜ r ≡ cells freshByte mostSize ⌝ }
+{
+    let mut list = [0; MOST];
+    let mut i = 0;
+    while i < MOST {
+        list[i] = fresh_byte(i);
+        i = i + 1;
+    }
+    list
+}
+
+fn word_after(bytes: &[u8], at: usize, written: usize, i: usize) -> u64
+    requires { ⌜ (at ≤ 18 * mostSize) × (i ≤ mostSize) ⌝ }
+    ensures { λ r. ⌜ r ≡ after freshWord (now (bytes .entry)) at written i ⌝ }
+{
+    if i < written {
+        return word_at(bytes, at + 8 * i);
+    }
+    fresh_word(i)
+}
+
+fn byte_after(bytes: &[u8], at: usize, written: usize, i: usize) -> u64
+    requires { ⌜ (at ≤ 18 * mostSize) × (i ≤ mostSize) ⌝ }
+    ensures { λ r. ⌜ r ≡ after freshByte (now (bytes .entry)) at written i ⌝ }
+{
+    if i < written {
+        return word_at(bytes, at + 8 * i);
+    }
+    fresh_byte(i) as u64
+}
+
+// Whether a list holds the words that are recorded at `at`, and behind them what it held before the call.
+pub fn words_agree(list: &[u64], bytes: &[u8], at: usize, written: usize) -> bool
+    requires { ⌜ (length (now list) ≤ mostSize) × (at ≤ 18 * mostSize) ⌝ }
+    ensures { λ r. ⌜ r ≡ holds freshWord (now (list .entry)) (now (bytes .entry)) at written ⌝ }
+{
+    if written > list.len() {
+        return false;
+    }
+    let mut i = 0;
+    while i < list.len() {
+        if list[i] != word_after(bytes, at, written, i) {
+            return false;
+        }
+        i = i + 1;
+    }
+    true
+}
+
+// The same of a list of bytes.
+pub fn bytes_agree(list: &[u8], bytes: &[u8], at: usize, written: usize) -> bool
+    requires { ⌜ (length (now list) ≤ mostSize) × (at ≤ 18 * mostSize) ⌝ }
+    ensures { λ r. ⌜ r ≡ holds freshByte (now (list .entry)) (now (bytes .entry)) at written ⌝ }
+{
+    if written > list.len() {
+        return false;
+    }
+    let mut i = 0;
+    while i < list.len() {
+        if list[i] as u64 != byte_after(bytes, at, written, i) {
+            return false;
+        }
+        i = i + 1;
+    }
+    true
+}
+
+// Whether the number and the words are those of the head.
+pub fn answered(head: &[u8], number: u64, out: &[u64]) -> bool
+    requires { ⌜ length (now out) ≤ mostSize ⌝ }
+    ensures { λ r. ⌜ r ≡ answeredBy (now (head .entry)) number (now (out .entry)) ⌝ }
+{
+    if number != word_at(head, RETURNED) {
+        return false;
+    }
+    words_agree(out, head, OUT, out.len())
+}

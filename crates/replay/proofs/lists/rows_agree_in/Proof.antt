@@ -1,0 +1,140 @@
+-- `replay::lists::rows_agree_in` meets its contract: number and words first, then the rows, then the entries.
+-- Assumes nothing.
+use mathlib.Core.Path.{_≡_, sym, ap, _∙_}
+use native.Mathlib.Omega.{arith}
+use borrow.Author.Needs.{needs}
+use borrow.Author.Tests.{not-true, not-false}
+use lib.ListN.{length}
+use Rattle.recording.specs.Recording.{freshWord}
+use Rattle.replay.specs.Calls.{firstHolds, secondHolds, rowsAnswered, rowsHold, colsHold, rowsAgree}
+use Rattle.replay.proofs.Words.{attempts-three}
+use Rattle.replay.proofs.lists.rows_agree_in.Statement.{statement}
+use Rattle.replay.proofs.lists.rows_agree_in.Tie as tie
+
+-- as many words as there are cells
+words : (c : tie.After-out2) → 3 ≡ length (c .before .before .before .before .before .attempt .last .1 .1 .1 .1 .1 .1 .1 .0)
+words c = sym (ap length (c .before .before .before .before .before .attempt .ensures .1 .0) ∙ attempts-three (c .before .before .before .before .before .before .before .before .before .before .before .before .before .before .before .before .before .before .before .args .how) _ _ _ _ _ _)
+
+-- the answer is the call's
+told : (c : tie.After-answered) →
+    let a = c .before .before .before .before .before .before .before .before .before .before .before .before .before .before .before .before .before .before .before .before .args in
+    c .answered .result ≡ rowsAnswered (a .how) (a .head .now) (a .body .now) (a .rows .now) (a .cols .now)
+told c =
+    let e = c .before .before .before .before .before .before .attempt .ensures in
+    c .answered .ensures ∙ rw
+    (e .0, e .1 .0, c .before .before .before .before .before .before .before .before .before .before .before .before .part2 .ensures, c .before .before .before .before .before .before .before .before .before .before .before .before .before .before .part .ensures, c .before .before .before .before .before .before .before .before .before .before .before .before .before .size-at2 .ensures .0, c .before .before .before .before .before .before .before .before .before .before .before .before .before .before .before .size-at .ensures .0, c .before .before .before .before .before .before .before .before .before .before .before .word-at .ensures, c .before .before .before .before .before .before .before .before .before .before .word-at2 .ensures)
+
+-- the lists are the call's
+rows-told : (c : tie.After-first-agrees) →
+    let a = c .before .before .before .before .before .before .before .before .before .before .before .before .before .before .before .before .before .before .before .before .before .before .before .args in
+    c .first-agrees .result ≡ rowsHold (a .how) (a .head .now) (a .body .now) (a .rows .now) (a .cols .now)
+rows-told c =
+    let a = c .before .before .before .before .before .before .before .before .before .before .before .before .before .before .before .before .before .before .before .before .before .before .before .args in
+    let e = c .before .before .before .before .before .before .before .before .before .attempt .ensures in
+    c .first-agrees .ensures ∙ ap (λ l. firstHolds freshWord (a .head .now) (a .body .now) l) (e .1 .1 .0) ∙ rw
+    (c .before .before .before .before .before .before .before .before .before .before .before .before .before .before .before .part2 .ensures, c .before .before .before .before .before .before .before .before .before .before .before .before .before .before .before .before .before .part .ensures, c .before .before .before .before .before .before .before .before .before .before .before .before .before .before .before .before .size-at2 .ensures .0, c .before .before .before .before .before .before .before .before .before .before .before .before .before .before .before .before .before .before .size-at .ensures .0, c .before .before .before .before .before .before .before .before .before .before .before .before .before .before .word-at .ensures, c .before .before .before .before .before .before .before .before .before .before .before .before .before .word-at2 .ensures)
+
+cols-told : (c : tie.After-second-agrees) →
+    let a = c .before .before .before .before .before .before .before .before .before .before .before .before .before .before .before .before .before .before .before .before .before .before .before .before .before .before .args in
+    c .second-agrees .result ≡ colsHold (a .how) (a .head .now) (a .body .now) (a .rows .now) (a .cols .now)
+cols-told c =
+    let a = c .before .before .before .before .before .before .before .before .before .before .before .before .before .before .before .before .before .before .before .before .before .before .before .before .before .before .args in
+    let e = c .before .before .before .before .before .before .before .before .before .before .before .before .attempt .ensures in
+    c .second-agrees .ensures ∙ ap (λ l. secondHolds (a .head .now) (a .body .now) l) (e .1 .1 .1) ∙ rw
+    (c .before .before .before .before .before .before .before .before .before .before .before .before .before .before .before .before .before .before .part2 .ensures, c .before .before .before .before .before .before .before .before .before .before .before .before .before .before .before .before .before .before .before .before .part .ensures, c .before .before .before .before .before .before .before .before .before .before .before .before .before .before .before .before .before .before .before .size-at2 .ensures .0, c .before .before .before .before .before .before .before .before .before .before .before .before .before .before .before .before .before .before .before .before .before .size-at .ensures .0, c .before .before .before .before .before .before .before .before .before .before .before .before .before .before .before .before .before .word-at .ensures, c .before .before .before .before .before .before .before .before .before .before .before .before .before .before .before .before .word-at2 .ensures)
+
+size-at-requires : tie.Need-size-at-requires
+size-at-requires c κs = search needs
+
+part-requires : tie.Need-part-requires
+part-requires c κs = search needs
+
+add-size-at : tie.Need-add-size-at
+add-size-at c = search needs
+
+size-at-requires-2 : tie.Need-size-at-requires-2
+size-at-requires-2 c κs = search needs
+
+part-requires-2 : tie.Need-part-requires-2
+part-requires-2 c κs = search needs
+
+word-at-requires : tie.Need-word-at-requires
+word-at-requires c κs = search needs
+
+add-word-at : tie.Need-add-word-at
+add-word-at c = search needs
+
+word-at-requires-2 : tie.Need-word-at-requires-2
+word-at-requires-2 c κs = search needs
+
+attempt-requires : tie.Need-attempt-requires
+attempt-requires c κs = search needs
+
+slice-aggregate-answered : tie.Need-slice-aggregate-answered
+slice-aggregate-answered c = words c
+
+answered-requires : tie.Need-answered-requires
+answered-requires c κs = omega (arith, words c)
+
+same-length : tie.Need-same-length
+same-length c = search needs
+
+same-length-2 : tie.Need-same-length-2
+same-length-2 c = search needs
+
+returns : tie.Need-returns
+unfolding rowsAgree
+returns c = rw (sym (told (c .before)) ∙ not-true _ (c .if1 .taken))
+
+first-agrees-requires : tie.Need-first-agrees-requires
+first-agrees-requires c κs = search needs
+
+same-length-3 : tie.Need-same-length-3
+same-length-3 c = search needs
+
+same-length-4 : tie.Need-same-length-4
+same-length-4 c = search needs
+
+returns-2 : tie.Need-returns-2
+unfolding rowsAgree
+returns-2 c = rw (sym (told (c .before .before .before .before)) ∙ not-false _ (c .before .before .before .if1 .left), sym (rows-told (c .before)) ∙ not-true _ (c .if2 .taken))
+
+second-agrees-requires : tie.Need-second-agrees-requires
+second-agrees-requires c κs = omega (arith, c .before .before .before .before .before .before .before .before .before .before .before .attempt .kept .1 .1 .1 .1 .1 .1 .0, c .before .before .before .before .before .before .before .before .before .before .before .before .before .before .before .before .before .before .before .before .before .before .before .before .before .pre .1)
+
+same-length-5 : tie.Need-same-length-5
+same-length-5 c = search needs
+
+same-length-6 : tie.Need-same-length-6
+same-length-6 c = search needs
+
+returns-3 : tie.Need-returns-3
+unfolding rowsAgree
+returns-3 c = rw (sym (told (c .before .before .before .before .before .before)) ∙ not-false _ (c .before .before .before .before .before .if1 .left), sym (rows-told (c .before .before .before)) ∙ not-false _ (c .before .before .if2 .left)) (cols-told c)
+
+pub rows-agree-in-spec : {M : Type 1} → statement M
+rows-agree-in-spec =
+    tie.close
+    (tie.spec
+    size-at-requires
+    part-requires
+    add-size-at
+    size-at-requires-2
+    part-requires-2
+    word-at-requires
+    add-word-at
+    word-at-requires-2
+    attempt-requires
+    slice-aggregate-answered
+    answered-requires
+    same-length
+    same-length-2
+    returns
+    first-agrees-requires
+    same-length-3
+    same-length-4
+    returns-2
+    second-agrees-requires
+    same-length-5
+    same-length-6
+    returns-3)

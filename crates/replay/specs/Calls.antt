@@ -1,0 +1,100 @@
+-- When a call agrees with a recorded case. The answers are the definitions' own, so a case that agrees is one where they are what was recorded.
+-- Assumes nothing.
+use Prim.Native.Nat.{ℕ, _+_, _*_, _%_}
+use mathlib.Core.Bool.{Bool, _&&_}
+use mathlib.Core.List.{List, [], _∷_}
+use lib.ListN.{length}
+use Rattle.phsarodil.specs.Door.{varintWords, lengthWords, decodedWords, entryOf, entryWords, viewWords, suitsNumber, suitsWords, onceWords, scanWords}
+use Rattle.record.specs.Entry.{readEntry, refusalOf, entryBytes}
+use Rattle.record.specs.Value.{bodyLength, decodeAt}
+use Rattle.record.specs.Varint.{readVarint}
+use Rattle.recording.specs.Recording.{sizeAt, number, slice, secondSlice, cellsAt, freshWord, freshByte, holds, answered}
+use Rattle.replay.specs.declared.lists.Attempts.{Attempts}
+use Rattle.replay.specs.declared.lists.Attempts.the-variants.{One, All}
+use Rattle.scan.specs.Hints.{compatible}
+use Rattle.scan.specs.Scan.{scanAnswer, scanRows, scanCols, numberOf, onceAnswer, onceRows, onceCols, onceNumberOf}
+use Rattle.search.specs.Search.{searchAnswer, searchPlaces, searchNumberOf, searchWrittenOf}
+use Rattle.statement.specs.Statement.{statementAnswer, statementHints, statementNumberOf, statementWrittenOf}
+
+abbrev pub varintAgrees : List ℕ → List ℕ → Bool
+varintAgrees h b = answered h 0 (varintWords (readVarint (slice h b) (number 0 h)))
+
+abbrev pub lengthAgrees : List ℕ → Bool
+lengthAgrees h = answered h 0 (lengthWords (bodyLength (number 0 h)))
+
+abbrev pub decodedAgrees : List ℕ → List ℕ → Bool
+decodedAgrees h b = answered h 0 (decodedWords (slice h b) (number 1 h) (decodeAt (number 0 h) (slice h b) (number 1 h)))
+
+abbrev pub entryAgrees : List ℕ → List ℕ → Bool
+entryAgrees h b =
+    let read = readEntry (entryOf (number 0 h) (number 1 h) (number 2 h) (number 3 h)) (slice h b) in
+    answered h (refusalOf read) (entryWords (slice h b) (number 2 h) read)
+
+abbrev pub viewAgrees : List ℕ → List ℕ → Bool
+viewAgrees h b =
+    answered h 0
+    (viewWords (number 2 h) (entryBytes (entryOf (number 0 h) (number 1 h) (number 2 h) (number 3 h)) (slice h b)))
+
+-- a hint is a byte
+abbrev pub suitsAgrees : List ℕ → Bool
+suitsAgrees h =
+    let answer = compatible (number 0 h % 256) (number 1 h) in
+    answered h (suitsNumber answer) (suitsWords answer)
+
+-- ---- calls that write lists: cells lent at 64 and 72, cells written at 80 and 88
+
+abbrev pub firstHolds : (ℕ → ℕ) → List ℕ → List ℕ → List ℕ → Bool
+firstHolds fresh h b l = holds fresh l b (cellsAt h) (sizeAt h 80)
+
+abbrev pub secondHolds : List ℕ → List ℕ → List ℕ → Bool
+secondHolds h b l = holds freshWord l b (cellsAt h + 8 * sizeAt h 80) (sizeAt h 88)
+
+-- one attempt, or all of a region
+abbrev pub attemptsNumber : Attempts → List ℕ → List ℕ → ℕ → ℕ → List ℕ → List ℕ → ℕ
+attemptsNumber One s hints base at rows cols = onceNumberOf (onceAnswer s hints base at (length rows) (length cols))
+attemptsNumber All s hints base at rows cols = numberOf (scanAnswer s hints base at (length rows) (length cols))
+
+abbrev pub attemptsWords : Attempts → List ℕ → List ℕ → ℕ → ℕ → List ℕ → List ℕ → List ℕ
+attemptsWords One s hints base at rows cols = onceWords (onceAnswer s hints base at (length rows) (length cols))
+attemptsWords All s hints base at rows cols = scanWords (scanAnswer s hints base at (length rows) (length cols))
+
+abbrev pub attemptsRows : Attempts → List ℕ → List ℕ → ℕ → ℕ → List ℕ → List ℕ → List ℕ
+attemptsRows One = onceRows
+attemptsRows All = scanRows
+
+abbrev pub attemptsCols : Attempts → List ℕ → List ℕ → ℕ → ℕ → List ℕ → List ℕ → List ℕ
+attemptsCols One = onceCols
+attemptsCols All = scanCols
+
+abbrev pub rowsAnswered : Attempts → List ℕ → List ℕ → List ℕ → List ℕ → Bool
+rowsAnswered how h b rows cols =
+    answered h (attemptsNumber how (slice h b) (secondSlice h b) (number 0 h) (number 1 h) rows cols)
+    (attemptsWords how (slice h b) (secondSlice h b) (number 0 h) (number 1 h) rows cols)
+
+abbrev pub rowsHold : Attempts → List ℕ → List ℕ → List ℕ → List ℕ → Bool
+rowsHold how h b rows cols =
+    firstHolds freshWord h b (attemptsRows how (slice h b) (secondSlice h b) (number 0 h) (number 1 h) rows cols)
+
+abbrev pub colsHold : Attempts → List ℕ → List ℕ → List ℕ → List ℕ → Bool
+colsHold how h b rows cols = secondHolds h b (attemptsCols how (slice h b) (secondSlice h b) (number 0 h) (number 1 h) rows cols)
+
+unfoldable pub rowsAgree : Attempts → List ℕ → List ℕ → List ℕ → List ℕ → Bool
+rowsAgree how h b rows cols = rowsAnswered how h b rows cols && rowsHold how h b rows cols && colsHold how h b rows cols
+
+-- the hints of a statement
+abbrev pub hintsAnswered : List ℕ → List ℕ → List ℕ → Bool
+hintsAnswered h b hints =
+    answered h (statementNumberOf (statementAnswer (slice h b) (length hints)))
+    (statementWrittenOf (statementAnswer (slice h b) (length hints)) ∷ [])
+
+unfoldable pub hintsAgree : List ℕ → List ℕ → List ℕ → Bool
+hintsAgree h b hints = hintsAnswered h b hints && firstHolds freshByte h b (statementHints (slice h b) hints)
+
+-- the places of a pattern
+abbrev pub placesAnswered : List ℕ → List ℕ → List ℕ → Bool
+placesAnswered h b places =
+    answered h (searchNumberOf (searchAnswer (slice h b) (secondSlice h b) (length places)))
+    (searchWrittenOf (searchAnswer (slice h b) (secondSlice h b) (length places)) ∷ [])
+
+unfoldable pub placesAgree : List ℕ → List ℕ → List ℕ → Bool
+placesAgree h b places = placesAnswered h b places && firstHolds freshWord h b (searchPlaces (slice h b) (secondSlice h b) places)

@@ -1,5 +1,6 @@
 -- `replay::lists::first_agrees` meets its contract: the list is held to the cells behind the slices.
 -- Assumes nothing.
+use mathlib.Core.Path.{_∙_}
 use borrow.Author.Needs.{needs}
 use Rattle.replay.proofs.lists.first_agrees.Statement.{statement}
 use Rattle.replay.proofs.lists.first_agrees.Tie as tie
@@ -14,7 +15,7 @@ words-agree-requires : tie.Need-words-agree-requires
 words-agree-requires c κs = search needs
 
 returns : tie.Need-returns
-returns c = cc
+returns c = c .words-agree .ensures ∙ rw (c .before .before .cells-at .ensures .0, c .before .size-at .ensures .0)
 
 pub first-agrees-spec : {M : Type 1} → statement M
 first-agrees-spec =

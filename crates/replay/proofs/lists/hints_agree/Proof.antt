@@ -1,6 +1,6 @@
 -- `replay::lists::hints_agree` meets its contract: the list lent is as long as the head says.
 -- Assumes nothing.
-use mathlib.Core.Path.{_≡_, sym}
+use mathlib.Core.Path.{_≡_, sym, _∙_}
 use native.Mathlib.Omega.{arith}
 use borrow.Author.Needs.{needs}
 use lib.ListN.{length, take}
@@ -28,7 +28,7 @@ hints-agree-in-requires : tie.Need-hints-agree-in-requires
 hints-agree-in-requires c κs = omega (arith, fits c, c .before .before .size-at .ensures .1)
 
 returns : tie.Need-returns
-returns c = cc
+returns c = c .before .hints-agree-in .ensures ∙ rw (c .before .before .before .fresh-bytes .ensures, c .before .before .before .before .size-at .ensures .0)
 
 pub hints-agree-spec : {M : Type 1} → statement M
 hints-agree-spec =

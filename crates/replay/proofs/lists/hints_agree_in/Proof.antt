@@ -5,7 +5,8 @@ use native.Mathlib.Omega.{arith}
 use borrow.Author.Needs.{needs}
 use borrow.Author.Tests.{not-true, not-false}
 use lib.ListN.{length}
-use Rattle.replay.specs.Calls.{hintsAnswered, hintsAgree}
+use Rattle.recording.specs.Recording.{freshByte}
+use Rattle.replay.specs.Calls.{firstHolds, hintsAnswered, hintsAgree}
 use Rattle.replay.proofs.lists.hints_agree_in.Statement.{statement}
 use Rattle.replay.proofs.lists.hints_agree_in.Tie as tie
 
@@ -17,7 +18,9 @@ words c = sym (ap length (c .before .before .before .phs-from-create-sql .ensure
 told : (c : tie.After-answered) →
     let a = c .before .before .before .before .before .before .before .before .before .before .before .before .args in
     c .answered .result ≡ hintsAnswered (a .head .now) (a .body .now) (a .hints .now)
-told c = cc
+told c =
+    let e = c .before .before .before .before .phs-from-create-sql .ensures in
+    c .answered .ensures ∙ rw (e .0, e .1 .0, c .before .before .before .before .before .before .before .part .ensures, c .before .before .before .before .before .before .before .before .size-at .ensures .0)
 
 size-at-requires : tie.Need-size-at-requires
 size-at-requires c κs = search needs
@@ -55,7 +58,10 @@ same-length-2 c = search needs
 
 returns-2 : tie.Need-returns-2
 unfolding hintsAgree
-returns-2 c = rw (sym (told (c .before .before .before .before .before)) ∙ not-false _ (c .before .before .before .before .if1 .left)) cc
+returns-2 c = rw (sym (told (c .before .before .before .before .before)) ∙ not-false _ (c .before .before .before .before .if1 .left))
+    (c .bytes-agree .ensures
+    ∙ rw (c .before .before .cells-at .ensures .0, c .before .size-at2 .ensures .0)
+    (ap (λ l. firstHolds freshByte (c .before .before .before .before .before .before .before .before .before .before .before .before .before .before .before .before .before .args .head .now) (c .before .before .before .before .before .before .before .before .before .before .before .before .before .before .before .before .before .args .body .now) l) (c .before .before .before .before .before .before .before .before .before .phs-from-create-sql .ensures .1 .1 ∙ rw (c .before .before .before .before .before .before .before .before .before .before .before .before .part .ensures, c .before .before .before .before .before .before .before .before .before .before .before .before .before .size-at .ensures .0))))
 
 pub hints-agree-in-spec : {M : Type 1} → statement M
 hints-agree-in-spec =

@@ -1,6 +1,6 @@
 -- `replay::lists::places_agree` meets its contract: the list lent is as long as the head says.
 -- Assumes nothing.
-use mathlib.Core.Path.{_≡_, sym}
+use mathlib.Core.Path.{_≡_, sym, _∙_}
 use native.Mathlib.Omega.{arith}
 use borrow.Author.Needs.{needs}
 use lib.ListN.{length, take}
@@ -28,7 +28,7 @@ places-agree-in-requires : tie.Need-places-agree-in-requires
 places-agree-in-requires c κs = omega (arith, fits c, c .before .before .size-at .ensures .1)
 
 returns : tie.Need-returns
-returns c = cc
+returns c = c .before .places-agree-in .ensures ∙ rw (c .before .before .before .fresh-words .ensures, c .before .before .before .before .size-at .ensures .0)
 
 pub places-agree-spec : {M : Type 1} → statement M
 places-agree-spec =

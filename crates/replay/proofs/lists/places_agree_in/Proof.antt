@@ -5,7 +5,8 @@ use native.Mathlib.Omega.{arith}
 use borrow.Author.Needs.{needs}
 use borrow.Author.Tests.{not-true, not-false}
 use lib.ListN.{length}
-use Rattle.replay.specs.Calls.{placesAnswered, placesAgree}
+use Rattle.recording.specs.Recording.{freshWord}
+use Rattle.replay.specs.Calls.{firstHolds, placesAnswered, placesAgree}
 use Rattle.replay.proofs.lists.places_agree_in.Statement.{statement}
 use Rattle.replay.proofs.lists.places_agree_in.Tie as tie
 
@@ -17,7 +18,9 @@ words c = sym (ap length (c .before .before .before .phs-boyer-moore-search .ens
 told : (c : tie.After-answered) →
     let a = c .before .before .before .before .before .before .before .before .before .before .before .before .before .before .args in
     c .answered .result ≡ placesAnswered (a .head .now) (a .body .now) (a .places .now)
-told c = cc
+told c =
+    let e = c .before .before .before .before .phs-boyer-moore-search .ensures in
+    c .answered .ensures ∙ rw (e .0, e .1 .0, c .before .before .before .before .before .before .before .part2 .ensures, c .before .before .before .before .before .before .before .before .before .part .ensures, c .before .before .before .before .before .before .before .before .size-at2 .ensures .0, c .before .before .before .before .before .before .before .before .before .before .size-at .ensures .0)
 
 size-at-requires : tie.Need-size-at-requires
 size-at-requires c κs = search needs
@@ -58,7 +61,10 @@ same-length-2 c = search needs
 
 returns-2 : tie.Need-returns-2
 unfolding placesAgree
-returns-2 c = rw (sym (told (c .before .before .before)) ∙ not-false _ (c .before .before .if1 .left)) cc
+returns-2 c = rw (sym (told (c .before .before .before)) ∙ not-false _ (c .before .before .if1 .left))
+    (c .first-agrees .ensures
+    ∙ ap (λ l. firstHolds freshWord (c .before .before .before .before .before .before .before .before .before .before .before .before .before .before .before .before .before .args .head .now) (c .before .before .before .before .before .before .before .before .before .before .before .before .before .before .before .before .before .args .body .now) l)
+    (c .before .before .before .before .before .before .before .phs-boyer-moore-search .ensures .1 .1 ∙ rw (c .before .before .before .before .before .before .before .before .before .before .part2 .ensures, c .before .before .before .before .before .before .before .before .before .before .before .before .part .ensures, c .before .before .before .before .before .before .before .before .before .before .before .size-at2 .ensures .0, c .before .before .before .before .before .before .before .before .before .before .before .before .before .size-at .ensures .0)))
 
 pub places-agree-in-spec : {M : Type 1} → statement M
 places-agree-in-spec =

@@ -1,6 +1,6 @@
 -- `replay::lists::rows_agree` meets its contract: the lists lent are as long as the head says.
 -- Assumes nothing.
-use mathlib.Core.Path.{_≡_, sym}
+use mathlib.Core.Path.{_≡_, sym, _∙_}
 use native.Mathlib.Omega.{arith}
 use borrow.Author.Needs.{needs}
 use lib.ListN.{length, take}
@@ -47,7 +47,8 @@ rows-agree-in-requires c κs =
     (omega (arith, rows-fit (c .before), c .before .before .before .before .before .size-at .ensures .1), omega (arith, cols-fit c, c .before .before .before .before .size-at2 .ensures .1))
 
 returns : tie.Need-returns
-returns c = cc
+returns c =
+    c .before .before .rows-agree-in .ensures ∙ rw (c .before .before .before .before .before .fresh-words2 .ensures, c .before .before .before .before .before .before .fresh-words .ensures, c .before .before .before .before .before .before .before .size-at2 .ensures .0, c .before .before .before .before .before .before .before .before .size-at .ensures .0)
 
 pub rows-agree-spec : {M : Type 1} → statement M
 rows-agree-spec =

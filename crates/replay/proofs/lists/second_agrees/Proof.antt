@@ -1,5 +1,6 @@
 -- `replay::lists::second_agrees` meets its contract: the list is held to the cells behind those of the first.
 -- Assumes nothing.
+use mathlib.Core.Path.{_∙_}
 use borrow.Author.Needs.{needs}
 use Rattle.replay.proofs.lists.second_agrees.Statement.{statement}
 use Rattle.replay.proofs.lists.second_agrees.Tie as tie
@@ -26,7 +27,7 @@ words-agree-requires : tie.Need-words-agree-requires
 words-agree-requires c κs = search needs
 
 returns : tie.Need-returns
-returns c = cc
+returns c = c .words-agree .ensures ∙ rw (c .before .before .before .cells-at .ensures .0, c .before .before .size-at .ensures .0, c .before .size-at2 .ensures .0)
 
 pub second-agrees-spec : {M : Type 1} → statement M
 second-agrees-spec =

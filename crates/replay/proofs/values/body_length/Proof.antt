@@ -26,7 +26,9 @@ answered-requires : tie.Need-answered-requires
 answered-requires c κs = omega (arith, words c)
 
 returns : tie.Need-returns
-returns c = cc
+returns c =
+    let e = c .before .before .phs-body-length .ensures in
+    c .answered .ensures ∙ rw (e .0, e .1, c .before .before .before .before .word-at .ensures)
 
 pub body-length-spec : {M : Type 1} → statement M
 body-length-spec =

@@ -38,7 +38,9 @@ answered-requires : tie.Need-answered-requires
 answered-requires c κs = omega (arith, words c)
 
 returns : tie.Need-returns
-returns c = cc
+returns c =
+    let e = c .before .before .phs-decode-serial-type .ensures in
+    c .answered .ensures ∙ rw (e .0, e .1, c .before .before .before .before .before .before .part .ensures, c .before .before .before .before .before .before .before .size-at .ensures .0, c .before .before .before .before .word-at2 .ensures, c .before .before .before .before .before .word-at .ensures)
 
 pub decode-serial-type-spec : {M : Type 1} → statement M
 decode-serial-type-spec =

@@ -1,6 +1,6 @@
 -- `replay::values::is_compatible` meets its contract: the answer is that of the call on what the case lends.
 -- Assumes nothing.
-use mathlib.Core.Path.{_≡_, sym, ap}
+use mathlib.Core.Path.{_≡_, sym, ap, _∙_}
 use native.Mathlib.Omega.{arith}
 use borrow.Author.Needs.{needs}
 use lib.ListN.{length}
@@ -33,7 +33,9 @@ answered-requires : tie.Need-answered-requires
 answered-requires c κs = omega (arith, words c)
 
 returns : tie.Need-returns
-returns c = cc
+returns c =
+    let e = c .before .before .phs-is-compatible .ensures in
+    c .answered .ensures ∙ rw (e .0, e .1, c .before .before .before .before .word-at2 .ensures, c .before .before .before .before .before .word-at .ensures)
 
 pub is-compatible-spec : {M : Type 1} → statement M
 is-compatible-spec =

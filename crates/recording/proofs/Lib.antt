@@ -1,2 +1,3 @@
 pub mod Laws
 mod Recorded
+pub mod Unique

@@ -38,6 +38,10 @@ secondSlice h b = part b (sizeAt h 48) (sizeAt h 56)
 abbrev pub cellsAt : List ℕ → ℕ
 cellsAt h = sizeAt h 48 + sizeAt h 56
 
+-- the cells written are counted at 80 and 88, and have eight bytes each
+abbrev pub bodySize : List ℕ → ℕ
+bodySize h = cellsAt h + 8 * sizeAt h 80 + 8 * sizeAt h 88
+
 -- ---- lists
 
 -- what a cell holds before a call

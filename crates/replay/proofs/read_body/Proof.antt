@@ -24,7 +24,7 @@ array-borrow-prefix-space c = search needs
 
 slice-aggregate-read-into : tie.Need-slice-aggregate-read-into
 slice-aggregate-read-into c =
-    sym (length-take-le _ _ (omega (arith, c .before .body-space .ensures, c .before .before .before .before .body-size .ensures)))
+    sym (length-take-le _ _ (omega (arith, c .before .body-space .ensures, c .before .before .before .before .body-size .ensures .1)))
 
 read-into-requires : tie.Need-read-into-requires
 read-into-requires c κs = search needs

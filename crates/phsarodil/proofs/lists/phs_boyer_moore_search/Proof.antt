@@ -17,7 +17,9 @@ same-length : tie.Need-same-length
 same-length c = search needs
 
 returns : tie.Need-returns
-returns c = (cc, (cc, cc))
+returns c =
+    let s = c .before .before .before .before .before .boyer-moore-search .ensures in
+    (rw (← s .0) (c .searched-number .ensures), (rw (← s .0, c .before .before .searched-written .ensures), s .1))
 
 pub phs-boyer-moore-search-spec : {M : Type 1} → statement M
 phs-boyer-moore-search-spec =

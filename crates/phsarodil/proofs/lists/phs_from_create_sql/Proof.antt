@@ -17,7 +17,9 @@ same-length : tie.Need-same-length
 same-length c = search needs
 
 returns : tie.Need-returns
-returns c = (cc, (cc, cc))
+returns c =
+    let s = c .before .before .before .before .before .from-create-sql .ensures in
+    (rw (← s .0) (c .hinted-number .ensures), (rw (← s .0, c .before .before .hinted-written .ensures), s .1))
 
 pub phs-from-create-sql-spec : {M : Type 1} → statement M
 phs-from-create-sql-spec =

@@ -14,7 +14,9 @@ suits-number-requires : tie.Need-suits-number-requires
 suits-number-requires c κs = search needs
 
 returns : tie.Need-returns
-returns c = (cc, cc)
+returns c =
+    let s = c .before .before .before .is-compatible .ensures in
+    (rw (← s) (c .suits-number .ensures), rw (← s, c .before .before .suits-word .ensures))
 
 pub phs-is-compatible-spec : {M : Type 1} → statement M
 phs-is-compatible-spec = tie.close (tie.spec is-compatible-requires suits-word-requires suits-number-requires returns)

@@ -26,7 +26,12 @@ same-length-2 : tie.Need-same-length-2
 same-length-2 c = search needs
 
 returns : tie.Need-returns
-returns c = (cc, (cc, (cc, cc)))
+returns c =
+    let s = c .before .before .before .before .before .before .before .before .before .scan-region .ensures in
+    let w = c .before .before .before .before .scan-written .ensures in
+    let p = c .before .before .before .scan-place .ensures in
+    let r = c .before .before .scan-read .ensures in
+    (rw (← s .0) (c .scan-number .ensures), (rw (← s .0, w, p, r), s .1))
 
 pub phs-scan-region-spec : {M : Type 1} → statement M
 phs-scan-region-spec =

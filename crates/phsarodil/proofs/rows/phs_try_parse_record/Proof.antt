@@ -20,7 +20,9 @@ same-length-2 : tie.Need-same-length-2
 same-length-2 c = search needs
 
 returns : tie.Need-returns
-returns c = (cc, (cc, (cc, cc)))
+returns c =
+    let s = c .before .before .before .before .before .before .before .try-parse-record .ensures in
+    (rw (← s .0) (c .once-number .ensures), (rw (← s .0, c .before .before .once-written .ensures), s .1))
 
 pub phs-try-parse-record-spec : {M : Type 1} → statement M
 phs-try-parse-record-spec =

@@ -37,7 +37,11 @@ start-of-requires : tie.Need-start-of-requires
 start-of-requires c κs = search needs
 
 returns-2 : tie.Need-returns-2
-returns-2 c = (refl, rw (there (c .before .before .before .before)) (cc))
+returns-2 c =
+    let e = there (c .before .before .before .before) in
+    let t = c .before .before .before .tag-of .ensures in
+    let b = c .before .before .bits-of .ensures in
+    (refl, rw (e, t, b, c .before .start-of .ensures))
 
 pub phs-decode-serial-type-spec : {M : Type 1} → statement M
 phs-decode-serial-type-spec =

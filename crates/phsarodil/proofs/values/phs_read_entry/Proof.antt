@@ -45,7 +45,10 @@ length-of-requires c κs = search needs
 returns-2 : tie.Need-returns-2
 returns-2 c =
     let e = there (c .before .before .before .before .before) in
-    (rw e, rw e (cc))
+    let t = c .before .before .before .before .tag-of .ensures in
+    let b = c .before .before .before .bits-of .ensures in
+    let s = c .before .before .start-of .ensures in
+    (rw e, rw (e, t, b, s, c .before .length-of .ensures))
 
 pub phs-read-entry-spec : {M : Type 1} → statement M
 phs-read-entry-spec =

@@ -6,7 +6,7 @@ use mathlib.Core.List.{List, [], _∷_}
 use lib.Dec.{eqb}
 use lib.IntN.{ℤ, pos, negsuc}
 use lib.ListN.{length}
-use Rattle.record.specs.Value.{bigEndian}
+use Rattle.record.specs.Value.{bigEndian, startOf, lengthOf}
 use Rattle.record.specs.declared.entry.Entry.{Entry}
 use Rattle.record.specs.declared.entry.EntryRead.{EntryRead}
 use Rattle.record.specs.declared.entry.EntryRead.the-variants.{Of as Reads, Refused as Bad}
@@ -57,21 +57,6 @@ bitsOf s at (Int z) = wordOf z
 bitsOf s at (Real x) = bigEndian s at 8
 bitsOf s at (Text start n) = 0
 bitsOf s at (Blob start n) = 0
-
--- where a text or a blob lies
-abbrev pub startOf : Value → ℕ
-startOf Null = 0
-startOf (Int z) = 0
-startOf (Real x) = 0
-startOf (Text start n) = start
-startOf (Blob start n) = start
-
-abbrev pub lengthOf : Value → ℕ
-lengthOf Null = 0
-lengthOf (Int z) = 0
-lengthOf (Real x) = 0
-lengthOf (Text start n) = n
-lengthOf (Blob start n) = n
 
 -- phs_decode_serial_type: tag, bits, start, bytes taken
 abbrev pub decodedWords : List ℕ → ℕ → Decoded → List ℕ

@@ -10,10 +10,10 @@ use record::record::decode_serial_type;
 use record::varint::Read;
 use record::varint::read_varint;
 ghost use mathlib.Core.Path.{_≡_};
-ghost use Rattle.phsarodil.specs.Door.{varintWords, lengthWords, tagOf, wordOf, bitsOf, startOf, lengthOf, decodedWords, entryOf, entryWords, viewWords};
+ghost use Rattle.phsarodil.specs.Door.{varintWords, lengthWords, tagOf, wordOf, bitsOf, decodedWords, entryOf, entryWords, viewWords};
 ghost use Rattle.record.specs.Inner.{BodyThere};
 ghost use Rattle.record.specs.Entry.{readEntry, refusalOf, entryBytes};
-ghost use Rattle.record.specs.Value.{bodyLength, decodeAt};
+ghost use Rattle.record.specs.Value.{bodyLength, decodeAt, startOf, lengthOf};
 ghost use Rattle.record.specs.Varint.{readVarint};
 
 #[no_mangle]

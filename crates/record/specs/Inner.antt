@@ -3,17 +3,14 @@
 use Prim.Native.Nat.{ℕ, _+_, _≤_}
 use mathlib.Core.List.{List}
 use lib.ListN.{length}
+use Rattle.record.specs.Value.{startOf, lengthOf}
 use Rattle.record.specs.declared.entry.Span.{Span}
 use Rattle.record.specs.declared.record.Value.{Value}
 use Rattle.record.specs.declared.record.Value.the-variants.{Null, Int, Real, Text, Blob}
 
--- where the bytes of a text or a blob lie
+-- the two numbers in the code's own struct
 abbrev pub spanOf : Value → Span
-spanOf Null = record { start = 0; len = 0 }
-spanOf (Int z) = record { start = 0; len = 0 }
-spanOf (Real x) = record { start = 0; len = 0 }
-spanOf (Text at n) = record { start = at; len = n }
-spanOf (Blob at n) = record { start = at; len = n }
+spanOf v = record { start = startOf v; len = lengthOf v }
 
 -- a real has its eight bytes
 abbrev pub BodyThere : List ℕ → ℕ → Value → Type 0

@@ -53,3 +53,18 @@ decodeAs t s at Reserved = Nothing
 
 unfoldable pub decodeAt : ℕ → List ℕ → ℕ → Decoded
 decodeAt t s at = decodeAs t s at (bodyLength t)
+
+-- where a text or a blob lies, and how long it is; any other value takes no bytes
+abbrev pub startOf : Value → ℕ
+startOf Null = 0
+startOf (Int z) = 0
+startOf (Real x) = 0
+startOf (Text at n) = at
+startOf (Blob at n) = at
+
+abbrev pub lengthOf : Value → ℕ
+lengthOf Null = 0
+lengthOf (Int z) = 0
+lengthOf (Real x) = 0
+lengthOf (Text at n) = n
+lengthOf (Blob at n) = n

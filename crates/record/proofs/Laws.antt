@@ -9,8 +9,13 @@ use mathlib.Core.List.{List, [], _∷_}
 use native.Mathlib.Nat.{eq-or-lt-of-le}
 use native.Mathlib.Omega.{arith}
 use lib.Dec.{lit<, ltb, eqb}
+use lib.IntN.{ℤ, pos, negsuc, _-ℤ_}
 use lib.ListN.{length, getD}
-use borrow.Author.Tests.{lt-ltb, le-ltb, le-leb, lt-leb, eq-eqb, ne-eqb, leb-true}
+use lib.Signed.{ltZ}
+use mir.Syntax.{w64}
+use mir.Val.{SFits, toZ, ofZ}
+use mir.Facts.{toZ-ofZ}
+use borrow.Author.Tests.{lt-ltb, le-ltb, le-leb, lt-leb, eq-eqb, ne-eqb, leb-true, ltb-true}
 use Rattle.record.specs.Entry.{unlike, badEntry, readEntry, entryRefusal}
 use Rattle.record.specs.Places.{placesFrom, stopOf, varintPlaces, AgreeAt}
 use Rattle.record.specs.Value.{bodyLength, bodyFits, valueOf, decodeAt}
@@ -296,3 +301,43 @@ module _ (e : Entry) (s : List ℕ) where
       body h false q =
           let z : v ≡ valueOf (e .kind) s (e .start) (e .len) = cc in
           rw z (value-inside (e .kind) s (e .start) (e .len) (λ _. h))
+
+-- ---- signed numbers of 64 bits, as the machine keeps them
+
+-- THE LAW: of v = -1 - n the code's -1 - v makes n
+pub record Below (v : ℤ) : Type 0 where
+  pub n : ℕ
+  pub is : v ≡ negsuc n
+  pub fits : SFits w64 (pos n)
+  pub made : negsuc 0 -ℤ toZ w64 (ofZ w64 v) ≡ pos n
+  pub kept : toZ w64 (ofZ w64 (negsuc 0 -ℤ toZ w64 (ofZ w64 v))) ≡ pos n
+
+pub below-zero : {v : ℤ} → SFits w64 v → ltZ (toZ w64 (ofZ w64 v)) (pos 0) ≡ true → Below v
+below-zero {v} f e =
+    let k = toZ-ofZ f in
+    let b = negative v f (rw k at e) in
+    let m : negsuc 0 -ℤ toZ w64 (ofZ w64 v) ≡ pos (b .0) = rw k (b .2) in
+    record { n = b .0; is = b .1; fits = b .3; made = m; kept = rw m (toZ-ofZ (b .3)) }
+  where
+    negative : (v : ℤ) → SFits w64 v → ltZ v (pos 0) ≡ true → (n : ℕ) × (v ≡ negsuc n) × (negsuc 0 -ℤ v ≡ pos n) × SFits w64 (pos n)
+    negative (pos n) f e = absurd (omega (arith, ltb-true n 0 e))
+    negative (negsuc n) f e =
+        let d : suc n - 1 ≡ n = omega arith in
+        (n, refl, simp (le-ltb (suc n) 1 (omega arith), d), record { sfits = f .sfits })
+
+-- and one from 0 up is kept as it is
+pub record From (v : ℤ) : Type 0 where
+  pub n : ℕ
+  pub is : v ≡ pos n
+  pub fits : SFits w64 (pos n)
+  pub kept : toZ w64 (ofZ w64 v) ≡ pos n
+
+pub from-zero : {v : ℤ} → SFits w64 v → ltZ (toZ w64 (ofZ w64 v)) (pos 0) ≡ false → From v
+from-zero {v} f e =
+    let k = toZ-ofZ f in
+    let b = whole v (rw k at e) in
+    record { n = b .0; is = b .1; fits = rw (b .1) at f; kept = k ∙ b .1 }
+  where
+    whole : (v : ℤ) → ltZ v (pos 0) ≡ false → (n : ℕ) × (v ≡ pos n)
+    whole (pos n) e = (n, refl)
+    whole (negsuc n) e = let z : _≡_ {A = ℕ} 0 1 = cc in absurd (omega arith)

@@ -1,6 +1,7 @@
 // Statements and pattern search: calls that fill one list.
 use search::search::Searched;
 use search::search::boyer_moore_search;
+use sheet::refusal::FULL;
 use sheet::refusal::number;
 use statement::statement::Hinted;
 use statement::statement::from_create_sql;
@@ -15,7 +16,7 @@ fn hinted_number(answer: Hinted) -> u64
 {
     match answer {
         Hinted::Done(_) => 0,
-        Hinted::Full(_) => 9,
+        Hinted::Full(_) => FULL,
         Hinted::Refused(refusal) => number(refusal),
     }
 }
@@ -47,7 +48,7 @@ fn searched_number(answer: Searched) -> u64
 {
     match answer {
         Searched::Done(_) => 0,
-        Searched::Full(_) => 9,
+        Searched::Full(_) => FULL,
         Searched::Refused(refusal) => number(refusal),
     }
 }

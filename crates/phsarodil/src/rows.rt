@@ -5,6 +5,7 @@ use scan::schema_sig::Scanned;
 use scan::schema_sig::is_compatible;
 use scan::schema_sig::scan_region;
 use scan::schema_sig::try_parse_record;
+use sheet::refusal::FULL;
 use sheet::refusal::number;
 ghost use mathlib.Core.Path.{_≡_};
 ghost use lib.ListN.{length};
@@ -48,7 +49,7 @@ fn once_number(answer: Attempted) -> u64
     match answer {
         Attempted::Row => 0,
         Attempted::NoRow => 0,
-        Attempted::Full => 9,
+        Attempted::Full => FULL,
         Attempted::Refused(refusal) => number(refusal),
     }
 }
@@ -89,7 +90,7 @@ fn scan_number(answer: Scanned) -> u64
 {
     match answer {
         Scanned::Done { .. } => 0,
-        Scanned::Full { .. } => 9,
+        Scanned::Full { .. } => FULL,
         Scanned::Refused(refusal) => number(refusal),
     }
 }

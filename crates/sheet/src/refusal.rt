@@ -32,6 +32,9 @@ pub enum Checked {
     Refused(Refusal),
 }
 
+// The number of `NoRoom`, for answers that say how much was written into a full list and so hold no `Refusal`.
+pub const FULL: u64 = 9;
+
 pub fn number(refusal: Refusal) -> u64
     ensures { λ r. ⌜ r ≡ refusalNumber refusal ⌝ }
 {
@@ -44,7 +47,7 @@ pub fn number(refusal: Refusal) -> u64
         Refusal::NoSuchPage => 6,
         Refusal::NoColumnList => 7,
         Refusal::WalkSpace => 8,
-        Refusal::NoRoom => 9,
+        Refusal::NoRoom => FULL,
     }
 }
 

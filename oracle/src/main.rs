@@ -14,6 +14,7 @@ mod runner;
 mod selftest;
 mod server;
 mod shrink;
+mod speed;
 mod tablets;
 mod tally;
 mod text;
@@ -54,6 +55,9 @@ fn run(options: &Options) -> bool {
     }
     if options.self_test {
         return selftest::run(&options.server);
+    }
+    if options.speed {
+        return speed::run(&options.server, options.seed).unwrap_or_else(|e| fatal(&e));
     }
     let mut runner = Runner::new(Limits::of_the_rules(), &options.server, Sides::Both);
     if let Some(line) = &options.case {

@@ -76,7 +76,7 @@ pub fn scan(limits: &Limits, case: &Case) -> Answer {
     answer
 }
 
-fn signature(hints: &[u8]) -> Option<SchemaSignature> {
+pub fn signature(hints: &[u8]) -> Option<SchemaSignature> {
     Some(SchemaSignature {
         table_name: String::new(),
         column_count: hints.len(),

@@ -19,7 +19,8 @@ const HINTS: [u8; 4] = [0, 1, 0, 2];
 fn regions(seed: u64) -> [(&'static str, Vec<u8>); 5] {
     let random = &mut Random::new(seed);
     let repeated = |bytes: &[u8]| bytes.iter().copied().cycle().take(SIZE).collect();
-    let reading = [&[5, 2, 7, 1, 53][..], &[1, 44], &[64, 9, 33, 251, 84, 68, 45, 24], &[61], b"clay below, wet here"].concat();
+    let reading =
+        [&[5, 2, 7, 1, 53][..], &[1, 44], &[64, 9, 33, 251, 84, 68, 45, 24], &[61], b"clay below, wet here"].concat();
     [
         ("random bytes", random.bytes(SIZE)),
         ("zeros", vec![0; SIZE]),

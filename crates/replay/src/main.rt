@@ -158,6 +158,9 @@ fn say_tally(tally: Tally) {
     say(b" differ; ");
     say_number(tally.rust);
     say(b" agree with the Rust\n");
+    if tally.cases == 0 {
+        say(b"there is no case to be read\n");
+    }
     if !tally.whole {
         say(b"the recording is broken off there\n");
         return;

@@ -1,5 +1,4 @@
 // A recorded case: a head of eighteen words, the bytes of the slices, and the cells that the call writes.
-
 use record::inner::big_endian;
 ghost use mathlib.Core.Path.{_≡_};
 ghost use Prim.Native.Nat.{_+_, _*_, _≤_};
@@ -47,7 +46,7 @@ pub fn word_at(bytes: &[u8], at: usize) -> u64
     big_endian(bytes, at, 8)
 }
 
-// A size of a head; one that is too large is cut, and then the case is not as long as its head says.
+// A size of a head. Nothing larger than MOST is recorded, and a larger one is cut.
 pub fn size_at(head: &[u8], at: usize) -> usize
     ensures { λ r. ⌜ r ≡ sizeAt (now (head .entry)) at ⌝ }
     ensures small { λ r. ⌜ r ≤ mostSize ⌝ }

@@ -66,17 +66,18 @@ abbrev pub attemptsCols : Attempts → List ℕ → List ℕ → ℕ → ℕ →
 attemptsCols One = onceCols
 attemptsCols All = scanCols
 
+-- a call with what the case gives
+abbrev pub onCase : {A : Type 0} → (List ℕ → List ℕ → ℕ → ℕ → A) → List ℕ → List ℕ → A
+onCase f h b = f (slice h b) (secondSlice h b) (number 0 h) (number 1 h)
+
 abbrev pub rowsAnswered : Attempts → List ℕ → List ℕ → List ℕ → List ℕ → Bool
-rowsAnswered how h b rows cols =
-    answered h (attemptsNumber how (slice h b) (secondSlice h b) (number 0 h) (number 1 h) rows cols)
-    (attemptsWords how (slice h b) (secondSlice h b) (number 0 h) (number 1 h) rows cols)
+rowsAnswered how h b rows cols = answered h (onCase (attemptsNumber how) h b rows cols) (onCase (attemptsWords how) h b rows cols)
 
 abbrev pub rowsHold : Attempts → List ℕ → List ℕ → List ℕ → List ℕ → Bool
-rowsHold how h b rows cols =
-    firstHolds freshWord h b (attemptsRows how (slice h b) (secondSlice h b) (number 0 h) (number 1 h) rows cols)
+rowsHold how h b rows cols = firstHolds freshWord h b (onCase (attemptsRows how) h b rows cols)
 
 abbrev pub colsHold : Attempts → List ℕ → List ℕ → List ℕ → List ℕ → Bool
-colsHold how h b rows cols = secondHolds h b (attemptsCols how (slice h b) (secondSlice h b) (number 0 h) (number 1 h) rows cols)
+colsHold how h b rows cols = secondHolds h b (onCase (attemptsCols how) h b rows cols)
 
 unfoldable pub rowsAgree : Attempts → List ℕ → List ℕ → List ℕ → List ℕ → Bool
 rowsAgree how h b rows cols = rowsAnswered how h b rows cols && rowsHold how h b rows cols && colsHold how h b rows cols

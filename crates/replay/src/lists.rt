@@ -20,7 +20,7 @@ ghost use mathlib.Core.Path.{_≡_};
 ghost use Prim.Native.Nat.{_≤_};
 ghost use lib.ListN.{length};
 ghost use Rattle.recording.specs.Recording.{mostSize, freshWord, freshByte, lent};
-ghost use Rattle.replay.specs.Calls.{firstHolds, secondHolds, attemptsNumber, attemptsWords, attemptsRows, attemptsCols, rowsAgree, hintsAgree, placesAgree};
+ghost use Rattle.replay.specs.Calls.{firstHolds, secondHolds, onCase, attemptsNumber, attemptsWords, attemptsRows, attemptsCols, rowsAgree, hintsAgree, placesAgree};
 
 // The calls that write rows and columns: one attempt, or all of a region.
 pub enum Attempts {
@@ -64,6 +64,28 @@ fn attempt(
     }
 }
 
+// The same with what the case gives.
+fn attempt_of(
+    how: Attempts,
+    head: &[u8],
+    body: &[u8],
+    rows: &mut [u64],
+    cols: &mut [u64],
+    out: &mut [u64; 3],
+) -> u64
+    ensures number { λ r. ⌜ r ≡ onCase (attemptsNumber how) (now (head .entry)) (now (body .entry)) (now (rows .entry)) (now (cols .entry)) ⌝ }
+    ensures out { λ _. ⌜ now (out .exit) ≡ onCase (attemptsWords how) (now (head .entry)) (now (body .entry)) (now (rows .entry)) (now (cols .entry)) ⌝ }
+    ensures rows { λ _. ⌜ now (rows .exit) ≡ onCase (attemptsRows how) (now (head .entry)) (now (body .entry)) (now (rows .entry)) (now (cols .entry)) ⌝ }
+    ensures cols { λ _. ⌜ now (cols .exit) ≡ onCase (attemptsCols how) (now (head .entry)) (now (body .entry)) (now (rows .entry)) (now (cols .entry)) ⌝ }
+{
+    let first = size_at(head, LENGTHS);
+    let region = part(body, 0, first);
+    let hints = part(body, first, size_at(head, LENGTHS + 8));
+    let base = word_at(head, NUMBERS);
+    let at = word_at(head, NUMBERS + 8) as usize;
+    attempt(how, region, hints, base, at, rows, cols, out)
+}
+
 // The call on lists as they are lent.
 fn rows_agree_in(
     how: Attempts,
@@ -75,13 +97,8 @@ fn rows_agree_in(
     requires { ⌜ (length (now rows) ≤ mostSize) × (length (now cols) ≤ mostSize) ⌝ }
     ensures { λ r. ⌜ r ≡ rowsAgree how (now (head .entry)) (now (body .entry)) (now (rows .entry)) (now (cols .entry)) ⌝ }
 {
-    let first = size_at(head, LENGTHS);
-    let region = part(body, 0, first);
-    let hints = part(body, first, size_at(head, LENGTHS + 8));
-    let base = word_at(head, NUMBERS);
-    let at = word_at(head, NUMBERS + 8) as usize;
     let mut out = [0; 3];
-    let number = attempt(how, region, hints, base, at, rows, cols, &mut out);
+    let number = attempt_of(how, head, body, rows, cols, &mut out);
     if !answered(head, number, &out) {
         return false;
     }

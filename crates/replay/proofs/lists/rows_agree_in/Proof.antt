@@ -12,63 +12,31 @@ use Rattle.replay.proofs.lists.rows_agree_in.Statement.{statement}
 use Rattle.replay.proofs.lists.rows_agree_in.Tie as tie
 
 -- as many words as there are cells
-words : (c : tie.After-out2) → 3 ≡ length (c .before .before .before .before .before .attempt .last .1 .1 .1 .1 .1 .1 .1 .0)
-words c = sym (ap length (c .before .before .before .before .before .attempt .ensures .1 .0) ∙ attempts-three (c .before .before .before .before .before .before .before .before .before .before .before .before .before .before .before .before .before .before .before .args .how) _ _ _ _ _ _)
+words : (c : tie.After-out2) → 3 ≡ length (c .before .before .before .before .before .attempt-of .last .1 .1 .1 .1 .1 .0)
+words c = sym (ap length (c .before .before .before .before .before .attempt-of .ensures .1 .0) ∙ attempts-three (c .before .before .before .before .before .before .before .before .before .before .before .before .before .args .how) _ _ _ _ _ _)
 
--- the answer is the call's
+-- the answer and the lists are the call's
 told : (c : tie.After-answered) →
-    let a = c .before .before .before .before .before .before .before .before .before .before .before .before .before .before .before .before .before .before .before .before .args in
+    let a = c .before .before .before .before .before .before .before .before .before .before .before .before .before .before .args in
     c .answered .result ≡ rowsAnswered (a .how) (a .head .now) (a .body .now) (a .rows .now) (a .cols .now)
-told c =
-    let e = c .before .before .before .before .before .before .attempt .ensures in
-    c .answered .ensures ∙ rw
-    (e .0, e .1 .0, c .before .before .before .before .before .before .before .before .before .before .before .before .part2 .ensures, c .before .before .before .before .before .before .before .before .before .before .before .before .before .before .part .ensures, c .before .before .before .before .before .before .before .before .before .before .before .before .before .size-at2 .ensures .0, c .before .before .before .before .before .before .before .before .before .before .before .before .before .before .before .size-at .ensures .0, c .before .before .before .before .before .before .before .before .before .before .before .word-at .ensures, c .before .before .before .before .before .before .before .before .before .before .word-at2 .ensures)
+told c = let e = c .before .before .before .before .before .before .attempt-of .ensures in c .answered .ensures ∙ rw (e .0, e .1 .0)
 
--- the lists are the call's
 rows-told : (c : tie.After-first-agrees) →
-    let a = c .before .before .before .before .before .before .before .before .before .before .before .before .before .before .before .before .before .before .before .before .before .before .before .args in
+    let a = c .before .before .before .before .before .before .before .before .before .before .before .before .before .before .before .before .before .args in
     c .first-agrees .result ≡ rowsHold (a .how) (a .head .now) (a .body .now) (a .rows .now) (a .cols .now)
 rows-told c =
-    let a = c .before .before .before .before .before .before .before .before .before .before .before .before .before .before .before .before .before .before .before .before .before .before .before .args in
-    let e = c .before .before .before .before .before .before .before .before .before .attempt .ensures in
-    c .first-agrees .ensures ∙ ap (λ l. firstHolds freshWord (a .head .now) (a .body .now) l) (e .1 .1 .0) ∙ rw
-    (c .before .before .before .before .before .before .before .before .before .before .before .before .before .before .before .part2 .ensures, c .before .before .before .before .before .before .before .before .before .before .before .before .before .before .before .before .before .part .ensures, c .before .before .before .before .before .before .before .before .before .before .before .before .before .before .before .before .size-at2 .ensures .0, c .before .before .before .before .before .before .before .before .before .before .before .before .before .before .before .before .before .before .size-at .ensures .0, c .before .before .before .before .before .before .before .before .before .before .before .before .before .before .word-at .ensures, c .before .before .before .before .before .before .before .before .before .before .before .before .before .word-at2 .ensures)
+    let a = c .before .before .before .before .before .before .before .before .before .before .before .before .before .before .before .before .before .args in
+    c .first-agrees .ensures ∙ ap (λ l. firstHolds freshWord (a .head .now) (a .body .now) l) (c .before .before .before .before .before .before .before .before .before .attempt-of .ensures .1 .1 .0)
 
 cols-told : (c : tie.After-second-agrees) →
-    let a = c .before .before .before .before .before .before .before .before .before .before .before .before .before .before .before .before .before .before .before .before .before .before .before .before .before .before .args in
+    let a = c .before .before .before .before .before .before .before .before .before .before .before .before .before .before .before .before .before .before .before .before .args in
     c .second-agrees .result ≡ colsHold (a .how) (a .head .now) (a .body .now) (a .rows .now) (a .cols .now)
 cols-told c =
-    let a = c .before .before .before .before .before .before .before .before .before .before .before .before .before .before .before .before .before .before .before .before .before .before .before .before .before .before .args in
-    let e = c .before .before .before .before .before .before .before .before .before .before .before .before .attempt .ensures in
-    c .second-agrees .ensures ∙ ap (λ l. secondHolds (a .head .now) (a .body .now) l) (e .1 .1 .1) ∙ rw
-    (c .before .before .before .before .before .before .before .before .before .before .before .before .before .before .before .before .before .before .part2 .ensures, c .before .before .before .before .before .before .before .before .before .before .before .before .before .before .before .before .before .before .before .before .part .ensures, c .before .before .before .before .before .before .before .before .before .before .before .before .before .before .before .before .before .before .before .size-at2 .ensures .0, c .before .before .before .before .before .before .before .before .before .before .before .before .before .before .before .before .before .before .before .before .before .size-at .ensures .0, c .before .before .before .before .before .before .before .before .before .before .before .before .before .before .before .before .before .word-at .ensures, c .before .before .before .before .before .before .before .before .before .before .before .before .before .before .before .before .word-at2 .ensures)
+    let a = c .before .before .before .before .before .before .before .before .before .before .before .before .before .before .before .before .before .before .before .before .args in
+    c .second-agrees .ensures ∙ ap (λ l. secondHolds (a .head .now) (a .body .now) l) (c .before .before .before .before .before .before .before .before .before .before .before .before .attempt-of .ensures .1 .1 .1)
 
-size-at-requires : tie.Need-size-at-requires
-size-at-requires c κs = search needs
-
-part-requires : tie.Need-part-requires
-part-requires c κs = search needs
-
-add-size-at : tie.Need-add-size-at
-add-size-at c = search needs
-
-size-at-requires-2 : tie.Need-size-at-requires-2
-size-at-requires-2 c κs = search needs
-
-part-requires-2 : tie.Need-part-requires-2
-part-requires-2 c κs = search needs
-
-word-at-requires : tie.Need-word-at-requires
-word-at-requires c κs = search needs
-
-add-word-at : tie.Need-add-word-at
-add-word-at c = search needs
-
-word-at-requires-2 : tie.Need-word-at-requires-2
-word-at-requires-2 c κs = search needs
-
-attempt-requires : tie.Need-attempt-requires
-attempt-requires c κs = search needs
+attempt-of-requires : tie.Need-attempt-of-requires
+attempt-of-requires c κs = search needs
 
 slice-aggregate-answered : tie.Need-slice-aggregate-answered
 slice-aggregate-answered c = words c
@@ -100,7 +68,7 @@ unfolding rowsAgree
 returns-2 c = rw (sym (told (c .before .before .before .before)) ∙ not-false _ (c .before .before .before .if1 .left), sym (rows-told (c .before)) ∙ not-true _ (c .if2 .taken))
 
 second-agrees-requires : tie.Need-second-agrees-requires
-second-agrees-requires c κs = omega (arith, c .before .before .before .before .before .before .before .before .before .before .before .attempt .kept .1 .1 .1 .1 .1 .1 .0, c .before .before .before .before .before .before .before .before .before .before .before .before .before .before .before .before .before .before .before .before .before .before .before .before .before .pre .1)
+second-agrees-requires c κs = search needs
 
 same-length-5 : tie.Need-same-length-5
 same-length-5 c = search needs
@@ -116,15 +84,7 @@ pub rows-agree-in-spec : {M : Type 1} → statement M
 rows-agree-in-spec =
     tie.close
     (tie.spec
-    size-at-requires
-    part-requires
-    add-size-at
-    size-at-requires-2
-    part-requires-2
-    word-at-requires
-    add-word-at
-    word-at-requires-2
-    attempt-requires
+    attempt-of-requires
     slice-aggregate-answered
     answered-requires
     same-length

@@ -8,6 +8,7 @@ use Rattle.phsarodil.specs.Door.{varintWords, lengthWords, decodedWords, entryO
 use Rattle.record.specs.Entry.{readEntry, refusalOf, entryBytes}
 use Rattle.record.specs.Value.{bodyLength, decodeAt}
 use Rattle.record.specs.Varint.{readVarint}
+use Rattle.record.specs.declared.entry.Entry.{Entry}
 use Rattle.recording.specs.Recording.{sizeAt, number, slice, secondSlice, cellsAt, freshWord, freshByte, holds, answered}
 use Rattle.replay.specs.declared.lists.Attempts.{Attempts}
 use Rattle.replay.specs.declared.lists.Attempts.the-variants.{One, All}
@@ -25,15 +26,16 @@ lengthAgrees h = answered h 0 (lengthWords (bodyLength (number 0 h)))
 abbrev pub decodedAgrees : List ℕ → List ℕ → Bool
 decodedAgrees h b = answered h 0 (decodedWords (slice h b) (number 1 h) (decodeAt (number 0 h) (slice h b) (number 1 h)))
 
+abbrev pub givenEntry : List ℕ → Entry
+givenEntry h = entryOf (number 0 h) (number 1 h) (number 2 h) (number 3 h)
+
 abbrev pub entryAgrees : List ℕ → List ℕ → Bool
 entryAgrees h b =
-    let read = readEntry (entryOf (number 0 h) (number 1 h) (number 2 h) (number 3 h)) (slice h b) in
+    let read = readEntry (givenEntry h) (slice h b) in
     answered h (refusalOf read) (entryWords (slice h b) (number 2 h) read)
 
 abbrev pub viewAgrees : List ℕ → List ℕ → Bool
-viewAgrees h b =
-    answered h 0
-    (viewWords (number 2 h) (entryBytes (entryOf (number 0 h) (number 1 h) (number 2 h) (number 3 h)) (slice h b)))
+viewAgrees h b = answered h 0 (viewWords (number 2 h) (entryBytes (givenEntry h) (slice h b)))
 
 -- a hint is a byte
 abbrev pub suitsAgrees : List ℕ → Bool

@@ -5,6 +5,7 @@ use phsarodil::values::phs_decode_serial_type;
 use phsarodil::values::phs_read_entry;
 use phsarodil::values::phs_read_varint;
 use phsarodil::values::phs_view_entry;
+use record::entry::Entry;
 use recording::case::LENGTHS;
 use recording::case::NUMBERS;
 use recording::case::part;
@@ -12,7 +13,7 @@ use recording::case::size_at;
 use recording::case::word_at;
 use recording::inner::answered;
 ghost use mathlib.Core.Path.{_≡_};
-ghost use Rattle.replay.specs.Calls.{varintAgrees, lengthAgrees, decodedAgrees, entryAgrees, viewAgrees, suitsAgrees};
+ghost use Rattle.replay.specs.Calls.{varintAgrees, lengthAgrees, decodedAgrees, givenEntry, entryAgrees, viewAgrees, suitsAgrees};
 
 pub fn read_varint(head: &[u8], body: &[u8]) -> bool
     ensures { λ r. ⌜ r ≡ varintAgrees (now (head .entry)) (now (body .entry)) ⌝ }
@@ -42,16 +43,24 @@ pub fn decode_serial_type(head: &[u8], body: &[u8]) -> bool
     answered(head, number, &out)
 }
 
+fn entry_at(head: &[u8]) -> Entry
+    ensures { λ r. ⌜ r ≡ givenEntry (now (head .entry)) ⌝ }
+{
+    Entry {
+        state: word_at(head, NUMBERS),
+        kind: word_at(head, NUMBERS + 8),
+        start: word_at(head, NUMBERS + 16),
+        len: word_at(head, NUMBERS + 24),
+    }
+}
+
 pub fn read_entry(head: &[u8], body: &[u8]) -> bool
     ensures { λ r. ⌜ r ≡ entryAgrees (now (head .entry)) (now (body .entry)) ⌝ }
 {
     let bytes = part(body, 0, size_at(head, LENGTHS));
-    let state = word_at(head, NUMBERS);
-    let kind = word_at(head, NUMBERS + 8);
-    let start = word_at(head, NUMBERS + 16);
-    let length = word_at(head, NUMBERS + 24);
+    let e = entry_at(head);
     let mut out = [0; 4];
-    let number = phs_read_entry(state, kind, start, length, bytes, &mut out);
+    let number = phs_read_entry(e.state, e.kind, e.start, e.len, bytes, &mut out);
     answered(head, number, &out)
 }
 
@@ -59,12 +68,9 @@ pub fn view_entry(head: &[u8], body: &[u8]) -> bool
     ensures { λ r. ⌜ r ≡ viewAgrees (now (head .entry)) (now (body .entry)) ⌝ }
 {
     let bytes = part(body, 0, size_at(head, LENGTHS));
-    let state = word_at(head, NUMBERS);
-    let kind = word_at(head, NUMBERS + 8);
-    let start = word_at(head, NUMBERS + 16);
-    let length = word_at(head, NUMBERS + 24);
+    let e = entry_at(head);
     let mut out = [0; 2];
-    let number = phs_view_entry(state, kind, start, length, bytes, &mut out);
+    let number = phs_view_entry(e.state, e.kind, e.start, e.len, bytes, &mut out);
     answered(head, number, &out)
 }
 

@@ -4,7 +4,6 @@ use mathlib.Core.Path.{_≡_, sym, ap, _∙_}
 use native.Mathlib.Omega.{arith}
 use borrow.Author.Needs.{needs}
 use lib.ListN.{length}
-use Rattle.phsarodil.specs.Door.{entryOf}
 use Rattle.record.specs.Entry.{readEntry}
 use Rattle.replay.proofs.Words.{entry-four}
 use Rattle.replay.proofs.values.read_entry.Statement.{statement}
@@ -12,7 +11,7 @@ use Rattle.replay.proofs.values.read_entry.Tie as tie
 
 -- as many words as there are cells
 words : (c : tie.After-out2) → 4 ≡ length (c .before .phs-read-entry .last .1 .1 .1 .1 .1 .0)
-words c = sym (ap length (c .before .phs-read-entry .ensures .1) ∙ entry-four (c .before .before .before .before .before .before .before .part .result .now) (c .before .before .before .before .word-at3 .result) (readEntry (entryOf (c .before .before .before .before .before .before .word-at .result) (c .before .before .before .before .before .word-at2 .result) (c .before .before .before .before .word-at3 .result) (c .before .before .before .word-at4 .result)) (c .before .before .before .before .before .before .before .part .result .now)))
+words c = sym (ap length (c .before .phs-read-entry .ensures .1) ∙ entry-four (c .before .before .before .before .part .result .now) (c .before .before .before .entry-at .result .start) (readEntry (c .before .before .before .entry-at .result) (c .before .before .before .before .part .result .now)))
 
 size-at-requires : tie.Need-size-at-requires
 size-at-requires c κs = search needs
@@ -20,26 +19,8 @@ size-at-requires c κs = search needs
 part-requires : tie.Need-part-requires
 part-requires c κs = search needs
 
-word-at-requires : tie.Need-word-at-requires
-word-at-requires c κs = search needs
-
-add-word-at : tie.Need-add-word-at
-add-word-at c = search needs
-
-word-at-requires-2 : tie.Need-word-at-requires-2
-word-at-requires-2 c κs = search needs
-
-add-word-at-2 : tie.Need-add-word-at-2
-add-word-at-2 c = search needs
-
-word-at-requires-3 : tie.Need-word-at-requires-3
-word-at-requires-3 c κs = search needs
-
-add-word-at-3 : tie.Need-add-word-at-3
-add-word-at-3 c = search needs
-
-word-at-requires-4 : tie.Need-word-at-requires-4
-word-at-requires-4 c κs = search needs
+entry-at-requires : tie.Need-entry-at-requires
+entry-at-requires c κs = search needs
 
 phs-read-entry-requires : tie.Need-phs-read-entry-requires
 phs-read-entry-requires c κs = search needs
@@ -53,7 +34,7 @@ answered-requires c κs = omega (arith, words c)
 returns : tie.Need-returns
 returns c =
     let e = c .before .before .phs-read-entry .ensures in
-    c .answered .ensures ∙ rw (e .0, e .1, c .before .before .before .before .before .before .before .before .part .ensures, c .before .before .before .before .before .before .before .before .before .size-at .ensures .0, c .before .before .before .before .word-at4 .ensures, c .before .before .before .before .before .word-at3 .ensures, c .before .before .before .before .before .before .word-at2 .ensures, c .before .before .before .before .before .before .before .word-at .ensures)
+    c .answered .ensures ∙ rw (e .0, e .1, c .before .before .before .before .before .part .ensures, c .before .before .before .before .before .before .size-at .ensures .0, c .before .before .before .before .entry-at .ensures)
 
 pub read-entry-spec : {M : Type 1} → statement M
 read-entry-spec =
@@ -61,13 +42,7 @@ read-entry-spec =
     (tie.spec
     size-at-requires
     part-requires
-    word-at-requires
-    add-word-at
-    word-at-requires-2
-    add-word-at-2
-    word-at-requires-3
-    add-word-at-3
-    word-at-requires-4
+    entry-at-requires
     phs-read-entry-requires
     slice-aggregate-answered
     answered-requires

@@ -13,7 +13,7 @@ use lib.Dec.{eqb}
 use lib.ListN.{length, getD, take, drop, set}
 use lib.Seq.{take-suc-set, take-all}
 use Rattle.record.specs.Value.{bigEndian}
-use Rattle.recording.specs.Recording.{wordAt, mostSize, sizeAt, part, freshWord, cells, after, below, holds, answered}
+use Rattle.recording.specs.Recording.{wordAt, mostSize, sizeAt, part, freshWord, cells, cellAfter, after, below, holds, answered}
 
 -- ---- words and parts
 pub word-none : (s : List ℕ) (at : ℕ) → length s < at + 8 → 0 ≡ wordAt s at
@@ -55,11 +55,12 @@ module _ (f : ℕ → ℕ) (l : List ℕ) (i : ℕ) (first : take i l ≡ cells 
   pub cells-all : length l ≡ i → l ≡ cells f i
   cells-all e = sym (take-all i l (omega arith)) ∙ first
 
-pub after-written : (f : ℕ → ℕ) (b : List ℕ) (at written i : ℕ) → i < written → wordAt b (at + 8 * i) ≡ after f b at written i
-after-written f b at written i h = simp (lt-ltb _ _ h)
+module _ (b : List ℕ) (at written i fresh : ℕ) where
+  pub cell-written : i < written → wordAt b (at + 8 * i) ≡ cellAfter b at written i fresh
+  cell-written h = simp (lt-ltb _ _ h)
 
-pub after-untouched : (f : ℕ → ℕ) (b : List ℕ) (at written i : ℕ) → written ≤ i → f i ≡ after f b at written i
-after-untouched f b at written i h = simp (le-ltb _ _ h)
+  pub cell-untouched : written ≤ i → fresh ≡ cellAfter b at written i fresh
+  cell-untouched h = simp (le-ltb _ _ h)
 
 and-false : (b : Bool) → b && false ≡ false
 and-false true = refl

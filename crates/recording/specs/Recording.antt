@@ -57,8 +57,11 @@ cells f zero = []
 cells f (suc n) = cells f n ++ (f n ∷ [])
 
 -- what a cell has to hold after a call that writes so many, recorded at `at`
+abbrev pub cellAfter : List ℕ → ℕ → ℕ → ℕ → ℕ → ℕ
+cellAfter b at written i fresh = cond (ltb i written) (wordAt b (at + 8 * i)) fresh
+
 abbrev pub after : (ℕ → ℕ) → List ℕ → ℕ → ℕ → ℕ → ℕ
-after fresh b at written i = cond (ltb i written) (wordAt b (at + 8 * i)) (fresh i)
+after f b at written i = cellAfter b at written i (f i)
 
 -- whether the first n cells hold that
 unfoldable pub below : List ℕ → (ℕ → ℕ) → ℕ → Bool

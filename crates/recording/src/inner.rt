@@ -6,7 +6,7 @@ use crate::case::word_at;
 ghost use mathlib.Core.Path.{_≡_};
 ghost use Prim.Native.Nat.{_+_, _*_, _≤_};
 ghost use lib.ListN.{length};
-ghost use Rattle.recording.specs.Recording.{mostSize, freshWord, freshByte, cells, after, holds, answered as answeredBy};
+ghost use Rattle.recording.specs.Recording.{mostSize, freshWord, freshByte, cells, cellAfter, holds, answered as answeredBy};
 
 fn fresh_word(i: usize) -> u64
     requires { ⌜ i ≤ mostSize ⌝ }
@@ -45,24 +45,15 @@ pub fn fresh_bytes() -> [u8; MOST]
     list
 }
 
-fn word_after(bytes: &[u8], at: usize, written: usize, i: usize) -> u64
+// What a cell has to hold after a call that writes so many, recorded at `at`.
+fn cell_after(bytes: &[u8], at: usize, written: usize, i: usize, fresh: u64) -> u64
     requires { ⌜ (at ≤ 18 * mostSize) × (i ≤ mostSize) ⌝ }
-    ensures { λ r. ⌜ r ≡ after freshWord (now (bytes .entry)) at written i ⌝ }
+    ensures { λ r. ⌜ r ≡ cellAfter (now (bytes .entry)) at written i fresh ⌝ }
 {
     if i < written {
         return word_at(bytes, at + 8 * i);
     }
-    fresh_word(i)
-}
-
-fn byte_after(bytes: &[u8], at: usize, written: usize, i: usize) -> u64
-    requires { ⌜ (at ≤ 18 * mostSize) × (i ≤ mostSize) ⌝ }
-    ensures { λ r. ⌜ r ≡ after freshByte (now (bytes .entry)) at written i ⌝ }
-{
-    if i < written {
-        return word_at(bytes, at + 8 * i);
-    }
-    fresh_byte(i) as u64
+    fresh
 }
 
 // Whether a list holds the words that are recorded at `at`, and behind them what it held before the call.
@@ -75,7 +66,7 @@ pub fn words_agree(list: &[u64], bytes: &[u8], at: usize, written: usize) -> boo
     }
     let mut i = 0;
     while i < list.len() {
-        if list[i] != word_after(bytes, at, written, i) {
+        if list[i] != cell_after(bytes, at, written, i, fresh_word(i)) {
             return false;
         }
         i = i + 1;
@@ -93,7 +84,7 @@ pub fn bytes_agree(list: &[u8], bytes: &[u8], at: usize, written: usize) -> bool
     }
     let mut i = 0;
     while i < list.len() {
-        if list[i] as u64 != byte_after(bytes, at, written, i) {
+        if list[i] as u64 != cell_after(bytes, at, written, i, fresh_byte(i) as u64) {
             return false;
         }
         i = i + 1;

@@ -1,7 +1,7 @@
 -- `recording::inner::words_agree` meets its contract. The loop's invariant: the first i cells hold what they should.
 -- Assumes nothing.
 use Prim.Native.Nat.{_+_, _-_, _≤_}
-use mathlib.Core.Path.{_≡_, refl, sym, _∙_}
+use mathlib.Core.Path.{_≡_, sym, _∙_}
 use mathlib.Core.Bool.{true}
 use native.Mathlib.Omega.{arith}
 use borrow.Author.Needs.{needs}
@@ -17,6 +17,12 @@ Inv-loop list bytes at written i₀ i = (i ≤ length list) × (below list (afte
 abbrev μ-loop : tie.MeasureT-loop
 μ-loop list bytes at written i₀ i = length list - i
 
+-- what the cell has to hold
+told : (c : tie.After-cell-after Inv-loop μ-loop) →
+    let a = c .before .before .before .before .before .before .before .before .args in
+    c .cell-after .result ≡ after freshWord (a .bytes .now) (a .at) (a .written) (c .before .before .before .before .loop .i)
+told c = c .cell-after .ensures ∙ rw (c .before .fresh-word .ensures)
+
 returns : tie.Need-returns Inv-loop μ-loop
 returns c = holds-short freshWord _ _ _ _ (c .if1 .taken)
 
@@ -29,13 +35,16 @@ mul-if2 c = search needs
 shared-slice-read-if2 : tie.Need-shared-slice-read-if2 Inv-loop μ-loop
 shared-slice-read-if2 c = search needs
 
-word-after-requires : tie.Need-word-after-requires Inv-loop μ-loop
-word-after-requires c κs = search needs
+fresh-word-requires : tie.Need-fresh-word-requires Inv-loop μ-loop
+fresh-word-requires c κs = search needs
+
+cell-after-requires : tie.Need-cell-after-requires Inv-loop μ-loop
+cell-after-requires c κs = search needs
 
 returns-2 : tie.Need-returns-2 Inv-loop μ-loop
 returns-2 c =
-    let l = c .before .before .before .before in
-    holds-not freshWord _ _ _ _ (omega arith) (l .loop .i) (omega arith) (λ e. c .if2 .taken (e ∙ sym (c .before .word-after .ensures)))
+    let l = c .before .before .before .before .before in
+    holds-not freshWord _ _ _ _ (omega arith) (l .loop .i) (omega arith) (λ e. c .if2 .taken (e ∙ sym (told (c .before))))
 
 add-i : tie.Need-add-i Inv-loop μ-loop
 add-i c = search needs
@@ -45,7 +54,7 @@ loop-less c = search needs
 
 loop-again : tie.Need-loop-again Inv-loop μ-loop
 loop-again c =
-    (omega arith, below-more _ _ _ (c .before .before .before .before .loop .inv .1) (c .if2 .left ∙ c .before .word-after .ensures))
+    (omega arith, below-more _ _ _ (c .before .before .before .before .before .loop .inv .1) (c .if2 .left ∙ told (c .before)))
 
 returns-3 : tie.Need-returns-3 Inv-loop μ-loop
 returns-3 c =
@@ -63,7 +72,8 @@ words-agree-spec =
     loop-holds
     mul-if2
     shared-slice-read-if2
-    word-after-requires
+    fresh-word-requires
+    cell-after-requires
     returns-2
     add-i
     loop-less

@@ -17,6 +17,10 @@ wordAt s at = cond (ltb (length s) (at + 8)) 0 (bigEndian s at 8)
 abbrev pub mostSize : ℕ
 mostSize = 1200
 
+-- bytes behind a head, at most: two slices, and two lists of words
+abbrev pub mostBody : ℕ
+mostBody = 21600
+
 unfoldable pub sizeAt : List ℕ → ℕ → ℕ
 sizeAt h at = cond (ltb mostSize (wordAt h at)) mostSize (wordAt h at)
 
@@ -46,7 +50,7 @@ bodySize h = cellsAt h + 8 * sizeAt h 80 + 8 * sizeAt h 88
 
 -- what a cell holds before a call
 abbrev pub freshWord : ℕ → ℕ
-freshWord i = 6840123409045651456 + i
+freshWord i = 0x5eed000000000000 + i
 
 abbrev pub freshByte : ℕ → ℕ
 freshByte i = 200 + i % 50

@@ -3,7 +3,7 @@ use record::inner::big_endian;
 ghost use mathlib.Core.Path.{_≡_};
 ghost use Prim.Native.Nat.{_+_, _*_, _≤_};
 ghost use lib.ListN.{length};
-ghost use Rattle.recording.specs.Recording.{wordAt, mostSize, sizeAt, cellsAt, bodySize, part as partOf};
+ghost use Rattle.recording.specs.Recording.{wordAt, mostSize, mostBody, sizeAt, cellsAt, bodySize, part as partOf};
 
 // Bytes of a head.
 pub const HEAD: usize = 144;
@@ -61,7 +61,7 @@ pub fn size_at(head: &[u8], at: usize) -> usize
 // Bytes of the case behind its head.
 pub fn body_size(head: &[u8]) -> usize
     ensures { λ r. ⌜ r ≡ bodySize (now (head .entry)) ⌝ }
-    ensures small { λ r. ⌜ r ≤ 18 * mostSize ⌝ }
+    ensures small { λ r. ⌜ r ≤ mostBody ⌝ }
 {
     cells_at(head) + 8 * size_at(head, WRITTEN) + 8 * size_at(head, WRITTEN + 8)
 }

@@ -4,9 +4,9 @@ use crate::case::OUT;
 use crate::case::RETURNED;
 use crate::case::word_at;
 ghost use mathlib.Core.Path.{_≡_};
-ghost use Prim.Native.Nat.{_+_, _*_, _≤_};
+ghost use Prim.Native.Nat.{_≤_};
 ghost use lib.ListN.{length};
-ghost use Rattle.recording.specs.Recording.{mostSize, freshWord, freshByte, cells, cellAfter, holds, answered as answeredBy};
+ghost use Rattle.recording.specs.Recording.{mostSize, mostBody, freshWord, freshByte, cells, cellAfter, holds, answered as answeredBy};
 
 fn fresh_word(i: usize) -> u64
     requires { ⌜ i ≤ mostSize ⌝ }
@@ -47,7 +47,7 @@ pub fn fresh_bytes() -> [u8; MOST]
 
 // What a cell has to hold after a call that writes so many, recorded at `at`.
 fn cell_after(bytes: &[u8], at: usize, written: usize, i: usize, fresh: u64) -> u64
-    requires { ⌜ (at ≤ 18 * mostSize) × (i ≤ mostSize) ⌝ }
+    requires { ⌜ (at ≤ mostBody) × (i ≤ mostSize) ⌝ }
     ensures { λ r. ⌜ r ≡ cellAfter (now (bytes .entry)) at written i fresh ⌝ }
 {
     if i < written {
@@ -58,7 +58,7 @@ fn cell_after(bytes: &[u8], at: usize, written: usize, i: usize, fresh: u64) -> 
 
 // Whether a list holds the words that are recorded at `at`, and behind them what it held before the call.
 pub fn words_agree(list: &[u64], bytes: &[u8], at: usize, written: usize) -> bool
-    requires { ⌜ (length (now list) ≤ mostSize) × (at ≤ 18 * mostSize) ⌝ }
+    requires { ⌜ (length (now list) ≤ mostSize) × (at ≤ mostBody) ⌝ }
     ensures { λ r. ⌜ r ≡ holds freshWord (now (list .entry)) (now (bytes .entry)) at written ⌝ }
 {
     if written > list.len() {
@@ -76,7 +76,7 @@ pub fn words_agree(list: &[u64], bytes: &[u8], at: usize, written: usize) -> boo
 
 // The same of a list of bytes.
 pub fn bytes_agree(list: &[u8], bytes: &[u8], at: usize, written: usize) -> bool
-    requires { ⌜ (length (now list) ≤ mostSize) × (at ≤ 18 * mostSize) ⌝ }
+    requires { ⌜ (length (now list) ≤ mostSize) × (at ≤ mostBody) ⌝ }
     ensures { λ r. ⌜ r ≡ holds freshByte (now (list .entry)) (now (bytes .entry)) at written ⌝ }
 {
     if written > list.len() {

@@ -11,7 +11,7 @@ ghost use mathlib.Core.Path.{_≡_};
 ghost use Rattle.replay.specs.Verdict.{valueAgrees, caseAgrees, verdict};
 
 pub enum Verdict {
-    // 1 if the recorded answer is the Rust's, 0 if it is the rules' alone.
+    // 1 if the Rust was asked and agreed with the recorded answer, 0 if the rules alone gave it.
     Agrees { rust: u64 },
     Differs { call: u64 },
 }

@@ -15,6 +15,7 @@ use recording::case::word_at;
 use std::num::wrapping_add_u64;
 ghost use mathlib.Core.Path.{_≡_};
 ghost use lib.ListN.{length};
+ghost use Rattle.recording.specs.Recording.{mostBody};
 
 // A longer recording is not read to its end, and the program says so.
 const MOST_CASES: usize = 1_000_000;
@@ -48,7 +49,7 @@ fn say_number(n: u64) {
 
 // Of the array only the length matters.
 fn body_space() -> [u8; BODY]
-    ensures { λ r. ⌜ 21600 ≡ length r ⌝ }
+    ensures { λ r. ⌜ mostBody ≡ length r ⌝ }
 {
     [0; BODY]
 }

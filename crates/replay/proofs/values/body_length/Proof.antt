@@ -5,7 +5,7 @@ use native.Mathlib.Omega.{arith}
 use borrow.Author.Needs.{needs}
 use lib.ListN.{length}
 use Rattle.record.specs.Value.{bodyLength}
-use Rattle.replay.proofs.Words.{length-two}
+use Rattle.phsarodil.proofs.Laws.{length-two}
 use Rattle.replay.proofs.values.body_length.Statement.{statement}
 use Rattle.replay.proofs.values.body_length.Tie as tie
 

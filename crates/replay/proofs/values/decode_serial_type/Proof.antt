@@ -5,7 +5,7 @@ use native.Mathlib.Omega.{arith}
 use borrow.Author.Needs.{needs}
 use lib.ListN.{length}
 use Rattle.record.specs.Value.{decodeAt}
-use Rattle.replay.proofs.Words.{decoded-four}
+use Rattle.phsarodil.proofs.Laws.{decoded-four}
 use Rattle.replay.proofs.values.decode_serial_type.Statement.{statement}
 use Rattle.replay.proofs.values.decode_serial_type.Tie as tie
 

@@ -5,7 +5,7 @@ use native.Mathlib.Omega.{arith}
 use borrow.Author.Needs.{needs}
 use lib.ListN.{length}
 use Rattle.record.specs.Entry.{readEntry}
-use Rattle.replay.proofs.Words.{entry-four}
+use Rattle.phsarodil.proofs.Laws.{entry-four}
 use Rattle.replay.proofs.values.read_entry.Statement.{statement}
 use Rattle.replay.proofs.values.read_entry.Tie as tie
 

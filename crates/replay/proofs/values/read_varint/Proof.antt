@@ -5,7 +5,7 @@ use native.Mathlib.Omega.{arith}
 use borrow.Author.Needs.{needs}
 use lib.ListN.{length}
 use Rattle.record.specs.Varint.{readVarint}
-use Rattle.replay.proofs.Words.{varint-three}
+use Rattle.phsarodil.proofs.Laws.{varint-three}
 use Rattle.replay.proofs.values.read_varint.Statement.{statement}
 use Rattle.replay.proofs.values.read_varint.Tie as tie
 

@@ -5,7 +5,7 @@ use native.Mathlib.Omega.{arith}
 use borrow.Author.Needs.{needs}
 use lib.ListN.{length}
 use Rattle.record.specs.Entry.{entryBytes}
-use Rattle.replay.proofs.Words.{view-two}
+use Rattle.phsarodil.proofs.Laws.{view-two}
 use Rattle.replay.proofs.values.view_entry.Statement.{statement}
 use Rattle.replay.proofs.values.view_entry.Tie as tie
 

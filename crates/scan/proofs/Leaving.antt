@@ -6,10 +6,10 @@ use mathlib.Core.List.{List, [], _++_}
 use native.Mathlib.Nat.{zero-mul}
 use lib.ListN.{length, take, drop}
 use lib.Seq.{take-append-seam}
-use Rattle.scan.specs.Scan.{Run, rowsOf, rowCount, entriesOf, answerOf, runNumber, runPlace, finishedPlaces, endOf, scanFrom, scanChecked, scanRun, scanAnswer, scanRows, scanCols, numberOf, writtenOf, placeOf}
-use Rattle.scan.specs.Sheet.{Sheet, runSheet, emptySheet, scanSheet, sheetOf}
+use Rattle.scan.specs.Scan.{Run, rowsOf, rowCount, entriesOf, answerOf, runNumber, runPlace, finishedPlaces, endOf, scanChecked, scanRun, scanAnswer, scanRows, scanCols, numberOf, writtenOf, placeOf, readOf}
+use Rattle.scan.specs.Sheet.{Sheet, runSheet, emptySheet, asked, askedSheet, askedCount, sheetOf}
 use Rattle.scan.specs.declared.schema_sig.Scanned.the-variants.{Refused}
-use Rattle.scan.proofs.Answers.{end-is}
+use Rattle.scan.proofs.Answers.{end-is, scan-numbers}
 use Rattle.scan.proofs.RunValues.{run-reads}
 use Rattle.scan.proofs.Running.{rows-count}
 use Rattle.sheet.proofs.Laws.{rows-words-length}
@@ -28,10 +28,11 @@ module _ (s hints : List ℕ) (base start : ℕ) (rows cols : List ℕ) where
   abbrev t : Run
   t = scanRun s hints start (length rows) (length cols)
 
+  -- THE LAW
   pub sheet-left : let a = scanAnswer s hints base start (length rows) (length cols) in
       sheetOf (length hints) (numberOf a) (writtenOf a) (placeOf a) (scanRows s hints base start rows cols) (scanCols s hints base start rows cols)
-      ≡ scanSheet s hints base start (roomOf (length rows) (length cols) (length hints))
-  unfolding scanAnswer scanRows scanCols scanSheet
+      ≡ askedSheet (asked s hints base start rows cols)
+  unfolding scanAnswer scanRows scanCols askedSheet
   sheet-left = go (scanChecked s hints base)
     where
       go : (c : Checked) → let a = after Refused c (answerOf s t) in
@@ -47,3 +48,8 @@ module _ (s hints : List ℕ) (base start : ℕ) (rows cols : List ℕ) where
             front (rowCount t * (wordsPerEntry * length hints)) (entriesOf t) cols (run-reads s hints (length s) (roomOf (length rows) (length cols) (length hints)) start 0 .words),
           )
       go (Held r) = rw (zero-mul (wordsPerEntry * length hints))
+
+  -- THE LAW: and the count is theirs
+  pub count-left : readOf (scanAnswer s hints base start (length rows) (length cols)) ≡ askedCount (asked s hints base start rows cols)
+  unfolding scanAnswer askedCount
+  count-left = scan-numbers s (scanChecked s hints base) t .3

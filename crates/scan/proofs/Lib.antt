@@ -3,10 +3,10 @@ mod Cases
 mod Checks
 pub mod Demand3
 pub mod Laws
-mod Leaving
+pub mod Leaving
 mod OneAttempt
 pub mod ReadBack
 mod Running
 mod RunValues
-mod SameRun
+pub mod SameRun
 pub mod Unique

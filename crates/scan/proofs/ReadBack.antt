@@ -16,7 +16,7 @@ use Rattle.record.specs.declared.entry.EntryRead.the-variants.{Of}
 use Rattle.record.specs.declared.record.Value.{Value}
 use Rattle.scan.specs.Once.{onceRun, onceWrittenOf, onceWritten, onceCols}
 use Rattle.scan.specs.Scan.{Run, rowCount, entriesOf, scanChecked, scanRun, writtenOf, scanWritten, scanCols}
-use Rattle.scan.specs.Sheet.{runValues, scanValues, onceValues}
+use Rattle.scan.specs.Sheet.{asked, runValues, askedValues, onceValues}
 use Rattle.scan.proofs.RunValues.{RunReads, run-reads, once-reads}
 use Rattle.sheet.specs.Columns.{roomOf}
 use Rattle.sheet.specs.Refusal.{afterOr0, afterOrKept}
@@ -40,8 +40,8 @@ left s columns t cols r (Held k) = rw (zero-mul columns) (record { reads = refl;
 
 pub scan-reads-back : (k : Lfts 4) (a : Dens k scan-kinds.ps) (x : resT scan-kinds.r k .Denot) (s : AtExit (endedOf 4 scan-kinds.ps scan-kinds.r) k) → scan-region.Post k a x s
     → ReadBack (now (a .0)) (writtenOf x * length (now (a .1 .0))) (now (s .1 .1 .1 .1 .1 .0))
-    (scanValues (now (a .0)) (now (a .1 .0)) (a .1 .1 .0) (a .1 .1 .1 .0) (roomOf (length (now (a .1 .1 .1 .1 .0))) (length (now (a .1 .1 .1 .1 .1 .0))) (length (now (a .1 .0)))))
-unfolding scanWritten scanCols scanValues
+    (askedValues (asked (now (a .0)) (now (a .1 .0)) (a .1 .1 .0) (a .1 .1 .1 .0) (now (a .1 .1 .1 .1 .0)) (now (a .1 .1 .1 .1 .1 .0))))
+unfolding scanWritten scanCols askedValues
 scan-reads-back k a x s p =
     let room = roomOf (length (now (a .1 .1 .1 .1 .0))) (length (now (a .1 .1 .1 .1 .1 .0))) (length (now (a .1 .0))) in
     rw (p .1 .1 .1 .1 .0, p .1 .1 .0)

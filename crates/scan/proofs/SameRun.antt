@@ -11,8 +11,8 @@ use Rattle.attempt.specs.Attempt.{Tried, miss, hit, attemptAt}
 use Rattle.attempt.specs.Places.{mostPlaces, attemptPlaces}
 use Rattle.record.proofs.Numbers.{by-order}
 use Rattle.record.specs.Places.{AgreeAt}
-use Rattle.scan.specs.Scan.{Run, through, noRoom, missed, found, scanFrom, allPlaces, finishedPlaces, triedOffsets, scanChecked}
-use Rattle.scan.specs.Sheet.{runSheet, emptySheet, scanSheet, scanPlaces}
+use Rattle.scan.specs.Scan.{Run, through, noRoom, missed, found, scanFrom, allPlaces, finishedPlaces, triedOffsets}
+use Rattle.scan.specs.Sheet.{Asked, askedChecked, askedRun, runSheet, emptySheet, askedSheet, askedCount, askedPlaces, Alike}
 use Rattle.scan.proofs.Running.{scan-none, scan-missed, scan-found, scan-full, scan-end}
 use Rattle.sheet.specs.Refusal.{after, afterOr0, afterOrKept}
 use Rattle.sheet.specs.declared.refusal.Checked.{Checked}
@@ -58,27 +58,20 @@ module _ (x y : List ℕ) (same : length x ≡ length y) where
       let s = agree-split x y same (attemptPlaces x o) (allPlaces x t) a in
       rw (attempt-places-same x y same o (s .0), finished-same t (s .1))
 
-  -- THE LAW: the sheet and the count are those of any region of the same length that agrees at the header places of the first
-  pub sheet-same : (hints : List ℕ) (base start room : ℕ) → AgreeAt x y (scanPlaces x hints base start room) → scanSheet y hints base start room ≡ scanSheet x hints base start room
-  unfolding scanPlaces scanSheet
-  sheet-same hints base start room a = rw (← same) (go (scanChecked x hints base) a)
-    where
-      go : (c : Checked) → AgreeAt x y (afterOrKept c (allPlaces x (scanFrom (length x) x hints room start 0)) [])
-          → after emptySheet c (runSheet (length x) base (length hints) (scanFrom (length x) y hints room start 0))
-          ≡ after emptySheet c (runSheet (length x) base (length hints) (scanFrom (length x) x hints room start 0))
-      go Passed a = rw (run-same (length x) hints room start 0 a)
-      go (Held r) a = refl
-
-  pub count-same : (hints : List ℕ) (base start room : ℕ) → AgreeAt x y (scanPlaces x hints base start room)
-      → afterOr0 (scanChecked y hints base) (length (finishedPlaces y (scanFrom (length y) y hints room start 0)))
-      ≡ afterOr0 (scanChecked x hints base) (length (finishedPlaces x (scanFrom (length x) x hints room start 0)))
-  unfolding scanPlaces
-  count-same hints base start room a = rw (← same) (go (scanChecked x hints base) a)
-    where
-      go : (c : Checked) → AgreeAt x y (afterOrKept c (allPlaces x (scanFrom (length x) x hints room start 0)) [])
-          → afterOr0 c (length (finishedPlaces y (scanFrom (length x) y hints room start 0))) ≡ afterOr0 c (length (finishedPlaces x (scanFrom (length x) x hints room start 0)))
-      go Passed a = rw (run-same (length x) hints room start 0 a, finished-same (scanFrom (length x) x hints room start 0) a)
-      go (Held r) a = refl
+-- THE LAW: what is alike has the same sheet and the same count
+pub same-sheet : (a b : Asked) → Alike a b → (askedSheet a ≡ askedSheet b) × (askedCount a ≡ askedCount b)
+unfolding askedSheet askedCount askedPlaces
+same-sheet a b e =
+    rw (← (e .length-same), ← (e .hints-same), ← (e .base-same), ← (e .start-same), ← (e .room-same)) (go (askedChecked a) (e .places-agree))
+  where
+    go : (c : Checked) → AgreeAt (a .region) (b .region) (afterOrKept c (allPlaces (a .region) (askedRun a)) []) →
+        let t = scanFrom (length (a .region)) (b .region) (a .hints) (a .room) (a .start) 0 in
+        (after emptySheet c (runSheet (length (a .region)) (a .base) (length (a .hints)) (askedRun a)) ≡ after emptySheet c (runSheet (length (a .region)) (a .base) (length (a .hints)) t))
+        × (afterOr0 c (length (finishedPlaces (a .region) (askedRun a))) ≡ afterOr0 c (length (finishedPlaces (b .region) t)))
+    go Passed h =
+        let r = run-same (a .region) (b .region) (e .length-same) (length (a .region)) (a .hints) (a .room) (a .start) 0 h in
+        (rw r, rw (r, finished-same (a .region) (b .region) (e .length-same) (askedRun a) h))
+    go (Held r) h = (refl, refl)
 
 -- ---- the count
 

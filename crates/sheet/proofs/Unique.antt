@@ -8,8 +8,8 @@ use Rattle.sheet.proofs.confidence.freed.Reads as freed
 use Rattle.sheet.proofs.confidence.percent.Reads as percent
 use Rattle.sheet.proofs.confidence.rebuilt.Reads as rebuilt
 use Rattle.sheet.proofs.confidence.suited_share.Reads as suited-share
-use Rattle.sheet.proofs.refusal.hint_count_fits.Reads as hint-count-fits
-use Rattle.sheet.proofs.refusal.hints_known.Reads as hints-known
+use Rattle.sheet.proofs.hint.hint_count_fits.Reads as hint-count-fits
+use Rattle.sheet.proofs.hint.hints_known.Reads as hints-known
 use Rattle.sheet.proofs.refusal.number.Reads as number
 use Rattle.sheet.proofs.row.words.Reads as row-words
 

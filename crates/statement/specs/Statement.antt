@@ -9,7 +9,7 @@ use lib.ListN.{length, take}
 use Rattle.statement.specs.Words.{bytes, trim, has, behindFirst, beforeLast, pieces, secondWord, holds, startsWithOne, equalsOne}
 use Rattle.statement.specs.declared.statement.Hinted.{Hinted}
 use Rattle.statement.specs.declared.statement.Hinted.the-variants.{Done, Full, Refused}
-use Rattle.sheet.specs.Limits.{countFits}
+use Rattle.sheet.specs.Limits.{integerHint, realHint, textHint, blobHint, anyHint, countFits}
 use Rattle.sheet.specs.Refusal.{Check, firstHeld, refusalNumber}
 use Rattle.sheet.specs.Sheet.{overlay}
 use Rattle.sheet.specs.declared.refusal.Checked.{Checked}
@@ -49,26 +49,6 @@ isReal w = startsWithOne ("REAL" ∷ "FLOAT" ∷ "DOUBLE" ∷ "NUMERIC" ∷ "DEC
 -- the types that are blobs
 unfoldable pub isBlob : List ℕ → Bool
 isBlob w = startsWithOne ("BLOB" ∷ []) w || equalsOne ("BINARY" ∷ "VARBINARY" ∷ []) w
-
--- the code of the hint Integer
-abbrev pub integerHint : ℕ
-integerHint = 0
-
--- the code of the hint Real
-abbrev pub realHint : ℕ
-realHint = 1
-
--- the code of the hint Text
-abbrev pub textHint : ℕ
-textHint = 2
-
--- the code of the hint Blob
-abbrev pub blobHint : ℕ
-blobHint = 3
-
--- the code of the hint Any; a statement never gives 4, Null
-abbrev pub anyHint : ℕ
-anyHint = 5
 
 -- Rule 6.4, the hint of a declared type: the first kind that it is of; Any where it is of none, or missing
 unfoldable pub hintOf : List ℕ → ℕ

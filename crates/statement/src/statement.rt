@@ -1,6 +1,11 @@
 // The hints of the columns that a CREATE TABLE statement lists, read where the statement lies.
+use sheet::hint::ANY;
+use sheet::hint::BLOB;
+use sheet::hint::INTEGER;
+use sheet::hint::REAL;
+use sheet::hint::TEXT;
+use sheet::hint::hint_count_fits;
 use sheet::refusal::Refusal;
-use sheet::refusal::hint_count_fits;
 ghost use mathlib.Core.Path.{_≡_};
 ghost use Prim.Native.Nat.{_+_, _≤_, _<_};
 ghost use lib.ListN.{length};
@@ -11,17 +16,6 @@ ghost use Rattle.statement.specs.Words.{isBlank, isNot, raise, takeWhile
 
 // In bytes.
 pub const LARGEST_STATEMENT: usize = 65_536;
-
-// Hint codes. No statement gives 4.
-const INTEGER: u8 = 0;
-
-const REAL: u8 = 1;
-
-const TEXT: u8 = 2;
-
-const BLOB: u8 = 3;
-
-const ANY: u8 = 5;
 
 pub enum Hinted {
     // How many hints the statement gives, all written.

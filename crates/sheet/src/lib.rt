@@ -1,6 +1,7 @@
 // What the sheet is made of: rows and column entries as words of lent lists, confidences, and the refusals.
 pub mod columns;
 pub mod confidence;
+pub mod filled;
 pub mod hint;
 pub mod inner;
 pub mod refusal;

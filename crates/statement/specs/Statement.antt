@@ -4,17 +4,14 @@ use Prim.Native.Char.{code}
 use Prim.Native.Nat.{ℕ}
 use mathlib.Core.Bool.{Bool, cond, not, _&&_, _||_}
 use mathlib.Core.List.{List, [], _∷_, _++_}
-use lib.Dec.{leb, ltb, eqb}
-use lib.ListN.{length, take}
+use lib.Dec.{ltb, eqb}
+use lib.ListN.{length}
 use Rattle.statement.specs.Words.{bytes, trim, has, behindFirst, beforeLast, pieces, secondWord, holds, startsWithOne, equalsOne}
-use Rattle.statement.specs.declared.statement.Hinted.{Hinted}
-use Rattle.statement.specs.declared.statement.Hinted.the-variants.{Done, Full, Refused}
+use Rattle.sheet.specs.Filled.{filledAnswer, filledList}
 use Rattle.sheet.specs.Limits.{integerHint, realHint, textHint, blobHint, anyHint, countFits}
-use Rattle.sheet.specs.Refusal.{Check, firstHeld, refusalNumber}
-use Rattle.sheet.specs.Sheet.{overlay}
-use Rattle.sheet.specs.declared.refusal.Checked.{Checked}
-use Rattle.sheet.specs.declared.refusal.Checked.the-variants.{Passed, Refused as Stopped}
-use Rattle.sheet.specs.declared.refusal.Refusal.the-variants.{ColumnCount, TooLarge, NoColumnList, NoRoom}
+use Rattle.sheet.specs.Refusal.{Check, firstHeld}
+use Rattle.sheet.specs.declared.filled.Filled.{Filled}
+use Rattle.sheet.specs.declared.refusal.Refusal.the-variants.{ColumnCount, TooLarge, NoColumnList}
 
 -- the most bytes that a statement may have
 abbrev pub largestStatement : ℕ
@@ -91,36 +88,10 @@ statementChecks s =
     ∷ record { refusal = ColumnCount; holds = not (countFits (length (hintsOf s))) }
     ∷ []
 
--- what n hints come to where there is room for so many, and the checks came to this
-abbrev pub answered : Checked → ℕ → ℕ → Hinted
-answered (Stopped r) n room = Refused r
-answered Passed n room = cond (leb n room) (Done n) (Full room)
+-- what the call returns, by the statement and how many cells are lent
+unfoldable pub statementAnswer : List ℕ → ℕ → Filled
+statementAnswer s room = filledAnswer (firstHeld (statementChecks s)) (hintsOf s) room
 
--- what the call returns, by the statement and the room
-unfoldable pub statementAnswer : List ℕ → ℕ → Hinted
-statementAnswer s room = answered (firstHeld (statementChecks s)) (length (hintsOf s)) room
-
--- Rule 6.5: the first hints over what a list held, as many as it has cells
-abbrev pub laid : List ℕ → List ℕ → List ℕ
-laid hs old = overlay (take (length old) hs) old
-
--- what a list holds in the end: a refusal leaves it as it was
-abbrev pub left : Checked → List ℕ → List ℕ → List ℕ
-left (Stopped r) hs old = old
-left Passed hs old = laid hs old
-
--- what the call leaves in the list, by the statement and what the list held
+-- Rule 6.5: what the call leaves in the list, by the statement and what the list held
 unfoldable pub statementHints : List ℕ → List ℕ → List ℕ
-statementHints s old = left (firstHeld (statementChecks s)) (hintsOf s) old
-
--- the paper's number of an answer; 0 stands for none
-abbrev pub statementNumberOf : Hinted → ℕ
-statementNumberOf (Done n) = 0
-statementNumberOf (Full n) = refusalNumber NoRoom
-statementNumberOf (Refused r) = refusalNumber r
-
--- how many hints an answer says were written
-abbrev pub statementWrittenOf : Hinted → ℕ
-statementWrittenOf (Done n) = n
-statementWrittenOf (Full n) = n
-statementWrittenOf (Refused r) = 0
+statementHints s old = filledList (firstHeld (statementChecks s)) (hintsOf s) old

@@ -5,8 +5,9 @@ use mathlib.Core.Path.{_≡_, refl}
 use mathlib.Core.List.{List, [], _∷_, map}
 use borrow.Author.Tests.{lt-ltb}
 use lib.ListN.{length, replicate}
+use Rattle.sheet.specs.Filled.{filledNumber, filledWritten}
 use Rattle.sheet.specs.Limits.{largestRegion}
-use Rattle.search.specs.Search.{matches, standsAt, placeAt, placesBelow, placesOf, listedAnswer, listed, searchAnswer, searchPlaces, searchNumberOf, searchWrittenOf}
+use Rattle.search.specs.Search.{matches, standsAt, placeAt, placesBelow, placesOf, searchAnswer, searchPlaces}
 
 -- the paper's number, how many places are written, and what the list holds
 record Outcome : Type 0 where
@@ -24,7 +25,7 @@ out n k l = record { number = n; written = k; places = l }
 found : List ℕ → List ℕ → List ℕ → Outcome
 found haystack pattern old =
     let answer = searchAnswer haystack pattern (length old) in
-    out (searchNumberOf answer) (searchWrittenOf answer) (searchPlaces haystack pattern old)
+    out (filledNumber answer) (filledWritten answer) (searchPlaces haystack pattern old)
 
 computed : Case → Outcome
 computed (seek haystack pattern old o) = found haystack pattern old
@@ -51,7 +52,7 @@ cases =
     ∷ []
 
 table : map computed cases ≡ map expected cases
-unfolding cases a found out computed expected searchAnswer searchPlaces listedAnswer listed placesOf placesBelow placeAt standsAt matches
+unfolding cases a found out computed expected searchAnswer searchPlaces placesOf placesBelow placeAt standsAt matches
 table = refl
 
 -- a haystack above the limit is refusal 3, and the list keeps what it held

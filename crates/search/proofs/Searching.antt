@@ -12,11 +12,13 @@ use borrow.Author.Tests.{eq-eqb, eqb-true, le-leb, lt-leb}
 use lib.Dec.{eqb}
 use lib.ListN.{length, getD, drop, set, replicate, length-append, length-drop, getD-replicate}
 use lib.Seq.{sets, length-sets, set-out, getD-set-same, getD-set-other, getD-drop, take-all, take-at}
+use Rattle.sheet.specs.Filled.{filledAnswer, laid}
 use Rattle.sheet.specs.Sheet.{overlay}
+use Rattle.sheet.specs.declared.filled.Filled.the-variants.{Done, Full}
+use Rattle.sheet.specs.declared.refusal.Checked.the-variants.{Passed}
 use Rattle.sheet.proofs.Laws.{overlay-length, overlay-more}
 use Rattle.search.specs.Inner.{Entered}
-use Rattle.search.specs.Search.{matches, standsAt, placeAt, placesBelow, placesOf, listedAnswer, listed}
-use Rattle.search.specs.declared.search.Searched.the-variants.{Done, Full}
+use Rattle.search.specs.Search.{matches, standsAt, placeAt, placesBelow, placesOf}
 
 -- ---- a match, byte by byte
 matches-fits : (p s : List ℕ) → matches p s ≡ true → length p ≤ length s
@@ -185,8 +187,7 @@ module _ {haystack pattern old places : List ℕ} {at n : ℕ} (s : Seen haystac
 
   -- no place follows
   pub seen-all : placesOf haystack pattern ≡ placesBelow haystack pattern at →
-      (Done n ≡ listedAnswer (placesOf haystack pattern) (length old)) × (places ≡ listed (placesOf haystack pattern) old)
-  unfolding listedAnswer listed
+      (Done n ≡ filledAnswer Passed (placesOf haystack pattern) (length old)) × (places ≡ laid (placesOf haystack pattern) old)
   seen-all e =
       let found = placesBelow haystack pattern at in
       let fits : length found ≤ length old = omega arith in
@@ -210,8 +211,7 @@ module _ {haystack pattern old places : List ℕ} {at n : ℕ} (s : Seen haystac
 
     -- there was one place too many
     pub seen-full : 0 < length pattern → at < length haystack → length old < count →
-        (Full (length list) ≡ listedAnswer (placesOf haystack pattern) (length old)) × (list ≡ listed (placesOf haystack pattern) old)
-    unfolding listedAnswer listed
+        (Full (length list) ≡ filledAnswer Passed (placesOf haystack pattern) (length old)) × (list ≡ laid (placesOf haystack pattern) old)
     seen-full some inside over =
         let found = placesBelow haystack pattern at in
         let here = placeAt haystack pattern at in

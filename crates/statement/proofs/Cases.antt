@@ -5,8 +5,9 @@ use Prim.Native.String.{String}
 use mathlib.Core.Path.{_≡_, refl}
 use mathlib.Core.List.{List, [], _∷_, _++_, map}
 use lib.ListN.{length, replicate}
-use Rattle.statement.specs.Statement.{between, isInteger, isText, isReal, isBlob, hintOf, isRowId, isConstraint, isSkipped, pieceHints, allHints, hintsOf, statementChecks, statementAnswer, statementHints, statementNumberOf, statementWrittenOf}
+use Rattle.statement.specs.Statement.{between, isInteger, isText, isReal, isBlob, hintOf, isRowId, isConstraint, isSkipped, pieceHints, allHints, hintsOf, statementChecks, statementAnswer, statementHints}
 use Rattle.statement.specs.Words.{bytes, isBlank, raise, takeWhile, dropWhile, trim, has, behindFirst, beforeLast, pieces, firstWord, secondWord, startsWith, equals, holds, startsWithOne, equalsOne}
+use Rattle.sheet.specs.Filled.{filledNumber, filledWritten}
 use Rattle.sheet.specs.Limits.{countFits}
 
 -- a statement and how many cells are lent, with the answer's number, how many hints are written, and the hints
@@ -21,7 +22,7 @@ cells n = replicate n 99
 computed : Case → Case
 computed (case s room number written hints) =
     let r = statementAnswer s room in
-    case s room (statementNumberOf r) (statementWrittenOf r) (statementHints s (cells room))
+    case s room (filledNumber r) (filledWritten r) (statementHints s (cells room))
 
 -- a list that the hints fill
 abbrev sql : String → List ℕ → Case

@@ -8,15 +8,16 @@ use native.Mathlib.Omega.{arith}
 use borrow.Author.Tests.{lt-ltb, le-ltb, le-leb, lt-leb}
 use lib.ListN.{length, take, drop, length-append}
 use lib.Seq.{sets, take-all, take-at}
-use Rattle.statement.specs.Statement.{largestStatement, opening, closing, between, pieceHints, allHints, hintsOf, laid, statementChecks, statementAnswer, statementHints}
+use Rattle.statement.specs.Statement.{largestStatement, opening, closing, between, pieceHints, allHints, hintsOf, statementChecks, statementAnswer, statementHints}
 use Rattle.statement.specs.Inner.{Kept, PieceEnds, piecesFrom}
 use Rattle.statement.specs.Words.{trim, isNot, has, behindFirst, beforeLast, pieces}
-use Rattle.statement.specs.declared.statement.Hinted.{Hinted}
-use Rattle.statement.specs.declared.statement.Hinted.the-variants.{Done, Full, Refused}
 use Rattle.statement.proofs.WordsLaws.{behind-has, kept-has, kept-before, pieces-none}
+use Rattle.sheet.specs.Filled.{laid}
 use Rattle.sheet.specs.Limits.{countFits}
 use Rattle.sheet.specs.Refusal.{firstHeld}
 use Rattle.sheet.specs.Sheet.{overlay}
+use Rattle.sheet.specs.declared.filled.Filled.{Filled}
+use Rattle.sheet.specs.declared.filled.Filled.the-variants.{Done, Full, Refused}
 use Rattle.sheet.specs.declared.refusal.Checked.the-variants.{Passed, Refused as Stopped}
 use Rattle.sheet.specs.declared.refusal.Refusal.{Refusal}
 use Rattle.sheet.specs.declared.refusal.Refusal.the-variants.{ColumnCount, TooLarge, NoColumnList}
@@ -70,7 +71,7 @@ module _ {all rest old hints : List ℕ} {n : ℕ} where
       rw e (w .lies)
 
 -- ---- the answer
-abbrev Answers : List ℕ → List ℕ → Hinted → List ℕ → Type 0
+abbrev Answers : List ℕ → List ℕ → Filled → List ℕ → Type 0
 Answers s old r hints = (r ≡ statementAnswer s (length old)) × (hints ≡ statementHints s old)
 
 refused-by : (s old : List ℕ) {r : Refusal} → firstHeld (statementChecks s) ≡ Stopped r → Answers s old (Refused r) old

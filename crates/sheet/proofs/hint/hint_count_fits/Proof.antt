@@ -1,9 +1,9 @@
--- `sheet::refusal::hint_count_fits` meets its contract: the first test is the definition's, and the second is what it returns.
+-- `sheet::hint::hint_count_fits` meets its contract: the first test is the definition's, and the second is what it returns.
 -- Assumes nothing.
 use borrow.Author.Tests.{le-leb, lt-leb}
 use Rattle.sheet.specs.Limits.{countFits}
-use Rattle.sheet.proofs.refusal.hint_count_fits.Statement.{statement}
-use Rattle.sheet.proofs.refusal.hint_count_fits.Tie as tie
+use Rattle.sheet.proofs.hint.hint_count_fits.Statement.{statement}
+use Rattle.sheet.proofs.hint.hint_count_fits.Tie as tie
 
 returns : tie.Need-returns
 unfolding countFits

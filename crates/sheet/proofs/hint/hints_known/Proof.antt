@@ -1,4 +1,4 @@
--- `sheet::refusal::hints_known` meets its contract. The loop's invariant: the hints before i are known, so the rest decides.
+-- `sheet::hint::hints_known` meets its contract. The loop's invariant: the hints before i are known, so the rest decides.
 -- Assumes nothing.
 use Prim.Native.Nat.{ℕ, _+_, _-_, _≤_, _<_}
 use mathlib.Core.Path.{_≡_, refl, sym, _∙_}
@@ -12,8 +12,8 @@ use lib.Dec.{leb}
 use lib.ListN.{length, drop, getD}
 use lib.Seq.{drop-cons, drop-length}
 use Rattle.sheet.specs.Limits.{highestHint, hintsKnown}
-use Rattle.sheet.proofs.refusal.hints_known.Statement.{statement}
-use Rattle.sheet.proofs.refusal.hints_known.Tie as tie
+use Rattle.sheet.proofs.hint.hints_known.Statement.{statement}
+use Rattle.sheet.proofs.hint.hints_known.Tie as tie
 
 abbrev Inv-loop : tie.InvT-loop
 Inv-loop hints i₀ i = (i ≤ length hints) × (hintsKnown hints ≡ hintsKnown (drop i hints))

@@ -15,9 +15,8 @@ use Rattle.replay.specs.declared.lists.Attempts.the-variants.{One, All}
 use Rattle.attempt.specs.Hints.{compatible, compatibleNumberOf}
 use Rattle.scan.specs.Once.{onceAnswer, onceRows, onceCols, onceNumberOf}
 use Rattle.scan.specs.Scan.{scanAnswer, scanRows, scanCols, numberOf}
-use Rattle.search.specs.Search.{searchAnswer, searchPlaces}
-use Rattle.sheet.specs.Filled.{filledNumber, filledWritten}
-use Rattle.statement.specs.Statement.{statementAnswer, statementHints}
+use Rattle.search.specs.Search.{searchNumber, searchWritten, searchPlaces}
+use Rattle.statement.specs.Statement.{statementNumber, statementWritten, statementHints}
 
 abbrev pub varintAgrees : List ℕ → List ℕ → Bool
 varintAgrees h b = answered h 0 (varintWords (readVarint (slice h b) (number 0 h)))
@@ -89,8 +88,7 @@ rowsAgree how h b rows cols = rowsAnswered how h b rows cols && rowsHold how h b
 -- the hints of a statement
 abbrev pub hintsAnswered : List ℕ → List ℕ → List ℕ → Bool
 hintsAnswered h b hints =
-    answered h (filledNumber (statementAnswer (slice h b) (length hints)))
-    (filledWritten (statementAnswer (slice h b) (length hints)) ∷ [])
+    answered h (statementNumber (slice h b) (length hints)) (statementWritten (slice h b) (length hints) ∷ [])
 
 unfoldable pub hintsAgree : List ℕ → List ℕ → List ℕ → Bool
 hintsAgree h b hints = hintsAnswered h b hints && firstHolds freshByte h b (statementHints (slice h b) hints)
@@ -98,8 +96,8 @@ hintsAgree h b hints = hintsAnswered h b hints && firstHolds freshByte h b (stat
 -- the places of a pattern
 abbrev pub placesAnswered : List ℕ → List ℕ → List ℕ → Bool
 placesAnswered h b places =
-    answered h (filledNumber (searchAnswer (slice h b) (secondSlice h b) (length places)))
-    (filledWritten (searchAnswer (slice h b) (secondSlice h b) (length places)) ∷ [])
+    answered h (searchNumber (slice h b) (secondSlice h b) (length places))
+    (searchWritten (slice h b) (secondSlice h b) (length places) ∷ [])
 
 unfoldable pub placesAgree : List ℕ → List ℕ → List ℕ → Bool
 placesAgree h b places = placesAnswered h b places && firstHolds freshWord h b (searchPlaces (slice h b) (secondSlice h b) places)

@@ -5,7 +5,7 @@ use mathlib.Core.Bool.{Bool, true, false, cond, _&&_}
 use mathlib.Core.List.{List, [], _∷_, _++_}
 use lib.Dec.{eqb, ltb}
 use lib.ListN.{length, drop}
-use Rattle.sheet.specs.Filled.{filledAnswer, filledList}
+use Rattle.sheet.specs.Filled.{writtenAfter, filledAnswer, filledList}
 use Rattle.sheet.specs.Limits.{largestRegion}
 use Rattle.sheet.specs.Refusal.{Check, firstHeld}
 use Rattle.sheet.specs.declared.filled.Filled.{Filled}
@@ -39,9 +39,25 @@ placesOf haystack (p ∷ pattern) = placesBelow haystack (p ∷ pattern) (length
 
 -- ---- the call
 
--- Rule 7.1: a haystack is a region, so it may be too large
+-- Rule 7.1: a haystack is a region, and may be too large for one
+abbrev pub tooLarge : List ℕ → Bool
+tooLarge haystack = ltb largestRegion (length haystack)
+
+-- there are more places than the list has cells
+abbrev pub crowded : List ℕ → List ℕ → ℕ → Bool
+crowded haystack pattern room = ltb room (length (placesOf haystack pattern))
+
+-- Rule 1.1: the number that the call answers with; 0 stands for none
+unfoldable pub searchNumber : List ℕ → List ℕ → ℕ → ℕ
+searchNumber haystack pattern room = cond (tooLarge haystack) 3 (cond (crowded haystack pattern room) 9 0)
+
+-- and how many places it says are written
+unfoldable pub searchWritten : List ℕ → List ℕ → ℕ → ℕ
+searchWritten haystack pattern room = writtenAfter (searchNumber haystack pattern room) (length (placesOf haystack pattern)) room
+
+-- the check that leaves the list as it was
 abbrev pub searchChecks : List ℕ → List Check
-searchChecks haystack = record { refusal = TooLarge; holds = ltb largestRegion (length haystack) } ∷ []
+searchChecks haystack = record { refusal = TooLarge; holds = tooLarge haystack } ∷ []
 
 -- what a search answers, with so many cells lent
 unfoldable pub searchAnswer : List ℕ → List ℕ → ℕ → Filled

@@ -1,7 +1,7 @@
 -- Calls that fill one lent list: the numbers of their answer, and what the list holds in the end.
 -- Assumes nothing.
-use Prim.Native.Nat.{ℕ}
-use mathlib.Core.Bool.{cond}
+use Prim.Native.Nat.{ℕ, min}
+use mathlib.Core.Bool.{cond, _&&_}
 use mathlib.Core.List.{List}
 use lib.Dec.{leb}
 use lib.ListN.{length, take}
@@ -24,6 +24,10 @@ abbrev pub filledWritten : Filled → ℕ
 filledWritten (Done n) = n
 filledWritten (Full n) = n
 filledWritten (Refused r) = 0
+
+-- Rule 1.2: how many of n things a call writes that gives this number and is lent so many cells: none after 1 to 7, else as many as fit
+abbrev pub writtenAfter : ℕ → ℕ → ℕ → ℕ
+writtenAfter number n room = cond (leb 1 number && leb number 7) 0 (min n room)
 
 -- Rule 1.2: the answer, by what the checks came to, the things to write, and how many cells there are
 abbrev pub filledAnswer : {A : Type 0} → Checked → List A → ℕ → Filled

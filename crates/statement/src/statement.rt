@@ -11,8 +11,8 @@ ghost use mathlib.Core.Path.{_≡_};
 ghost use Prim.Native.Nat.{_+_, _≤_, _<_};
 ghost use lib.ListN.{length};
 ghost use lib.Seq.{sets};
-ghost use Rattle.sheet.specs.Filled.{laid};
-ghost use Rattle.statement.specs.Statement.{closing, hintOf, isRowId, isSkipped, pieceHints, allHints, statementAnswer, statementHints};
+ghost use Rattle.sheet.specs.Filled.{filledNumber, filledWritten, laid};
+ghost use Rattle.statement.specs.Statement.{closing, hintOf, isRowId, isSkipped, pieceHints, allHints, statementNumber, statementWritten, statementAnswer, statementHints};
 ghost use Rattle.statement.specs.Inner.{inRun, Kept, matches, matchesOne, startsOrIs, PieceEnds, givenHints};
 ghost use Rattle.statement.specs.Words.{isBlank, isNot, raise, takeWhile, dropWhile, trim, behindFirst, pieces, firstWord, secondWord, startsWith, equals, holds};
 
@@ -345,6 +345,8 @@ fn list_end(rest: &[u8]) -> usize
 
 pub fn from_create_sql(statement: &[u8], hints: &mut [u8]) -> Filled
     ensures answer { λ r. ⌜ r ≡ statementAnswer (now (statement .entry)) (length (now (hints .entry))) ⌝ }
+    ensures number { λ r. ⌜ filledNumber r ≡ statementNumber (now (statement .entry)) (length (now (hints .entry))) ⌝ }
+    ensures written { λ r. ⌜ filledWritten r ≡ statementWritten (now (statement .entry)) (length (now (hints .entry))) ⌝ }
     ensures list { λ _. ⌜ now (hints .exit) ≡ statementHints (now (statement .entry)) (now (hints .entry)) ⌝ }
 {
     if statement.len() > LARGEST_STATEMENT {

@@ -17,11 +17,11 @@
  * rows_len / 8 and cols_len / (4 * n) rows. Only the cells of rows that out[0] counts are written; all others keep
  * what they held. Hints and places go into one list in the same way. Refusals 1 to 7 write no list.
  *
- * What a scan gives away. All that it writes and answers is a function of its other arguments, of the region's length and
- * of the bytes that it read as headers. But a row is a guess: any bytes that read as a header of the right number of
- * types, one of which suits its hint. Where these bytes were text, the row's types are that text, a byte each. A type
- * also shows an integer's size and that a REAL is whole, a length how long a note is. Dropping rows of low confidence
- * makes text in types rarer; nothing excludes it. README, "What the sheet gives away", has an example.
+ * What a scan gives away. All that it writes and answers is a function of its other arguments, of the region's length
+ * and of the bytes that it read as headers. But a row is a guess: any bytes that read as a header of the right number
+ * of types, one of which suits its hint. Where these bytes were text, the row's types are that text, a byte each. A
+ * type also shows an integer's size and that a REAL is whole, a length how long a note is. Dropping rows of low
+ * confidence makes text in types rarer; nothing excludes it. README, "What the sheet gives away", has an example.
  *
  * Not given by any call so far, and declared for those to come:
  *     refusals 5, 6 and 8; sources, modes and states other than 0; a row id, a percent, or the index of a table.

@@ -191,7 +191,7 @@ uint64_t phs_scan_region(const uint8_t *region, size_t len, const uint8_t *hints
 
 /*
  * The hints of a CREATE TABLE statement: a code of enum phs_hint for each piece between commas, from the first '(' to
- * the last ')'. That is one for each column of a plain table:
+ * the last ')'. That is one for each column of a plain table (I stands for INTEGER, R for REAL, and so on):
  *     t(plot INT, note TEXT)                 IT
  * but commas in brackets, quotes and comments split as well, and a piece that begins with the letters PRIMARY, UNIQUE,
  * CHECK, FOREIGN or CONSTRAINT is left out, a column of such a name too. Of a piece the second word decides:

@@ -17,10 +17,11 @@
  * rows_len / 8 and cols_len / (4 * n) rows. Only the cells of rows that out[0] counts are written; all others keep
  * what they held. Hints and places go into one list in the same way. Refusals 1 to 7 write no list.
  *
- * A row is a guess: bytes that read as a header of the right number of types, of which at least one suits its hint. Its
- * types are then these bytes. Where old text was taken for a header, they are the text, a type a byte, for whoever
- * sees the entries or a list of the types. Dropping rows of low confidence makes that rarer; nothing excludes it. README,
- * "What the sheet gives away", has an example.
+ * What a scan gives away. All that it writes and answers is a function of its other arguments, of the region's length
+ * and of the bytes that it read as headers. But a row is a guess: any bytes that read as a header of the right number
+ * of types, one of which suits its hint. Where these bytes were text, the row's types are that text, a byte each. A
+ * type also shows an integer's size and that a REAL is whole, a length how long a note is. Dropping rows of low
+ * confidence makes text in types rarer; nothing excludes it. README, "What the sheet gives away", has an example.
  *
  * Not given by any call so far, and declared for those to come:
  *     refusals 5, 6 and 8; sources, modes and states other than 0; a row id, a percent, or the index of a table.
@@ -177,7 +178,8 @@ uint64_t phs_try_parse_record(const uint8_t *region, size_t len, const uint8_t *
 
 /*
  * The rows of a region from `start` on, one behind the other: behind a row the scan goes on at its end, elsewhere at
- * the next byte. So a row that is none hides the true ones that start inside it. No row starts in the last two bytes.
+ * the next byte. No row starts in the last two bytes. A row that is none hides the true ones that start inside it: on
+ * real pages that can be most of them (docs/BENCH.md), and phs_try_parse_record at every offset finds them.
  * out: the rows written; the place, which is `len` when the scan is through; the header bytes that it read to decide.
  * Returns PHS_COLUMN_COUNT, PHS_MALFORMED, PHS_TOO_LARGE or PHS_BASE_TOO_FAR; or PHS_NO_ROOM, with the place of the
  * first row that found no room. With room for at least one row, calling again with that place for `start` goes on
@@ -189,7 +191,7 @@ uint64_t phs_scan_region(const uint8_t *region, size_t len, const uint8_t *hints
 
 /*
  * The hints of a CREATE TABLE statement: a code of enum phs_hint for each piece between commas, from the first '(' to
- * the last ')'. That is one for each column of a plain table:
+ * the last ')'. That is one for each column of a plain table (I stands for INTEGER, R for REAL, and so on):
  *     t(plot INT, note TEXT)                 IT
  * but commas in brackets, quotes and comments split as well, and a piece that begins with the letters PRIMARY, UNIQUE,
  * CHECK, FOREIGN or CONSTRAINT is left out, a column of such a name too. Of a piece the second word decides:

@@ -1,14 +1,14 @@
 /*
  * carve FILE HINTS [PAGE]: prints every row that a scan of FILE finds, for a table whose columns have these hints.
- * With PAGE, every PAGE bytes are scanned by themselves: no record of a database reaches from one page into the next,
- * so what seems to is none. Where the file does not say that its pages have PAGE bytes, carve says so, and goes on: a
- * torn file is carved, too. From the repository's top:
+ * With PAGE, every PAGE bytes are scanned by themselves: the bytes of a record do not run on into the next page (a long
+ * one goes on behind a page number), so what seems to is none. Where the file does not say that its pages have PAGE
+ * bytes, carve says so, and goes on: a torn file is carved, too. From the repository's top:
  *
  *     rt staticlib phsarodil
  *     cc -Wall -Wextra -std=c99 -O2 -Iinclude -o carve examples/c/carve.c target/staticlib/libphsarodil.a
  *     ./carve tablet.db TRIT 4096
  *
- * wrapper/examples/carve.rs prints the same, to the byte.
+ * wrapper/examples/carve.rs prints the same rows, to the byte.
  */
 #include <ctype.h>
 #include <errno.h>

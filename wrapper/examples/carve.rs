@@ -1,9 +1,9 @@
 //! carve FILE HINTS [PAGE]: prints every row that a scan of FILE finds, for a table whose columns have these hints.
-//! With PAGE, every PAGE bytes are scanned by themselves: no record of a database reaches from one page into the next,
-//! so what seems to is none. Where the file does not say that its pages have PAGE bytes, carve says so, and goes on: a
-//! torn file is carved, too.
+//! With PAGE, every PAGE bytes are scanned by themselves: the bytes of a record do not run on into the next page (a long
+//! one goes on behind a page number), so what seems to is none. Where the file does not say that its pages have PAGE
+//! bytes, carve says so, and goes on: a torn file is carved, too.
 //!
-//! examples/c/carve.c at the repository's top prints the same, to the byte.
+//! examples/c/carve.c at the repository's top prints the same rows, to the byte.
 
 use phsarodil::{scan, Hint, Value, LARGEST_REGION, MOST_COLUMNS};
 use std::error::Error;

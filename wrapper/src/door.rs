@@ -1,7 +1,7 @@
 //! The calls of `include/phsarodil.h` over slices: each answers the refusal number and the words. All that is unsafe
-//! stands here. A call is sound for any slices: the library keeps to their lengths, a slice's pointer is never null, and
-//! the borrow checker sees to it that what is written overlaps nothing. The first call sees to it that the archive speaks
-//! the words that this crate knows.
+//! stands here. A call is sound for any slices: the library keeps to their lengths, a slice's pointer is never null,
+//! and the borrow checker sees to it that what is written overlaps nothing. The first call sees to it that the archive
+//! speaks the words that this crate knows.
 
 use std::sync::Once;
 

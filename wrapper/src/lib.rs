@@ -1,8 +1,8 @@
 //! Safe calls into Phsarodil, which carves rows out of what is left in SQLite pages.
 //!
 //! The work is done by the proved library behind `include/phsarodil.h`; this crate lends it memory and gives its words
-//! names and types. Values borrow from the bytes that they were found in. The first call panics where the archive speaks
-//! other words than this crate knows (`phs_version`).
+//! names and types. Values borrow from the bytes that they were found in. The first call panics where the archive
+//! speaks other words than this crate knows (`phs_version`).
 //!
 //! ```
 //! use phsarodil::{scan, Hint, Value};

@@ -223,8 +223,8 @@ impl<'a> Scan<'a> {
     }
 }
 
-/// The rows of a region; made by [`scan`] or [`Scan::rows`]. The lists hold a batch of them; when it is used up, the scan
-/// goes on where it stopped.
+/// The rows of a region; made by [`scan`] or [`Scan::rows`]. The lists hold a batch of them; when it is used up, the
+/// scan goes on where it stopped.
 #[derive(Debug)]
 pub struct Rows<'a> {
     scan: Scan<'a>,

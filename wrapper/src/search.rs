@@ -3,8 +3,8 @@
 use crate::door;
 use crate::Refusal;
 
-/// The places of a pattern in a haystack, rising; they may overlap. An empty pattern is nowhere. In the worst case, as for
-/// many equal bytes, it takes as long as haystack times pattern.
+/// The places of a pattern in a haystack, rising; they may overlap. An empty pattern is nowhere. At worst, as in a
+/// haystack of one byte over and over, the time grows with both lengths multiplied.
 pub fn search(haystack: &[u8], pattern: &[u8]) -> Result<Vec<usize>, Refusal> {
     let mut places = vec![0; 64];
     loop {

@@ -47,8 +47,8 @@ pub fn body_length(kind: u64) -> Option<u64> {
 }
 
 /// The value of a serial type whose body starts at `offset` and the bytes that the body takes, or `None` where the type
-/// is 10 or 11 or the body leaves the slice. The types 0, 8 and 9 have no body, so they have a value at any offset, behind
-/// the slice too; any other body, an empty one too, ends in the slice.
+/// is 10 or 11 or the body leaves the slice. The types 0, 8 and 9 have no body, so they have a value at any offset,
+/// behind the slice too; any other body, an empty one too, ends in the slice.
 pub fn decode_serial_type(kind: u64, bytes: &[u8], offset: usize) -> Option<(Value<'_>, usize)> {
     let (_, [tag, bits, start, taken]) = door::decode_serial_type(kind, bytes, offset);
     Some((Value::of(tag, bits, bytes, start, taken)?, taken as usize))
@@ -108,8 +108,8 @@ impl Entry {
         [self.state as u64, self.kind, self.start, self.length]
     }
 
-    /// The entry's value over the bytes that its row was found in, or [`Refusal::Malformed`] for a bad entry: a body whose
-    /// length is not its type's, whose type is 10 or 11, or that ends behind these bytes, whatever its type.
+    /// The entry's value over the bytes that its row was found in, or [`Refusal::Malformed`] for a bad entry: a body
+    /// whose length is not its type's, whose type is 10 or 11, or that ends behind these bytes, whatever its type.
     pub fn read(self, bytes: &[u8]) -> Result<Value<'_>, Refusal> {
         let (number, [tag, bits, start, length]) = door::read_entry(self.words(), bytes);
         match Refusal::of(number) {

@@ -1,0 +1,3 @@
+pub mod Collect
+pub mod Inner
+pub mod Walk

@@ -1,5 +1,6 @@
 pub mod Along
 mod Calls
+pub mod Carving
 mod Cases
 mod Clearing
 mod Collecting
@@ -7,4 +8,5 @@ pub mod Fuel
 pub mod Laws
 mod Popping
 mod Pushing
+pub mod Tables
 pub mod Unique

@@ -1,13 +1,19 @@
 -- What the code carries between its own functions, and how it stands for what the walk speaks of; nothing that a caller has to believe.
 -- Assumes nothing.
-use Prim.Native.Nat.{ℕ, zero, suc, _+_, _*_, _/_, _≤_, _<_}
+use Prim.Native.Nat.{ℕ, zero, suc, _+_, _-_, _*_, _/_, _≤_, _<_}
 use mathlib.Core.Path.{_≡_}
-use mathlib.Core.Bool.{cond}
+use mathlib.Core.Bool.{Bool, cond}
 use mathlib.Core.List.{List, [], _∷_}
-use lib.Dec.{eqb}
+use lib.Dec.{leb, eqb}
 use lib.ListN.{length, getD, take}
+use lib.Seq.{sets}
+use Rattle.sheet.specs.Limits.{wordsPerRow, wordsPerEntry}
+use Rattle.sheet.specs.Sheet.{overlay, rowsWords}
+use Rattle.walk.specs.Carve.{Hit, rowsOf, groupsWords, widest, Carver, tablesAnswer, tablesWritten}
 use Rattle.walk.specs.Collect.{leavesAnswer, leavesWritten}
 use Rattle.walk.specs.Walk.{Popped, leafThen, onward, overflow, Walk, through, stackFull, leaf, walkFrom}
+use Rattle.walk.specs.declared.inner.Carved.{Carved}
+use Rattle.walk.specs.declared.inner.Carved.the-variants.{On as More, Full as Over, Short}
 use Rattle.walk.specs.declared.inner.Pushed.{Pushed}
 use Rattle.walk.specs.declared.inner.Pushed.the-variants.{On, Overflow}
 use Rattle.walk.specs.declared.inner.Step.{Step}
@@ -77,3 +83,26 @@ NextSays db size flags₀ stack₀ top flags stack r =
 pub record Collected (db : List ℕ) (size root flags depth : ℕ) (old : List ℕ) (r : Walked) (leaves : List ℕ) : Type 0 where
   pub answer : r ≡ leavesAnswer db size root flags depth (length old)
   pub leaves-are : leaves ≡ leavesWritten db size root flags depth old
+
+-- ---- carving: behind n rows come hits, as many as there is room for
+
+-- the words of those that are written
+pub record Puts (width room n : ℕ) (hs : List Hit) (rows cols rows′ cols′ : List ℕ) : Type 0 where
+  pub rows-are : rows′ ≡ sets rows (n * wordsPerRow) (rowsWords (rowsOf (take (room - n) hs)))
+  pub cols-are : cols′ ≡ sets cols (n * (wordsPerEntry * width)) (groupsWords width (take (room - n) hs))
+  -- each group is as wide as it should be
+  pub wide : length (groupsWords width (take (room - n) hs)) ≡ length (take (room - n) hs) * (wordsPerEntry * width)
+
+-- the answer where k hits come, and the stack overflowed or not
+abbrev pub carvedTo : ℕ → ℕ → ℕ → Bool → Carved
+carvedTo room n k full = cond (leb (n + k) room) (cond full (Short (n + k)) (More (n + k))) Over
+
+pub record Carves (width room n : ℕ) (hs : List Hit) (full : Bool) (rows cols : List ℕ) (r : Carved) (rows′ cols′ : List ℕ) : Type 0 where
+  pub answer : r ≡ carvedTo room n (length hs) full
+  pub puts : Puts width room n hs rows cols rows′ cols′
+
+-- what carving tables leaves
+pub record Tabled (carve : Carver) (db : List ℕ) (size : ℕ) (roots counts hints : List ℕ) (flags depth : ℕ) (rows cols : List ℕ) (r : Walked) (rows′ cols′ : List ℕ) : Type 0 where
+  pub answer : r ≡ tablesAnswer carve db size roots counts hints flags depth (length rows) (length cols)
+  pub rows-are : rows′ ≡ overlay (rowsWords (rowsOf (tablesWritten carve db size roots counts hints flags depth (length rows) (length cols)))) rows
+  pub cols-are : cols′ ≡ overlay (groupsWords (widest counts) (tablesWritten carve db size roots counts hints flags depth (length rows) (length cols))) cols

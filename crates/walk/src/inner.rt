@@ -31,6 +31,13 @@ pub enum Next {
     Overflow,
 }
 
+// What carving came to: how many rows there are now; a row found no room; or the stack none for a page, with how many rows there are.
+pub enum Carved {
+    On(usize),
+    Full,
+    Short(usize),
+}
+
 const LEAF: u64 = 0x0D;
 
 const INTERIOR: u64 = 0x05;

@@ -9,9 +9,7 @@ use Rattle.page.specs.declared.btree.Paged.{Paged}
 use Rattle.page.specs.declared.btree.Paged.the-variants.{At, Refused}
 use Rattle.record.specs.Value.{bigEndian}
 use Rattle.sheet.specs.Limits.{largestRegion}
-use Rattle.sheet.specs.Refusal.{Check, firstHeld, refusalNumber}
-use Rattle.sheet.specs.declared.refusal.Checked.{Checked}
-use Rattle.sheet.specs.declared.refusal.Checked.the-variants.{Passed, Refused as Held}
+use Rattle.sheet.specs.Refusal.{Check, firstHeld, refusalNumber, after}
 use Rattle.sheet.specs.declared.refusal.Refusal.the-variants.{TooLarge, PageSize, NoSuchPage}
 
 -- ---- where a page lies
@@ -80,12 +78,8 @@ pageChecks len size p =
     ∷ record { refusal = NoSuchPage; holds = not (hasPage len size p) }
     ∷ []
 
-abbrev pub pageUnless : Checked → ℕ → ℕ → Paged
-pageUnless Passed size p = At (startOf size p) size (headOf p)
-pageUnless (Held r) size p = Refused r
-
 unfoldable pub pageAnswer : ℕ → ℕ → ℕ → Paged
-pageAnswer len size p = pageUnless (firstHeld (pageChecks len size p)) size p
+pageAnswer len size p = after Refused (firstHeld (pageChecks len size p)) (At (startOf size p) size (headOf p))
 
 -- the paper's number of an answer, 0 where nothing is refused
 abbrev pub pagedNumber : Paged → ℕ

@@ -2,6 +2,7 @@
 use crate::inner::head_of;
 use crate::inner::size_fits;
 use sheet::LARGEST_REGION;
+use sheet::refusal;
 use sheet::refusal::Refusal;
 ghost use mathlib.Core.Path.{_≡_};
 ghost use lib.ListN.{length};
@@ -15,6 +16,18 @@ pub enum Paged {
         head: usize,
     },
     Refused(Refusal),
+}
+
+impl Paged {
+    // The refusal's number, 0 for none.
+    pub fn number(self) -> u64
+        ensures { λ r. ⌜ r ≡ pagedNumber self ⌝ }
+    {
+        match self {
+            Paged::At { .. } => 0,
+            Paged::Refused(refusal) => refusal::number(refusal),
+        }
+    }
 }
 
 pub fn get_page_data(db: &[u8], size: u64, page: u64) -> Paged

@@ -2,18 +2,15 @@
 -- Assumes nothing.
 use Prim.Native.Nat.{ℕ, _≤_}
 use mathlib.Core.Path.{_≡_, refl}
-use mathlib.Core.Bool.{Bool, true, false, cond, not}
 use mathlib.Core.List.{List}
-use native.Mathlib.Omega.{arith}
-use lib.Dec.{ltb}
+use borrow.Author.Tests.{not-false}
 use lib.ListN.{length, replicate}
 use Rattle.page.proofs.Laws.{size-range}
 use Rattle.page.specs.Page.{sizeFits, wholePages}
-use Rattle.sheet.specs.Limits.{largestRegion}
+use Rattle.sheet.proofs.Laws.{none-holds}
 use Rattle.sheet.specs.Refusal.{firstHeld}
 use Rattle.sheet.specs.declared.refusal.Checked.the-variants.{Passed, Refused as Held}
 use Rattle.sheet.specs.declared.refusal.Refusal.{Refusal}
-use Rattle.sheet.specs.declared.refusal.Refusal.the-variants.{TooLarge, PageSize}
 use Rattle.walk.specs.Collect.{walkedNumber, walkedWritten, walkChecks, leavesOf, leavesWritten, collectAnswer, collectLeaves, collectNumber, collectWritten, clearedUnless}
 use Rattle.walk.specs.Inner.{Collected}
 use Rattle.walk.specs.Walk.{walk, overflows}
@@ -23,12 +20,7 @@ use Rattle.walk.proofs.Laws.{number-is, written-is}
 
 -- what passed has one of the page sizes
 pub passed-size : (len size : ℕ) → firstHeld (walkChecks len size) ≡ Passed → (512 ≤ size) × (size ≤ 65536)
-passed-size len size e = go (ltb largestRegion len) (sizeFits size) refl e
-  where
-    go : (large fits : Bool) → sizeFits size ≡ fits → cond large (Held TooLarge) (cond (not fits) (Held PageSize) Passed) ≡ Passed → (512 ≤ size) × (size ≤ 65536)
-    go true fits f d = absurd (let z : _≡_ {A = ℕ} 0 1 = cc in omega arith)
-    go false true f d = size-range size f
-    go false false f d = absurd (let z : _≡_ {A = ℕ} 0 1 = cc in omega arith)
+passed-size len size e = size-range size (not-false (sizeFits size) (none-holds (walkChecks len size) e .1 .0))
 
 module _ (db : List ℕ) (size root : ℕ) (flags stack leaves : List ℕ) where
   -- what the call says of its answer and of the lists that it leaves

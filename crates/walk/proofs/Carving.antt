@@ -10,13 +10,12 @@ use borrow.Author.Tests.{le-leb, lt-leb}
 use lib.ListN.{length, take, drop, length-append, length-take}
 use lib.Seq.{sets, sets-eq, take-nil, take-all, take-append-le, take-append-add}
 use Rattle.record.proofs.Numbers.{by-order}
-use Rattle.sheet.proofs.Laws.{sets-append, rows-words-length, column-words-length, unused-words-length, room-rows, room-cols}
+use Rattle.sheet.proofs.Laws.{sets-append, rows-words-length, columns-words-length, unused-words-length, room-rows, room-cols}
 use Rattle.sheet.specs.Columns.{unusedWords, roomOf}
 use Rattle.sheet.specs.Limits.{wordsPerRow, wordsPerEntry}
 use Rattle.sheet.specs.Row.{rowWords}
-use Rattle.sheet.specs.Sheet.{overlay, rowsWords}
-use Rattle.sheet.specs.declared.columns.Column.{Column}
-use Rattle.walk.specs.Carve.{Hit, rowsOf, columnsWords, groupWords, groupsWords}
+use Rattle.sheet.specs.Sheet.{overlay, rowsWords, columnsWords}
+use Rattle.walk.specs.Carve.{Hit, rowsOf, groupWords, groupsWords}
 use Rattle.walk.specs.Inner.{Puts, carvedTo, Carves}
 use Rattle.walk.specs.declared.inner.Carved.{Carved}
 use Rattle.walk.specs.declared.inner.Carved.the-variants.{On, Full, Short}
@@ -33,10 +32,6 @@ groups-append width (h ∷ a) b = rw (groups-append width a b) (sym (append-asso
 rows-count : (hs : List Hit) → length (rowsOf hs) ≡ length hs
 rows-count [] = refl
 rows-count (h ∷ hs) = ap suc (rows-count hs)
-
-pub columns-words-length : (cs : List Column) → length (columnsWords cs) ≡ wordsPerEntry * length cs
-columns-words-length [] = refl
-columns-words-length (c ∷ cs) = simp (length-append, column-words-length, columns-words-length cs) (omega arith)
 
 -- a row whose columns are no more than the group is wide
 pub group-words-length : (width : ℕ) (h : Hit) → length (h .columns) ≤ width → length (groupWords width h) ≡ wordsPerEntry * width

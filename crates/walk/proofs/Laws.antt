@@ -7,10 +7,11 @@ use native.Mathlib.Nat.{min-eq-left, min-eq-right}
 use native.Mathlib.Omega.{arith}
 use borrow.Author.Tests.{ltb-true, ltb-false}
 use lib.Dec.{ltb}
+use Rattle.sheet.specs.Refusal.{after}
 use Rattle.sheet.specs.declared.refusal.Checked.{Checked}
 use Rattle.sheet.specs.declared.refusal.Checked.the-variants.{Passed, Refused as Held}
-use Rattle.walk.specs.Collect.{walkedOf, ifFlagged, orRefused, walkedNumber, walkedWritten, walkNumber, walkWritten}
-use Rattle.walk.specs.declared.walk.Walked.the-variants.{Done, Full, Short}
+use Rattle.walk.specs.Collect.{walkedOf, ifFlagged, walkedNumber, walkedWritten, walkNumber, walkWritten}
+use Rattle.walk.specs.declared.walk.Walked.the-variants.{Done, Full, Short, Refused}
 
 -- ---- the numbers of an answer
 module _ (pages flags room n : ℕ) where
@@ -22,7 +23,7 @@ module _ (pages flags room n : ℕ) where
   number-by false false false = refl
 
   -- THE LAW: the paper's number of an answer is what the checks, the flags and the room say
-  pub number-is : (c : Checked) (full : Bool) → walkedNumber (orRefused c (ifFlagged pages flags (walkedOf room n full) (Short 0))) ≡ walkNumber c pages flags room n full
+  pub number-is : (c : Checked) (full : Bool) → walkedNumber (after Refused c (ifFlagged pages flags (walkedOf room n full) (Short 0))) ≡ walkNumber c pages flags room n full
   number-is Passed full = number-by full (ltb flags pages) (ltb room n)
   number-is (Held r) full = refl
 
@@ -34,6 +35,6 @@ module _ (pages flags room n : ℕ) where
   written-by false false false e = sym (min-eq-right (ltb-false room n e))
 
   -- THE LAW: and as many are written as there are, or as there is room for
-  pub written-is : (c : Checked) (full : Bool) → walkedWritten (orRefused c (ifFlagged pages flags (walkedOf room n full) (Short 0))) ≡ walkWritten c pages flags room n
+  pub written-is : (c : Checked) (full : Bool) → walkedWritten (after Refused c (ifFlagged pages flags (walkedOf room n full) (Short 0))) ≡ walkWritten c pages flags room n
   written-is Passed full = written-by full (ltb flags pages) (ltb room n) refl
   written-is (Held r) full = refl

@@ -7,6 +7,8 @@ mod Collecting
 pub mod Fuel
 pub mod Laws
 mod Popping
+pub mod Promises
 mod Pushing
+mod Summing
 pub mod Tables
 pub mod Unique

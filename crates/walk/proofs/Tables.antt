@@ -4,6 +4,7 @@ use Prim.Native.Nat.{ℕ, zero, suc, _+_, _*_, _/_, _≤_, _<_}
 use mathlib.Core.Path.{_≡_, refl, sym, ap, _∙_}
 use mathlib.Core.Bool.{Bool, true, false, cond}
 use mathlib.Core.List.{List, [], _∷_, _++_, append-nil, append-assoc}
+use native.Mathlib.Nat.{zero-add}
 use native.Mathlib.Numerals.{add-one}
 use native.Mathlib.Omega.{arith}
 use borrow.Author.Tests.{le-leb, lt-leb, lt-ltb, le-ltb}
@@ -75,12 +76,6 @@ module _ (carve : ℕ → List Hit) (whole : Walk) (db : List ℕ) (size depth c
       (record { answer = stopped; puts = w .carved .puts })
 
 -- ---- the tables
-tables-cons : (roots counts hints : List ℕ) → 0 < length roots → 0 < length counts
-    → tablesOf roots counts hints ≡ record { root = getD roots 0 0; hints = take (getD counts 0 0) hints } ∷ tablesOf (drop 1 roots) (drop 1 counts) (drop (getD counts 0 0) hints)
-tables-cons [] counts hints h g = absurd (omega arith)
-tables-cons (r ∷ roots) [] hints h g = absurd (omega arith)
-tables-cons (r ∷ roots) (c ∷ counts) hints h g = refl
-
 -- t tables are carved, their hints end at `from`, and there are n rows
 pub record Tables (carve : Carver) (db : List ℕ) (size : ℕ) (roots counts hints : List ℕ) (depth width room : ℕ) (rows₀ cols₀ rows cols : List ℕ) (t from n : ℕ) : Type 0 where
   pub done : List Hit
@@ -93,3 +88,98 @@ pub tables-start : (carve : Carver) (db : List ℕ) (size : ℕ) (roots counts h
 unfolding tablesHits tablesOverflow
 tables-start carve db size roots counts hints depth width room rows cols =
     record { done = []; carved = carves-none width room 0 rows cols (omega arith); hits = refl; ends = refl }
+
+module _ (carve : Carver) (db : List ℕ) (size : ℕ) (roots counts hints : List ℕ) (depth width room : ℕ) (rows₀ cols₀ rows cols : List ℕ) (t from n : ℕ)
+    (w : Tables carve db size roots counts hints depth width room rows₀ cols₀ rows cols t from n) where
+  abbrev walkOf : ℕ → Walk
+  walkOf root = walk db size depth root
+
+  module _ (below : t < length roots) (under : t < length counts) where
+    -- the table's walk, its hits, and those of the tables behind it
+    abbrev own : Walk
+    own = walk db size depth (getD roots t 0)
+
+    abbrev found : List Hit
+    found = hitsOf (carve t (take (getD counts t 0) (drop from hints))) own
+
+    abbrev later : List Table
+    later = tablesOf (drop (t + 1) roots) (drop (t + 1) counts) (drop (from + getD counts t 0) hints)
+
+    tables-are : tablesOf (drop t roots) (drop t counts) (drop from hints) ≡ record { root = getD roots t 0; hints = take (getD counts t 0) (drop from hints) } ∷ later
+    tables-are = rw (drop-cons roots t 0 below, drop-cons counts t 0 under, drop-drop (getD counts t 0) from hints, add-one t)
+
+    hits-are : (w .done ++ found) ++ cond (overflows own) [] (hitsFrom walkOf carve (suc t) later) ≡ tablesHits carve db size roots counts hints depth
+    hits-are = append-assoc (w .done) found (cond (overflows own) [] (hitsFrom walkOf carve (suc t) later)) ∙ rw tables-are at (w .hits)
+
+    ends-are : cond (overflows own) true (overflowFrom walkOf later) ≡ tablesOverflow db size roots counts hints depth
+    ends-are = rw tables-are at (w .ends)
+
+    module _ (rows′ cols′ : List ℕ) where
+      pub tables-on : (m : ℕ) → Carves width room n found (overflows own) rows cols (On m) rows′ cols′
+          → Tables carve db size roots counts hints depth width room rows₀ cols₀ rows′ cols′ (t + 1) (from + getD counts t 0) m
+      tables-on m x =
+          let told = told-on room n (length found) m (overflows own) (x .answer) in
+          record {
+            done = w .done ++ found;
+            carved = carves-more width room 0 (w .done) found rows₀ cols₀ rows cols n false (On m) rows′ cols′ (w .carved) (rw (told .2) at x);
+            hits = rw (add-one t) (rw (told .2, add-one t) at hits-are);
+            ends = rw (told .2) at ends-are;
+          }
+
+      pub tables-over : Carves width room n found (overflows own) rows cols Over rows′ cols′
+          → Carves width room 0 (tablesHits carve db size roots counts hints depth) (tablesOverflow db size roots counts hints depth) rows₀ cols₀ Over rows′ cols′
+      tables-over x =
+          let c = carves-more width room 0 (w .done) found rows₀ cols₀ rows cols n (overflows own) Over rows′ cols′ (w .carved) x in
+          let tail = cond (overflows own) [] (hitsFrom walkOf carve (suc t) later) in
+          rw hits-are at (carves-stop width room 0 (w .done ++ found) tail rows₀ cols₀ rows′ cols′ (overflows own) (tablesOverflow db size roots counts hints depth) c)
+
+      pub tables-short : (m : ℕ) → Carves width room n found (overflows own) rows cols (Stopped m) rows′ cols′
+          → Carves width room 0 (tablesHits carve db size roots counts hints depth) (tablesOverflow db size roots counts hints depth) rows₀ cols₀ (Stopped m) rows′ cols′
+      tables-short m x =
+          let told = told-short room n (length found) m (overflows own) (x .answer) in
+          let c = carves-more width room 0 (w .done) found rows₀ cols₀ rows cols n true (Stopped m) rows′ cols′ (w .carved) (rw (told .2) at x) in
+          let hits : w .done ++ found ≡ tablesHits carve db size roots counts hints depth = sym (append-nil (w .done ++ found)) ∙ rw (told .2) at hits-are in
+          let ends : true ≡ tablesOverflow db size roots counts hints depth = rw (told .2) at ends-are in
+          carves-as width room 0 (w .done ++ found) (tablesHits carve db size roots counts hints depth) true (tablesOverflow db size roots counts hints depth) rows₀ cols₀ (Stopped m) rows′ cols′ hits ends c
+
+  pub tables-done : length roots ≤ t
+      → Carves width room 0 (tablesHits carve db size roots counts hints depth) (tablesOverflow db size roots counts hints depth) rows₀ cols₀ (On n) rows cols
+  tables-done h =
+      let none : drop t roots ≡ [] = drop-of-length-le roots h in
+      let hits : w .done ≡ tablesHits carve db size roots counts hints depth = sym (append-nil (w .done)) ∙ rw none at (w .hits) in
+      let ends : false ≡ tablesOverflow db size roots counts hints depth = rw none at (w .ends) in
+      carves-as width room 0 (w .done) (tablesHits carve db size roots counts hints depth) false (tablesOverflow db size roots counts hints depth) rows₀ cols₀ (On n) rows cols hits ends (w .carved)
+
+-- ---- all tables
+abbrev pub walkedAs : ℕ → Carved → Walked
+walkedAs room (On n) = Done n
+walkedAs room Over = Full room
+walkedAs room (Stopped n) = Short n
+
+walked-is : (room k : ℕ) (full : Bool) → walkedAs room (carvedTo room 0 k full) ≡ walkedOf room k full
+walked-is room k full =
+    by-order room k
+    (λ lt. rw zero-add (simp (lt-leb k room lt, lt-ltb room k lt)))
+    (λ le. rw zero-add (simp (le-leb k room le, le-ltb room k le) (by full)))
+  where
+    by : (b : Bool) → walkedAs room (cond b (Stopped k) (On k)) ≡ cond b (Short k) (Done k)
+    by true = refl
+    by false = refl
+
+module _ (carve : Carver) (db : List ℕ) (size : ℕ) (roots counts hints : List ℕ) (flags depth : ℕ) (rows cols : List ℕ) where
+  pub tabled-few : flags < length db / size → Tabled carve db size roots counts hints flags depth rows cols (Short 0) rows cols
+  tabled-few h =
+      record { answer = simp (lt-ltb flags (length db / size) h); rows-are = simp (lt-ltb flags (length db / size) h); cols-are = simp (lt-ltb flags (length db / size) h) }
+
+  pub tabled : (room : ℕ) (r : Carved) (rows′ cols′ : List ℕ) → length db / size ≤ flags → room ≡ roomOf (length rows) (length cols) (widest counts)
+      → Carves (widest counts) room 0 (tablesHits carve db size roots counts hints depth) (tablesOverflow db size roots counts hints depth) rows cols r rows′ cols′
+      → Tabled carve db size roots counts hints flags depth rows cols (walkedAs room r) rows′ cols′
+  tabled room r rows′ cols′ enough is x =
+      let hs = tablesHits carve db size roots counts hints depth in
+      let full = tablesOverflow db size roots counts hints depth in
+      let p = puts-all (widest counts) room hs rows cols rows′ cols′ is (x .puts) in
+      record {
+        answer = simp (le-ltb flags (length db / size) enough) (rw (x .answer, ← is) (walked-is room (length hs) full));
+        rows-are = simp (le-ltb flags (length db / size) enough) (rw (← is) (p .0));
+        cols-are = simp (le-ltb flags (length db / size) enough) (rw (← is) (p .1));
+      }

@@ -2,21 +2,21 @@
 -- Assumes nothing.
 use Prim.Native.Nat.{ℕ, suc, _+_, _-_, max}
 use mathlib.Core.Bool.{Bool, true, false, cond, not, _&&_, _||_}
-use mathlib.Core.List.{List, [], _∷_, _++_, map}
+use mathlib.Core.List.{List, [], _∷_, _++_}
 use lib.Dec.{ltb, eqb}
 use lib.ListN.{length, take, drop}
 use Rattle.page.specs.Page.{sizeFits, wholePages}
-use Rattle.sheet.specs.Columns.{columnWords, unusedWords, roomOf}
+use Rattle.sheet.specs.Columns.{unusedWords, roomOf}
 use Rattle.sheet.specs.Limits.{largestRegion, countFits, hintsKnown}
-use Rattle.sheet.specs.Refusal.{Check, firstHeld}
-use Rattle.sheet.specs.Sheet.{overlay, rowsWords}
+use Rattle.sheet.specs.Refusal.{Check, firstHeld, after, afterOrKept}
+use Rattle.sheet.specs.Sheet.{overlay, rowsWords, columnsWords}
 use Rattle.sheet.specs.declared.columns.Column.{Column}
 use Rattle.sheet.specs.declared.refusal.Refusal.the-variants.{ColumnCount, Malformed, TooLarge, PageSize}
 use Rattle.sheet.specs.declared.row.Row.{Row}
-use Rattle.walk.specs.Collect.{walkedOf, ifFlagged, ifPassed, orRefused, walkNumber, walkWritten}
+use Rattle.walk.specs.Collect.{walkedOf, ifFlagged, walkNumber, walkWritten}
 use Rattle.walk.specs.Walk.{Walk, walk, hitsOf, overflows}
 use Rattle.walk.specs.declared.walk.Walked.{Walked}
-use Rattle.walk.specs.declared.walk.Walked.the-variants.{Short}
+use Rattle.walk.specs.declared.walk.Walked.the-variants.{Short, Refused}
 
 -- ---- what is found, and the words that say it
 
@@ -28,10 +28,6 @@ pub record Hit : Type 0 where
 abbrev pub rowsOf : List Hit → List Row
 rowsOf [] = []
 rowsOf (h ∷ hs) = h .row ∷ rowsOf hs
-
-abbrev pub columnsWords : List Column → List ℕ
-columnsWords [] = []
-columnsWords (c ∷ cs) = columnWords c ++ columnsWords cs
 
 -- Rule 5.2: a group of `width` entries, and groups one behind the other
 abbrev pub groupWords : ℕ → Hit → List ℕ
@@ -115,17 +111,17 @@ tablesWritten carve db size roots counts hints flags depth rows cols =
 
 unfoldable pub carvedAnswer : Carver → List ℕ → ℕ → List ℕ → List ℕ → List ℕ → ℕ → ℕ → ℕ → ℕ → Walked
 carvedAnswer carve db size roots counts hints flags depth rows cols =
-    orRefused (firstHeld (tableChecks (length db) size roots counts hints)) (tablesAnswer carve db size roots counts hints flags depth rows cols)
+    after Refused (firstHeld (tableChecks (length db) size roots counts hints)) (tablesAnswer carve db size roots counts hints flags depth rows cols)
 
 unfoldable pub carvedRows : Carver → List ℕ → ℕ → List ℕ → List ℕ → List ℕ → ℕ → ℕ → List ℕ → List ℕ → List ℕ
 carvedRows carve db size roots counts hints flags depth rows cols =
-    ifPassed (firstHeld (tableChecks (length db) size roots counts hints))
+    afterOrKept (firstHeld (tableChecks (length db) size roots counts hints))
     (overlay (rowsWords (rowsOf (tablesWritten carve db size roots counts hints flags depth (length rows) (length cols)))) rows)
     rows
 
 unfoldable pub carvedCols : Carver → List ℕ → ℕ → List ℕ → List ℕ → List ℕ → ℕ → ℕ → List ℕ → List ℕ → List ℕ
 carvedCols carve db size roots counts hints flags depth rows cols =
-    ifPassed (firstHeld (tableChecks (length db) size roots counts hints))
+    afterOrKept (firstHeld (tableChecks (length db) size roots counts hints))
     (overlay (groupsWords (widest counts) (tablesWritten carve db size roots counts hints flags depth (length rows) (length cols))) cols)
     cols
 

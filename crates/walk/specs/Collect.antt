@@ -8,10 +8,9 @@ use lib.Dec.{ltb}
 use lib.ListN.{length, take, replicate}
 use Rattle.page.specs.Page.{sizeFits, wholePages}
 use Rattle.sheet.specs.Limits.{largestRegion}
-use Rattle.sheet.specs.Refusal.{Check, firstHeld, refusalNumber}
+use Rattle.sheet.specs.Refusal.{Check, firstHeld, refusalNumber, after, afterOr0, afterOrKept}
 use Rattle.sheet.specs.Sheet.{overlay}
 use Rattle.sheet.specs.declared.refusal.Checked.{Checked}
-use Rattle.sheet.specs.declared.refusal.Checked.the-variants.{Passed, Refused as Held}
 use Rattle.sheet.specs.declared.refusal.Refusal.the-variants.{TooLarge, PageSize, WalkSpace, NoRoom}
 use Rattle.walk.specs.Walk.{Walk, walk, hitsOf, overflows}
 use Rattle.walk.specs.declared.walk.Walked.{Walked}
@@ -27,14 +26,6 @@ walkedOf room n overflow = cond (ltb room n) (Full room) (cond overflow (Short n
 abbrev pub ifFlagged : {A : Type 0} → ℕ → ℕ → A → A → A
 ifFlagged pages flags x few = cond (ltb flags pages) few x
 
-abbrev pub ifPassed : {A : Type 0} → Checked → A → A → A
-ifPassed Passed x held = x
-ifPassed (Held r) x held = held
-
-abbrev pub orRefused : Checked → Walked → Walked
-orRefused Passed a = a
-orRefused (Held r) a = Refused r
-
 -- the paper's number, 0 where nothing is refused, and how many are written
 abbrev pub walkedNumber : Walked → ℕ
 walkedNumber (Done n) = 0
@@ -49,19 +40,15 @@ walkedWritten (Short n) = n
 walkedWritten (Refused r) = 0
 
 -- the same, said of the checks, the flags and what comes of the walk
-abbrev pub numberOf : Checked → ℕ → ℕ
-numberOf Passed n = n
-numberOf (Held r) n = refusalNumber r
-
 abbrev pub walkNumber : Checked → ℕ → ℕ → ℕ → ℕ → Bool → ℕ
-walkNumber c pages flags room n overflow = numberOf c (ifFlagged pages flags (cond (ltb room n) 9 (cond overflow 8 0)) 8)
+walkNumber c pages flags room n overflow = after refusalNumber c (ifFlagged pages flags (cond (ltb room n) 9 (cond overflow 8 0)) 8)
 
 abbrev pub walkWritten : Checked → ℕ → ℕ → ℕ → ℕ → ℕ
-walkWritten c pages flags room n = ifPassed c (ifFlagged pages flags (min room n) 0) 0
+walkWritten c pages flags room n = afterOr0 c (ifFlagged pages flags (min room n) 0)
 
 -- Rule 9.11: flags and stack are zero behind the checks, and as they were where one refuses
 abbrev pub clearedUnless : Checked → List ℕ → List ℕ
-clearedUnless c l = ifPassed c (replicate (length l) 0) l
+clearedUnless c l = afterOrKept c (replicate (length l) 0) l
 
 -- ---- the leaves of a table
 abbrev pub walkChecks : ℕ → ℕ → List Check
@@ -85,11 +72,11 @@ leavesWritten db size root flags depth old =
 
 unfoldable pub collectAnswer : List ℕ → ℕ → ℕ → ℕ → ℕ → ℕ → Walked
 collectAnswer db size root flags depth room =
-    orRefused (firstHeld (walkChecks (length db) size)) (leavesAnswer db size root flags depth room)
+    after Refused (firstHeld (walkChecks (length db) size)) (leavesAnswer db size root flags depth room)
 
 unfoldable pub collectLeaves : List ℕ → ℕ → ℕ → ℕ → ℕ → List ℕ → List ℕ
 collectLeaves db size root flags depth old =
-    ifPassed (firstHeld (walkChecks (length db) size)) (leavesWritten db size root flags depth old) old
+    afterOrKept (firstHeld (walkChecks (length db) size)) (leavesWritten db size root flags depth old) old
 
 unfoldable pub collectNumber : List ℕ → ℕ → ℕ → ℕ → ℕ → ℕ → ℕ
 collectNumber db size root flags depth room =

@@ -1,4 +1,6 @@
 // Steps of the walk in lent memory, for our own crates: a stack of page numbers, and a flag for each page. Carvers carve between two steps.
+pub mod tables;
+
 use page::inner::cell_count;
 use page::inner::child;
 use page::inner::head_of;

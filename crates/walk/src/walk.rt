@@ -7,7 +7,9 @@ use crate::inner::clear_stack;
 use crate::inner::next_leaf;
 use page::inner::size_fits;
 use sheet::LARGEST_REGION;
+use sheet::refusal;
 use sheet::refusal::Checked;
+use sheet::refusal::FULL;
 use sheet::refusal::Refusal;
 ghost use mathlib.Core.Path.{_≡_};
 ghost use Prim.Native.Nat.{_/_, _≤_};
@@ -25,6 +27,31 @@ pub enum Walked {
     // There were too few flags, or a page found the stack full: how many were written before.
     Short(usize),
     Refused(Refusal),
+}
+
+impl Walked {
+    // The refusal's number, 0 for none.
+    pub fn number(self) -> u64
+        ensures { λ r. ⌜ r ≡ walkedNumber self ⌝ }
+    {
+        match self {
+            Walked::Done(_) => 0,
+            Walked::Full(_) => FULL,
+            Walked::Short(_) => refusal::number(Refusal::WalkSpace),
+            Walked::Refused(refusal) => refusal::number(refusal),
+        }
+    }
+
+    pub fn written(self) -> u64
+        ensures { λ r. ⌜ r ≡ walkedWritten self ⌝ }
+    {
+        match self {
+            Walked::Done(n) => n as u64,
+            Walked::Full(n) => n as u64,
+            Walked::Short(n) => n as u64,
+            Walked::Refused(_) => 0,
+        }
+    }
 }
 
 // The checks before a walk, in rising order of their numbers.

@@ -4,7 +4,7 @@ use Prim.Native.Nat.{ℕ, _+_, _*_, _%_}
 use mathlib.Core.Bool.{Bool, _&&_}
 use mathlib.Core.List.{List, [], _∷_}
 use lib.ListN.{length}
-use Rattle.phsarodil.specs.Door.{varintWords, lengthWords, decodedWords, entryOf, entryWords, viewWords, suitsNumber, suitsWords, onceWords, scanWords}
+use Rattle.phsarodil.specs.Door.{varintWords, lengthWords, decodedWords, entryOf, entryWords, viewWords, suitsWords, onceWords, scanWords}
 use Rattle.record.specs.Entry.{readEntry, refusalOf, entryBytes}
 use Rattle.record.specs.Value.{bodyLength, decodeAt}
 use Rattle.record.specs.Varint.{readVarint}
@@ -12,8 +12,9 @@ use Rattle.record.specs.declared.entry.Entry.{Entry}
 use Rattle.recording.specs.Recording.{sizeAt, number, slice, secondSlice, cellsAt, freshWord, freshByte, holds, answered}
 use Rattle.replay.specs.declared.lists.Attempts.{Attempts}
 use Rattle.replay.specs.declared.lists.Attempts.the-variants.{One, All}
-use Rattle.scan.specs.Hints.{compatible}
-use Rattle.scan.specs.Scan.{scanAnswer, scanRows, scanCols, numberOf, onceAnswer, onceRows, onceCols, onceNumberOf}
+use Rattle.attempt.specs.Hints.{compatible, compatibleNumberOf}
+use Rattle.scan.specs.Once.{onceAnswer, onceRows, onceCols, onceNumberOf}
+use Rattle.scan.specs.Scan.{scanAnswer, scanRows, scanCols, numberOf}
 use Rattle.search.specs.Search.{searchNumber, searchWritten, searchPlaces}
 use Rattle.statement.specs.Statement.{statementNumber, statementWritten, statementHints}
 
@@ -41,7 +42,7 @@ viewAgrees h b = answered h 0 (viewWords (number 2 h) (entryBytes (givenEntry h)
 abbrev pub suitsAgrees : List ℕ → Bool
 suitsAgrees h =
     let answer = compatible (number 0 h % 256) (number 1 h) in
-    answered h (suitsNumber answer) (suitsWords answer)
+    answered h (compatibleNumberOf answer) (suitsWords answer)
 
 -- ---- calls that write lists: cells lent at 64 and 72, cells written at 80 and 88
 

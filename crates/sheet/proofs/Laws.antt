@@ -14,13 +14,13 @@ use Rattle.record.proofs.Numbers.{by-order}
 use Rattle.sheet.specs.Columns.{columnWords, unusedWords, roomOf}
 use Rattle.sheet.specs.Filled.{filledNumber, filledWritten, writtenAfter, filledAnswer}
 use Rattle.sheet.specs.Limits.{mostColumns, wordsPerRow, wordsPerEntry, highestHint, countFits, hintsKnown}
-use Rattle.sheet.specs.Refusal.{refusalNumber}
+use Rattle.sheet.specs.Refusal.{refusalNumber, Check, firstHeld}
 use Rattle.sheet.specs.Row.{rowWords}
-use Rattle.sheet.specs.Sheet.{overlay, rowsWords}
+use Rattle.sheet.specs.Sheet.{overlay, rowsWords, columnsWords}
 use Rattle.sheet.specs.declared.columns.Column.{Column}
 use Rattle.sheet.specs.declared.columns.Column.the-variants.{Body, Unfit, Lost, Unused}
 use Rattle.sheet.specs.declared.filled.Filled.{Filled}
-use Rattle.sheet.specs.declared.refusal.Checked.the-variants.{Passed}
+use Rattle.sheet.specs.declared.refusal.Checked.the-variants.{Passed, Refused}
 use Rattle.sheet.specs.declared.refusal.Refusal.{Refusal}
 use Rattle.sheet.specs.declared.refusal.Refusal.the-variants.{ColumnCount, Malformed, TooLarge, BaseTooFar, PageSize, NoSuchPage, NoColumnList, WalkSpace, NoRoom}
 use Rattle.sheet.specs.declared.row.Row.{Row}
@@ -37,6 +37,21 @@ number-range NoSuchPage = (lit≤ tt, lit≤ tt)
 number-range NoColumnList = (lit≤ tt, lit≤ tt)
 number-range WalkSpace = (lit≤ tt, lit≤ tt)
 number-range NoRoom = (lit≤ tt, lit≤ tt)
+
+-- none of a call's checks holds
+abbrev pub NoneHolds : List Check → Type 0
+NoneHolds [] = Unit
+NoneHolds (c ∷ cs) = (c .holds ≡ false) × NoneHolds cs
+
+-- THE LAW: what passed has passed each check
+pub none-holds : (cs : List Check) → firstHeld cs ≡ Passed → NoneHolds cs
+none-holds [] e = tt
+none-holds (c ∷ cs) e = go (c .holds) refl e (λ p. none-holds cs p)
+  where
+    go : (b : Bool) → c .holds ≡ b → cond b (Refused (c .refusal)) (firstHeld cs) ≡ Passed → (firstHeld cs ≡ Passed → NoneHolds cs)
+        → (c .holds ≡ false) × NoneHolds cs
+    go true h e rest = let z : _≡_ {A = ℕ} 0 1 = cc in absurd (omega arith)
+    go false h e rest = (h, rest e)
 
 -- THE LAW: a count that fits is from 1 to 126
 pub count-fits : (n : ℕ) → countFits n ≡ true → (1 ≤ n) × (n ≤ mostColumns)
@@ -63,6 +78,10 @@ column-words-length (Body kind start len) = refl
 column-words-length (Unfit kind) = refl
 column-words-length Lost = refl
 column-words-length Unused = refl
+
+pub columns-words-length : (cs : List Column) → length (columnsWords cs) ≡ wordsPerEntry * length cs
+columns-words-length [] = refl
+columns-words-length (c ∷ cs) = simp (length-append, column-words-length, columns-words-length cs) (omega arith)
 
 pub unused-words-length : (n : ℕ) → length (unusedWords n) ≡ wordsPerEntry * n
 unfolding unusedWords

@@ -5,10 +5,11 @@ use mathlib.Core.Bool.{Bool, true, false, cond, _&&_}
 use mathlib.Core.List.{List, [], _∷_, _++_}
 use lib.Dec.{eqb, ltb}
 use lib.ListN.{length, drop}
-use Rattle.sheet.specs.Filled.{writtenAfter, filledAnswer, filledList}
+use Rattle.sheet.specs.Filled.{filledBy, writtenAfter, laid}
 use Rattle.sheet.specs.Limits.{largestRegion}
-use Rattle.sheet.specs.Refusal.{Check, firstHeld}
+use Rattle.sheet.specs.Refusal.{Check, firstHeld, after, afterOrKept}
 use Rattle.sheet.specs.declared.filled.Filled.{Filled}
+use Rattle.sheet.specs.declared.filled.Filled.the-variants.{Refused}
 use Rattle.sheet.specs.declared.refusal.Refusal.the-variants.{TooLarge}
 
 -- ---- places
@@ -61,8 +62,8 @@ searchChecks haystack = record { refusal = TooLarge; holds = tooLarge haystack }
 
 -- what a search answers, with so many cells lent
 unfoldable pub searchAnswer : List ℕ → List ℕ → ℕ → Filled
-searchAnswer haystack pattern room = filledAnswer (firstHeld (searchChecks haystack)) (placesOf haystack pattern) room
+searchAnswer haystack pattern room = after Refused (firstHeld (searchChecks haystack)) (filledBy (length (placesOf haystack pattern)) room)
 
 -- what it leaves in the list, by what the list held
 unfoldable pub searchPlaces : List ℕ → List ℕ → List ℕ → List ℕ
-searchPlaces haystack pattern old = filledList (firstHeld (searchChecks haystack)) (placesOf haystack pattern) old
+searchPlaces haystack pattern old = afterOrKept (firstHeld (searchChecks haystack)) (laid (placesOf haystack pattern) old) old

@@ -12,7 +12,7 @@ use lib.ListN.{length, set, getD, length-append, length-drop}
 use lib.Seq.{sets, sets-eq, take-append-seam, drop-append-add, drop-drop}
 use Rattle.record.proofs.Numbers.{by-order}
 use Rattle.sheet.specs.Columns.{columnWords, unusedWords, roomOf}
-use Rattle.sheet.specs.Filled.{filledNumber, filledWritten, writtenAfter, filledAnswer}
+use Rattle.sheet.specs.Filled.{filledNumber, filledWritten, filledBy, writtenAfter}
 use Rattle.sheet.specs.Limits.{mostColumns, wordsPerRow, wordsPerEntry, highestHint, countFits, hintsKnown}
 use Rattle.sheet.specs.Refusal.{refusalNumber, Check, firstHeld}
 use Rattle.sheet.specs.Row.{rowWords}
@@ -127,12 +127,9 @@ overlay-row rs r old h =
 abbrev pub Numbers : Filled → ℕ → ℕ → Type 0
 Numbers answer number written = (filledNumber answer ≡ number) × (filledWritten answer ≡ written)
 
--- THE LAW: past the checks it is 9 where there are more things than cells, and as many are written as fit
-pub filled-numbers : {A : Type 0} (things : List A) (room : ℕ) →
-    let number : ℕ = cond (ltb room (length things)) 9 0 in
-    Numbers (filledAnswer Passed things room) number (writtenAfter number (length things) room)
-filled-numbers things room =
-    let n = length things in
+-- THE LAW: it is 9 where there are more things than cells, and as many are written as fit
+pub filled-numbers : (n room : ℕ) → let number : ℕ = cond (ltb room n) 9 0 in Numbers (filledBy n room) number (writtenAfter number n room)
+filled-numbers n room =
     by-order room n
     (λ more. simp (lt-leb n room more, lt-ltb room n more, min-eq-right (le-of-lt more)) (refl, refl))
     (λ fit. simp (le-leb n room fit, le-ltb room n fit, min-eq-left fit) (refl, refl))

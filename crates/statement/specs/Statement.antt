@@ -7,10 +7,11 @@ use mathlib.Core.List.{List, [], _∷_, _++_}
 use lib.Dec.{ltb, eqb}
 use lib.ListN.{length}
 use Rattle.statement.specs.Words.{bytes, trim, has, behindFirst, beforeLast, pieces, secondWord, holds, startsWithOne, equalsOne}
-use Rattle.sheet.specs.Filled.{writtenAfter, filledAnswer, filledList}
+use Rattle.sheet.specs.Filled.{filledBy, writtenAfter, laid}
 use Rattle.sheet.specs.Limits.{integerHint, realHint, textHint, blobHint, anyHint, countFits}
-use Rattle.sheet.specs.Refusal.{Check, firstHeld}
+use Rattle.sheet.specs.Refusal.{Check, firstHeld, after, afterOrKept}
 use Rattle.sheet.specs.declared.filled.Filled.{Filled}
+use Rattle.sheet.specs.declared.filled.Filled.the-variants.{Refused}
 use Rattle.sheet.specs.declared.refusal.Refusal.the-variants.{ColumnCount, TooLarge, NoColumnList}
 
 -- the most bytes that a statement may have
@@ -114,8 +115,8 @@ statementChecks s =
 
 -- what the call returns, by the statement and how many cells are lent
 unfoldable pub statementAnswer : List ℕ → ℕ → Filled
-statementAnswer s room = filledAnswer (firstHeld (statementChecks s)) (hintsOf s) room
+statementAnswer s room = after Refused (firstHeld (statementChecks s)) (filledBy (length (hintsOf s)) room)
 
 -- Rule 6.5: what the call leaves in the list, by the statement and what the list held
 unfoldable pub statementHints : List ℕ → List ℕ → List ℕ
-statementHints s old = filledList (firstHeld (statementChecks s)) (hintsOf s) old
+statementHints s old = afterOrKept (firstHeld (statementChecks s)) (laid (hintsOf s) old) old

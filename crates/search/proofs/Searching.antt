@@ -9,7 +9,7 @@ use native.Mathlib.Decide.{ℕ-discrete, le-ind}
 use native.Mathlib.Numerals.{add-one}
 use native.Mathlib.Omega.{arith}
 use borrow.Author.Tests.{eq-eqb, eqb-true, le-leb, lt-leb}
-use lib.Dec.{eqb}
+use lib.Dec.{eqb, ltb}
 use lib.ListN.{length, getD, drop, set, replicate, length-append, length-drop, getD-replicate}
 use lib.Seq.{sets, length-sets, set-out, getD-set-same, getD-set-other, getD-drop, take-all, take-at}
 use Rattle.sheet.specs.Filled.{filledNumber, filledWritten, filledBy, writtenAfter, laid}
@@ -21,7 +21,7 @@ use Rattle.sheet.specs.declared.refusal.Checked.the-variants.{Passed, Refused a
 use Rattle.sheet.specs.declared.refusal.Refusal.the-variants.{TooLarge}
 use Rattle.sheet.proofs.Laws.{overlay-length, overlay-more, Numbers, filled-numbers}
 use Rattle.search.specs.Inner.{Entered}
-use Rattle.search.specs.Search.{matches, standsAt, placeAt, placesBelow, placesOf, tooLarge, crowded, searchNumber, searchWritten, searchAnswer, searchPlaces}
+use Rattle.search.specs.Search.{matches, standsAt, placeAt, placesBelow, placesOf, tooLarge, searchNumber, searchWritten, searchAnswer, searchPlaces}
 
 -- ---- a match, byte by byte
 matches-fits : (p s : List ℕ) → matches p s ≡ true → length p ≤ length s
@@ -236,7 +236,7 @@ unfolding searchAnswer searchNumber searchWritten
 numbers haystack pattern room = go (tooLarge haystack)
   where
     go : (large : Bool) →
-        let number : ℕ = cond large 3 (cond (crowded haystack pattern room) 9 0) in
+        let number : ℕ = cond large 3 (cond (ltb room (length (placesOf haystack pattern))) 9 0) in
         Numbers (after Refused (cond large (Stopped TooLarge) Passed) (filledBy (length (placesOf haystack pattern)) room)) number
         (writtenAfter number (length (placesOf haystack pattern)) room)
     go true = (refl, refl)

@@ -44,13 +44,9 @@ placesOf haystack (p ∷ pattern) = placesBelow haystack (p ∷ pattern) (length
 abbrev pub tooLarge : List ℕ → Bool
 tooLarge haystack = ltb largestRegion (length haystack)
 
--- there are more places than the list has cells
-abbrev pub crowded : List ℕ → List ℕ → ℕ → Bool
-crowded haystack pattern room = ltb room (length (placesOf haystack pattern))
-
 -- Rule 1.1: the number that the call answers with; 0 stands for none
 unfoldable pub searchNumber : List ℕ → List ℕ → ℕ → ℕ
-searchNumber haystack pattern room = cond (tooLarge haystack) 3 (cond (crowded haystack pattern room) 9 0)
+searchNumber haystack pattern room = cond (tooLarge haystack) 3 (cond (ltb room (length (placesOf haystack pattern))) 9 0)
 
 -- and how many places it says are written
 unfoldable pub searchWritten : List ℕ → List ℕ → ℕ → ℕ

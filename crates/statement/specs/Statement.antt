@@ -89,17 +89,13 @@ tooLarge s = ltb largestStatement (length s)
 abbrev pub unlisted : List ℕ → Bool
 unlisted s = not (has opening s) || not (has closing (behindFirst opening s))
 
--- there is no hint, or more than there may be,
+-- or there is no hint, or more than there may be
 abbrev pub miscounted : List ℕ → Bool
 miscounted s = not (countFits (length (hintsOf s)))
 
--- or there are more than the list has cells
-abbrev pub crowded : List ℕ → ℕ → Bool
-crowded s room = ltb room (length (hintsOf s))
-
 -- Rule 6.6: the number that the call answers with; 0 stands for none
 unfoldable pub statementNumber : List ℕ → ℕ → ℕ
-statementNumber s room = cond (tooLarge s) 3 (cond (unlisted s) 7 (cond (miscounted s) 1 (cond (crowded s room) 9 0)))
+statementNumber s room = cond (tooLarge s) 3 (cond (unlisted s) 7 (cond (miscounted s) 1 (cond (ltb room (length (hintsOf s))) 9 0)))
 
 -- and how many hints it says are written
 unfoldable pub statementWritten : List ℕ → ℕ → ℕ

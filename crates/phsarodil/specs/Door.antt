@@ -1,4 +1,4 @@
--- The words that a call writes into `out` for its answer, and the number that it returns where the answer's own crate has none for it.
+-- The words that a call writes into `out` for its answer.
 -- Assumes nothing.
 use Prim.Native.Nat.{ℕ, _-_, _^_}
 use mathlib.Core.Bool.{cond}
@@ -6,6 +6,8 @@ use mathlib.Core.List.{List, [], _∷_}
 use lib.Dec.{eqb}
 use lib.IntN.{ℤ, pos, negsuc}
 use lib.ListN.{length}
+use Rattle.attempt.specs.Hints.{compatibleWordOf}
+use Rattle.attempt.specs.declared.schema_sig.Compatible.{Compatible}
 use Rattle.record.specs.Value.{bigEndian, startOf, lengthOf}
 use Rattle.record.specs.declared.entry.Entry.{Entry}
 use Rattle.record.specs.declared.entry.EntryRead.{EntryRead}
@@ -18,12 +20,10 @@ use Rattle.record.specs.declared.record.Value.{Value}
 use Rattle.record.specs.declared.record.Value.the-variants.{Null, Int, Real, Text, Blob}
 use Rattle.record.specs.declared.varint.Read.{Read}
 use Rattle.record.specs.declared.varint.Read.the-variants.{Number, Nothing as Short}
-use Rattle.scan.specs.Scan.{writtenOf, placeOf, readOf, onceWrittenOf}
+use Rattle.scan.specs.Once.{onceWrittenOf}
+use Rattle.scan.specs.Scan.{writtenOf, placeOf, readOf}
 use Rattle.scan.specs.declared.schema_sig.Attempted.{Attempted}
-use Rattle.scan.specs.declared.schema_sig.Compatible.{Compatible}
-use Rattle.scan.specs.declared.schema_sig.Compatible.the-variants.{Suits, Differs, Refused}
 use Rattle.scan.specs.declared.schema_sig.Scanned.{Scanned}
-use Rattle.sheet.specs.Refusal.{refusalNumber}
 
 -- phs_read_varint: found, value, bytes taken
 abbrev pub varintWords : Read → List ℕ
@@ -79,18 +79,8 @@ viewWords start shown = cond (eqb (length shown) 0) (0 ∷ 0 ∷ []) (start ∷ 
 -- ---- hints and rows
 
 -- phs_is_compatible: whether the type suits the hint
-abbrev pub suitsNumber : Compatible → ℕ
-suitsNumber Suits = 0
-suitsNumber Differs = 0
-suitsNumber (Refused r) = refusalNumber r
-
-abbrev pub suitsWord : Compatible → ℕ
-suitsWord Suits = 1
-suitsWord Differs = 0
-suitsWord (Refused r) = 0
-
 abbrev pub suitsWords : Compatible → List ℕ
-suitsWords a = suitsWord a ∷ []
+suitsWords a = compatibleWordOf a ∷ []
 
 -- phs_try_parse_record: rows written; its place and its count are 0
 abbrev pub onceWords : Attempted → List ℕ

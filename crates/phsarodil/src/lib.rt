@@ -3,3 +3,4 @@
 pub mod lists;
 pub mod rows;
 pub mod values;
+pub mod version;

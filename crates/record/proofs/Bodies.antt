@@ -8,7 +8,7 @@ use native.Mathlib.Omega.{arith}
 use lib.Dec.{ltb, eqb}
 use lib.ListN.{length, take, drop}
 use borrow.Author.Tests.{leb-true, ltb-false, eqb-true}
-use Rattle.record.specs.Entry.{unlike, badEntry, readEntry, valueBytes, shown, entryBytes}
+use Rattle.record.specs.Entry.{bodyState, unusedState, unlike, badEntry, readEntry, valueBytes, shown, entryBytes}
 use Rattle.record.specs.Value.{bodyLength, bodyFits, valueOf, decodeAt, decodeAs}
 use Rattle.record.specs.declared.entry.Entry.{Entry}
 use Rattle.record.specs.declared.entry.EntryRead.{EntryRead}
@@ -80,7 +80,7 @@ decoded-there t s at v n d = by-length t s at v n (bodyLength t) refl d
 pub read-there : (e : Entry) (s : List ℕ) (v : Value) → readEntry e s ≡ Reads v → BodyThere s (e .start) v
 unfolding readEntry badEntry
 read-there e s v r =
-    by-tests (e .kind) s (e .start) v (e .len) (ltb 3 (e .state)) (eqb (e .state) 0) (unlike (e .len) (bodyLength (e .kind)))
+    by-tests (e .kind) s (e .start) v (e .len) (ltb unusedState (e .state)) (eqb (e .state) bodyState) (unlike (e .len) (bodyLength (e .kind)))
     (ltb (length s) (e .start + e .len))
     refl refl r
 
@@ -95,7 +95,7 @@ pub view-named : (e : Entry) (s : List ℕ) → take (length (entryBytes e s)) (
 unfolding entryBytes readEntry valueOf
 view-named e s =
     pick R (badEntry e s) (λ _. refl)
-    (pick R (eqb (e .state) 0)
+    (pick R (eqb (e .state) bodyState)
     (λ _.
     pick P (eqb t 0) (λ _. refl)
     (pick P (ltb t 7) (λ _. refl)

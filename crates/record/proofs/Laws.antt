@@ -16,7 +16,7 @@ use mir.Syntax.{w64}
 use mir.Val.{SFits, toZ, ofZ}
 use mir.Facts.{toZ-ofZ}
 use borrow.Author.Tests.{lt-ltb, le-ltb, le-leb, lt-leb, eq-eqb, ne-eqb, leb-true, ltb-true}
-use Rattle.record.specs.Entry.{unlike, badEntry, readEntry, entryRefusal}
+use Rattle.record.specs.Entry.{bodyState, unusedState, unlike, badEntry, readEntry, entryRefusal}
 use Rattle.record.specs.Places.{placesFrom, stopOf, varintPlaces, AgreeAt}
 use Rattle.record.specs.Value.{bodyLength, bodyFits, valueOf, decodeAt}
 use Rattle.record.specs.Varint.{varintFrom, varintAt}
@@ -232,16 +232,16 @@ module _ (e : Entry) (s : List ℕ) where
   unfolding readEntry entryRefusal
   entry-refused b = (simp b, simp b)
 
-  -- THE LAW: states 1 to 3 read as NULL
-  pub entry-null : 0 < e .state → e .state ≤ 3 → (readEntry e s ≡ Of Null) × (_≡_ {A = ℕ} (entryRefusal e s) 0)
+  -- THE LAW: the states of no body read as NULL
+  pub entry-null : (e .state ≡ bodyState → ⊥) → e .state ≤ unusedState → (readEntry e s ≡ Of Null) × (_≡_ {A = ℕ} (entryRefusal e s) 0)
   unfolding readEntry entryRefusal badEntry
-  entry-null lo hi =
-      let big = le-ltb 3 (e .state) hi in
-      let none = ne-eqb (e .state) 0 (λ z. omega arith) in
+  entry-null other hi =
+      let big = le-ltb unusedState (e .state) hi in
+      let none = ne-eqb (e .state) bodyState other in
       (simp (big, none), simp (big, none))
 
-  -- THE LAW: state 0 reads as the body that it names
-  pub entry-body : e .state ≡ 0 → bodyLength (e .kind) ≡ Bytes (e .len) → e .start + e .len ≤ length s →
+  -- THE LAW: a body that is there is read
+  pub entry-body : e .state ≡ bodyState → bodyLength (e .kind) ≡ Bytes (e .len) → e .start + e .len ≤ length s →
       (readEntry e s ≡ Of (valueOf (e .kind) s (e .start) (e .len))) × (_≡_ {A = ℕ} (entryRefusal e s) 0)
   unfolding readEntry entryRefusal badEntry
   entry-body z l h =
@@ -249,11 +249,11 @@ module _ (e : Entry) (s : List ℕ) where
       let like = eq-eqb (e .len) (e .len) refl in
       (simp (z, l, like, out), simp (z, l, like, out))
 
-  pub bad-state : 3 < e .state → badEntry e s ≡ true
+  pub bad-state : unusedState < e .state → badEntry e s ≡ true
   unfolding badEntry
-  bad-state h = simp (lt-ltb 3 (e .state) h)
+  bad-state h = simp (lt-ltb unusedState (e .state) h)
 
-  pub bad-body : e .state ≡ 0 → ((n : ℕ) → bodyLength (e .kind) ≡ Bytes n → e .len ≡ n → length s < e .start + n) → badEntry e s ≡ true
+  pub bad-body : e .state ≡ bodyState → ((n : ℕ) → bodyLength (e .kind) ≡ Bytes n → e .len ≡ n → length s < e .start + n) → badEntry e s ≡ true
   unfolding badEntry
   bad-body z h = simp z (by-length (bodyLength (e .kind)) refl)
     where
@@ -264,41 +264,38 @@ module _ (e : Entry) (s : List ℕ) where
           (λ q. simp (lt-ltb (length s) (e .start + e .len) (omega (arith, h n l q)), or-true))
           (λ ne. simp (ne-eqb (e .len) n ne))
 
-  -- THE LAW: state 0 reads as what is decoded at its start, if the length is what that takes
-  module _ (zero-state : e .state ≡ 0) (v : Cell) (n : ℕ) (there : decodeAt (e .kind) s (e .start) ≡ Got v n) where
+  -- THE LAW: a body that is there reads as what is decoded at its start, if the length is what that takes
+  module _ (body : e .state ≡ bodyState) (v : Cell) (n : ℕ) (there : decodeAt (e .kind) s (e .start) ≡ Got v n) where
     pub entry-decoded : e .start ≤ length s → e .len ≡ n → (readEntry e s ≡ Of v) × (_≡_ {A = ℕ} (entryRefusal e s) 0)
     entry-decoded h q =
         let d = decoded (e .kind) s (e .start) v n there in
-        let b = entry-body zero-state (rw q (d .0)) (omega (arith, fits-inside (e .kind) n s (e .start) (d .0) (d .1) h)) in
+        let b = entry-body body (rw q (d .0)) (omega (arith, fits-inside (e .kind) n s (e .start) (d .0) (d .1) h)) in
         (b .0 ∙ rw (q, ← (d .2)), b .1)
 
     pub bad-length : (e .len ≡ n → ⊥) → badEntry e s ≡ true
     bad-length ne =
         let d = decoded (e .kind) s (e .start) v n there in
-        bad-body zero-state (λ m l q. let z : Bytes m ≡ Bytes n = cc in absurd (ne (cc)))
+        bad-body body (λ m l q. let z : Bytes m ≡ Bytes n = cc in absurd (ne (cc)))
 
   -- THE LAW: an entry's bytes lie in the slice
   pub entry-inside : (v : Cell) → readEntry e s ≡ Of v → Inside s v
   unfolding readEntry
   entry-inside v r =
-      by-order 3 (e .state) (λ big. refused (entry-refused (bad-state big) .0))
+      by-order unusedState (e .state) (λ big. refused (entry-refused (bad-state big) .0))
       (λ hi.
-      by-order 0 (e .state)
-      (λ lo. let z : v ≡ Null = cc (entry-null lo hi .0) in rw z tt)
-      (λ none.
+      by-cases (ℕ-discrete (e .state) bodyState)
+      (λ body.
       by-order (length s) (e .start + e .len)
-      (λ out. refused (entry-refused (bad-body (omega arith) (λ n l q. omega arith)) .0))
-      (λ h. body h (badEntry e s) (simp (zero-state none) at r))))
+      (λ out. refused (entry-refused (bad-body body (λ n l q. omega arith)) .0))
+      (λ h. there h (badEntry e s) (simp body at r)))
+      (λ other. let z : v ≡ Null = cc (entry-null other hi .0) in rw z tt))
     where
       refused : readEntry e s ≡ Refused → Inside s v
       refused q = let z : _≡_ {A = ℕ} 0 1 = cc in absurd (omega arith)
 
-      zero-state : e .state ≤ 0 → e .state ≡ 0
-      zero-state h = omega arith
-
-      body : e .start + e .len ≤ length s → (b : Bool) → cond b Refused (Of (valueOf (e .kind) s (e .start) (e .len))) ≡ Of v → Inside s v
-      body h true q = let z : _≡_ {A = ℕ} 0 1 = cc in absurd (omega arith)
-      body h false q =
+      there : e .start + e .len ≤ length s → (b : Bool) → cond b Refused (Of (valueOf (e .kind) s (e .start) (e .len))) ≡ Of v → Inside s v
+      there h true q = let z : _≡_ {A = ℕ} 0 1 = cc in absurd (omega arith)
+      there h false q =
           let z : v ≡ valueOf (e .kind) s (e .start) (e .len) = cc in
           rw z (value-inside (e .kind) s (e .start) (e .len) (λ _. h))
 

@@ -14,22 +14,38 @@ use Rattle.record.specs.declared.record.Length.the-variants.{Bytes, Rese
 use Rattle.record.specs.declared.record.Value.{Value}
 use Rattle.record.specs.declared.record.Value.the-variants.{Null, Int, Real, Text, Blob}
 
--- Rule 3.1: types 10 and 11 have no length
+-- Rule 3.1, states: the body is there
+abbrev pub bodyState : ℕ
+bodyState = 0
+
+-- the body does not fit
+abbrev pub unfitState : ℕ
+unfitState = 1
+
+-- the column is lost
+abbrev pub lostState : ℕ
+lostState = 2
+
+-- the entry only pads a group; no state is higher
+abbrev pub unusedState : ℕ
+unusedState = 3
+
+-- whether a length is not the type's; types 10 and 11 have none
 abbrev pub unlike : ℕ → Length → Bool
 unlike len (Bytes n) = not (eqb len n)
 unlike len Reserved = true
 
--- Rule 3.2: the state is above 3; or it is 0, and the length is not the type's or the body leaves the slice
+-- Rule 3.2: there is no such state; or there should be a body, and the length is not the type's or the body leaves the slice
 unfoldable pub badEntry : Entry → List ℕ → Bool
 badEntry e s =
-    ltb 3 (e .state)
-    || (eqb (e .state) 0 && (unlike (e .len) (bodyLength (e .kind)) || ltb (length s) (e .start + e .len)))
+    ltb unusedState (e .state)
+    || (eqb (e .state) bodyState && (unlike (e .len) (bodyLength (e .kind)) || ltb (length s) (e .start + e .len)))
 
--- Rule 3.3: a good entry reads as its body in state 0, and as NULL in the others
+-- Rule 3.3: a good entry reads as its body where that is there, and as NULL in the other states
 unfoldable pub readEntry : Entry → List ℕ → EntryRead
 readEntry e s =
     cond (badEntry e s) Refused
-    (cond (eqb (e .state) 0) (Of (valueOf (e .kind) s (e .start) (e .len))) (Of Null))
+    (cond (eqb (e .state) bodyState) (Of (valueOf (e .kind) s (e .start) (e .len))) (Of Null))
 
 -- the refusal's number; 0 stands for none
 abbrev pub refusalOf : EntryRead → ℕ

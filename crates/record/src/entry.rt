@@ -6,6 +6,15 @@ ghost use mathlib.Core.Path.{_≡_};
 ghost use Rattle.record.specs.Entry.{readEntry, refusalOf, entryRefusal, entryBytes};
 ghost use Rattle.record.specs.Inner.{spanOf};
 
+// What a state says of its entry: the body is there,
+pub const BODY: u64 = 0;
+// it does not fit,
+pub const UNFIT: u64 = 1;
+// the column is lost,
+pub const LOST: u64 = 2;
+// or the entry only pads a group. No state is higher.
+pub const UNUSED: u64 = 3;
+
 pub struct Entry {
     pub state: u64,
     // The serial type.
@@ -25,10 +34,10 @@ impl Entry {
         ensures { λ r. ⌜ r ≡ readEntry self (now (bytes .entry)) ⌝ }
         ensures number { λ r. ⌜ refusalOf r ≡ entryRefusal self (now (bytes .entry)) ⌝ }
     {
-        if self.state > 3 {
+        if self.state > UNUSED {
             return EntryRead::Refused;
         }
-        if self.state > 0 {
+        if self.state != BODY {
             return EntryRead::Of(Value::Null);
         }
         let start = self.start as usize;

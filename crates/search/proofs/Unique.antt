@@ -10,4 +10,4 @@ boyer-moore-search-fixed k a x y s t p q = p .0 ∙ sym (q .0)
 
 -- the places at exit
 pub boyer-moore-search-places : FixesSeen boyer-moore-search.Post (λ k r s. now (s .1 .1 .0))
-boyer-moore-search-places k a x y s t p q = p .1 ∙ sym (q .1)
+boyer-moore-search-places k a x y s t p q = p .1 .1 .1 ∙ sym (q .1 .1 .1)

@@ -4,19 +4,23 @@ use Prim.Native.Nat.{ℕ, zero, suc, _+_, _*_, _/_, _≤_, _<_, min}
 use mathlib.Core.Path.{_≡_, refl, sym, _∙_}
 use mathlib.Core.Bool.{Bool, true, false, cond, and-eq-true-iff}
 use mathlib.Core.List.{List, [], _∷_, _++_, append-nil, append-assoc}
-use native.Mathlib.Nat.{add-zero, add-suc, suc-add, suc-mul, min-le-left, min-le-right, le-trans, le-div-iff-mul-le}
+use native.Mathlib.Nat.{add-zero, add-suc, suc-add, suc-mul, min-le-left, min-le-right, min-eq-left, min-eq-right, le-of-lt, le-trans, le-div-iff-mul-le}
 use native.Mathlib.Omega.{arith}
-use borrow.Author.Tests.{leb-true, ne-eqb}
-use lib.Dec.{leb, eqb, lit≤}
+use borrow.Author.Tests.{leb-true, ne-eqb, le-leb, lt-leb, le-ltb, lt-ltb}
+use lib.Dec.{leb, ltb, eqb, lit≤}
 use lib.ListN.{length, set, getD, length-append, length-drop}
 use lib.Seq.{sets, sets-eq, take-append-seam, drop-append-add, drop-drop}
+use Rattle.record.proofs.Numbers.{by-order}
 use Rattle.sheet.specs.Columns.{columnWords, unusedWords, roomOf}
+use Rattle.sheet.specs.Filled.{filledNumber, filledWritten, writtenAfter, filledAnswer}
 use Rattle.sheet.specs.Limits.{mostColumns, wordsPerRow, wordsPerEntry, highestHint, countFits, hintsKnown}
-use Rattle.sheet.specs.Refusal.{refusalNumber}
+use Rattle.sheet.specs.Refusal.{refusalNumber, Check, firstHeld}
 use Rattle.sheet.specs.Row.{rowWords}
-use Rattle.sheet.specs.Sheet.{overlay, rowsWords}
+use Rattle.sheet.specs.Sheet.{overlay, rowsWords, columnsWords}
 use Rattle.sheet.specs.declared.columns.Column.{Column}
 use Rattle.sheet.specs.declared.columns.Column.the-variants.{Body, Unfit, Lost, Unused}
+use Rattle.sheet.specs.declared.filled.Filled.{Filled}
+use Rattle.sheet.specs.declared.refusal.Checked.the-variants.{Passed, Refused}
 use Rattle.sheet.specs.declared.refusal.Refusal.{Refusal}
 use Rattle.sheet.specs.declared.refusal.Refusal.the-variants.{ColumnCount, Malformed, TooLarge, BaseTooFar, PageSize, NoSuchPage, NoColumnList, WalkSpace, NoRoom}
 use Rattle.sheet.specs.declared.row.Row.{Row}
@@ -33,6 +37,21 @@ number-range NoSuchPage = (lit≤ tt, lit≤ tt)
 number-range NoColumnList = (lit≤ tt, lit≤ tt)
 number-range WalkSpace = (lit≤ tt, lit≤ tt)
 number-range NoRoom = (lit≤ tt, lit≤ tt)
+
+-- none of a call's checks holds
+abbrev pub NoneHolds : List Check → Type 0
+NoneHolds [] = Unit
+NoneHolds (c ∷ cs) = (c .holds ≡ false) × NoneHolds cs
+
+-- THE LAW: what passed has passed each check
+pub none-holds : (cs : List Check) → firstHeld cs ≡ Passed → NoneHolds cs
+none-holds [] e = tt
+none-holds (c ∷ cs) e = go (c .holds) refl e (λ p. none-holds cs p)
+  where
+    go : (b : Bool) → c .holds ≡ b → cond b (Refused (c .refusal)) (firstHeld cs) ≡ Passed → (firstHeld cs ≡ Passed → NoneHolds cs)
+        → (c .holds ≡ false) × NoneHolds cs
+    go true h e rest = let z : _≡_ {A = ℕ} 0 1 = cc in absurd (omega arith)
+    go false h e rest = (h, rest e)
 
 -- THE LAW: a count that fits is from 1 to 126
 pub count-fits : (n : ℕ) → countFits n ≡ true → (1 ≤ n) × (n ≤ mostColumns)
@@ -59,6 +78,10 @@ column-words-length (Body kind start len) = refl
 column-words-length (Unfit kind) = refl
 column-words-length Lost = refl
 column-words-length Unused = refl
+
+pub columns-words-length : (cs : List Column) → length (columnsWords cs) ≡ wordsPerEntry * length cs
+columns-words-length [] = refl
+columns-words-length (c ∷ cs) = simp (length-append, column-words-length, columns-words-length cs) (omega arith)
 
 pub unused-words-length : (n : ℕ) → length (unusedWords n) ≡ wordsPerEntry * n
 unfolding unusedWords
@@ -98,6 +121,21 @@ pub overlay-row : (rs : List Row) (r : Row) (old : List ℕ) → length rs * wor
 overlay-row rs r old h =
     rw (← rows-words-length rs, rows-words-snoc rs r)
     (overlay-more (rowsWords rs) (rowWords r) old (omega (arith, rows-words-length rs, row-words-length r)))
+
+-- ---- what fills one list
+-- an answer's number, and how many things it says are written
+abbrev pub Numbers : Filled → ℕ → ℕ → Type 0
+Numbers answer number written = (filledNumber answer ≡ number) × (filledWritten answer ≡ written)
+
+-- THE LAW: past the checks it is 9 where there are more things than cells, and as many are written as fit
+pub filled-numbers : {A : Type 0} (things : List A) (room : ℕ) →
+    let number : ℕ = cond (ltb room (length things)) 9 0 in
+    Numbers (filledAnswer Passed things room) number (writtenAfter number (length things) room)
+filled-numbers things room =
+    let n = length things in
+    by-order room n
+    (λ more. simp (lt-leb n room more, lt-ltb room n more, min-eq-right (le-of-lt more)) (refl, refl))
+    (λ fit. simp (le-leb n room fit, le-ltb room n fit, min-eq-left fit) (refl, refl))
 
 -- ---- room
 least : (b : Bool) (x y : ℕ) → cond b x (min x y) ≤ x

@@ -1,6 +1,8 @@
 // What the sheet is made of: rows and column entries as words of lent lists, confidences, and the refusals.
 pub mod columns;
 pub mod confidence;
+pub mod filled;
+pub mod hint;
 pub mod inner;
 pub mod refusal;
 pub mod row;
@@ -16,4 +18,4 @@ pub const LARGEST_REGION: usize = 16_777_216;
 // 2 to the power of 48.
 pub const LARGEST_BASE: u64 = 281_474_976_710_656;
 
-pub const HIGHEST_HINT: u8 = 5;
+pub const HIGHEST_HINT: u8 = hint::ANY;

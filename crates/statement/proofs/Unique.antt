@@ -10,4 +10,4 @@ from-create-sql-fixed k a x y s t p q = p .0 ∙ sym (q .0)
 
 -- the hints at exit
 pub from-create-sql-hints : FixesSeen from-create-sql.Post (λ k r s. now (s .1 .0))
-from-create-sql-hints k a x y s t p q = p .1 ∙ sym (q .1)
+from-create-sql-hints k a x y s t p q = p .1 .1 .1 ∙ sym (q .1 .1 .1)

@@ -7,16 +7,16 @@ use Rattle.phsarodil.proofs.rows.phs_is_compatible.Tie as tie
 is-compatible-requires : tie.Need-is-compatible-requires
 is-compatible-requires c κs = search needs
 
-suits-word-requires : tie.Need-suits-word-requires
-suits-word-requires c κs = search needs
+word-requires : tie.Need-word-requires
+word-requires c κs = search needs
 
-suits-number-requires : tie.Need-suits-number-requires
-suits-number-requires c κs = search needs
+number-requires : tie.Need-number-requires
+number-requires c κs = search needs
 
 returns : tie.Need-returns
 returns c =
-    let s = c .before .before .before .is-compatible .ensures in
-    (rw (← s) (c .suits-number .ensures), rw (← s, c .before .before .suits-word .ensures))
+    let s = c .before .before .before .is-compatible .ensures .0 in
+    (rw (← s) (c .number .ensures), rw (← s, c .before .before .word .ensures))
 
 pub phs-is-compatible-spec : {M : Type 1} → statement M
-phs-is-compatible-spec = tie.close (tie.spec is-compatible-requires suits-word-requires suits-number-requires returns)
+phs-is-compatible-spec = tie.close (tie.spec is-compatible-requires word-requires number-requires returns)

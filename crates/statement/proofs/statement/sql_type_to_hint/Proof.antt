@@ -5,7 +5,8 @@ use mathlib.Core.Path.{_≡_, sym, _∙_}
 use mathlib.Core.Bool.{cond}
 use mathlib.Core.List.{List}
 use borrow.Author.Needs.{needs}
-use Rattle.statement.specs.Statement.{isInteger, isText, isReal, isBlob, realHint, textHint, blobHint, anyHint, hintOf}
+use Rattle.sheet.specs.Limits.{realHint, textHint, blobHint, anyHint}
+use Rattle.statement.specs.Statement.{isInteger, isText, isReal, isBlob, hintOf}
 use Rattle.statement.specs.Inner.{matchesOne}
 use Rattle.statement.specs.Words.{pieces, startsWithOne, equalsOne}
 use Rattle.statement.proofs.statement.sql_type_to_hint.Statement.{statement}

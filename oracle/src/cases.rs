@@ -9,6 +9,7 @@ pub mod regions;
 pub mod rooms;
 pub mod search;
 pub mod statements;
+pub mod telling;
 pub mod values;
 pub mod varints;
 

@@ -1,6 +1,12 @@
 //! The calls of `include/phsarodil.h` over slices: each answers the refusal number and the words. All that is unsafe
-//! stands here. A call is sound for any slices: the library keeps to their lengths, a slice's pointer is never null, and
-//! the borrow checker sees to it that what is written overlaps nothing.
+//! stands here. A call is sound for any slices: the library keeps to their lengths, a slice's pointer is never null,
+//! and the borrow checker sees to it that what is written overlaps nothing. The first call sees to it that the archive
+//! speaks the words that this crate knows.
+
+use std::sync::Once;
+
+/// The words that this crate knows: `PHS_VERSION` of the header.
+const VERSION: u64 = 1;
 
 /// A refusal number, 0 for none, with the words of `out`.
 pub type Answer<const N: usize> = (u64, [u64; N]);
@@ -8,6 +14,8 @@ pub type Answer<const N: usize> = (u64, [u64; N]);
 /// Declared as in the header.
 mod c {
     extern "C" {
+        pub fn phs_version() -> u64;
+
         pub fn phs_read_varint(
             bytes: *const u8,
             len: usize,
@@ -95,7 +103,19 @@ mod c {
     }
 }
 
+fn check_version() {
+    static CHECKED: Once = Once::new();
+    CHECKED.call_once(|| {
+        let version = unsafe { c::phs_version() };
+        assert_eq!(
+            version, VERSION,
+            "libphsarodil.a is of another version than this crate"
+        );
+    });
+}
+
 fn answer<const N: usize>(call: impl FnOnce(*mut [u64; N]) -> u64) -> Answer<N> {
+    check_version();
     let mut out = [0; N];
     let number = call(&mut out);
     (number, out)

@@ -24,8 +24,8 @@ rows-in-fixed k a x y s t p q = p ∙ sym q
 pub read-in-fixed : Fixes read-in.Post
 read-in-fixed k a x y s t p q = p ∙ sym q
 
-pub say-parts-fixed : Fixes say-parts.Post
-say-parts-fixed k a x y s t p q = p ∙ sym q
+pub say-parts-total : FixesSeen say-parts.Post (λ k r s. r .total)
+say-parts-total k a x y s t p q = p ∙ sym q
 
 -- the length of a text, and the buffer at exit
 pub put-heading-fixed : Fixes put-heading.Post

@@ -4,7 +4,15 @@ use crate::record::Value;
 use crate::record::decode_serial_type;
 ghost use mathlib.Core.Path.{_≡_};
 ghost use Rattle.record.specs.Entry.{readEntry, refusalOf, entryRefusal, entryBytes};
-ghost use Rattle.record.specs.Inner.{spanOf};
+
+// What a state says of its entry: the body is there,
+pub const BODY: u64 = 0;
+// it does not fit,
+pub const UNFIT: u64 = 1;
+// the column is lost,
+pub const LOST: u64 = 2;
+// or the entry only pads a group. No state is higher.
+pub const UNUSED: u64 = 3;
 
 pub struct Entry {
     pub state: u64,
@@ -25,10 +33,10 @@ impl Entry {
         ensures { λ r. ⌜ r ≡ readEntry self (now (bytes .entry)) ⌝ }
         ensures number { λ r. ⌜ refusalOf r ≡ entryRefusal self (now (bytes .entry)) ⌝ }
     {
-        if self.state > 3 {
+        if self.state > UNUSED {
             return EntryRead::Refused;
         }
-        if self.state > 0 {
+        if self.state != BODY {
             return EntryRead::Of(Value::Null);
         }
         let start = self.start as usize;
@@ -51,27 +59,8 @@ impl Entry {
         let EntryRead::Of(value) = self.read(bytes) else {
             return &bytes[..0];
         };
-        let span = span_of(value);
-        let start = span.start;
-        let end = start + span.len;
+        let start = value.start();
+        let end = start + value.len();
         &bytes[start..end]
-    }
-}
-
-struct Span {
-    start: usize,
-    len: usize,
-}
-
-// Nothing but text and blob has bytes to show.
-fn span_of(value: Value) -> Span
-    ensures { λ r. ⌜ r ≡ spanOf value ⌝ }
-{
-    match value {
-        Value::Text { start, len } => Span { start, len },
-        Value::Blob { start, len } => Span { start, len },
-        Value::Null => Span { start: 0, len: 0 },
-        Value::Int(_) => Span { start: 0, len: 0 },
-        Value::Real(_) => Span { start: 0, len: 0 },
     }
 }

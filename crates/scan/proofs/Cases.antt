@@ -9,9 +9,9 @@ use Rattle.record.proofs.Cases.{Case as Below, Answer as BelowAnswer, marked, w
 use Rattle.record.specs.Places.{varintPlaces}
 use Rattle.record.specs.Value.{bodyLength, bigEndian, twosComplement, valueOf, bodyFits, decodeAt}
 use Rattle.record.specs.Varint.{varintFrom, varintAt, readVarint}
-use Rattle.scan.specs.Attempt.{headerFits, typesFrom, bodiesFrom, judged, attemptAt}
-use Rattle.scan.specs.Hints.{isInteger, isReal, isText, isBlob, suits}
-use Rattle.scan.specs.Places.{typePlaces, attemptPlaces}
+use Rattle.attempt.specs.Attempt.{headerFits, typesFrom, bodiesFrom, judged, attemptAt}
+use Rattle.attempt.specs.Hints.{isInteger, isReal, isText, isBlob, suits}
+use Rattle.attempt.specs.Places.{typePlaces, attemptPlaces}
 use Rattle.scan.specs.Scan.{scanFrom, scanAnswer, scanRows, scanCols}
 use Rattle.scan.specs.declared.schema_sig.Scanned.{Scanned}
 use Rattle.scan.specs.declared.schema_sig.Scanned.the-variants.{Done}

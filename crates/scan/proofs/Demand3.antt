@@ -1,51 +1,52 @@
--- Demand 3, of the public call: two regions of equal length, with the same hints, base, start and lists, that agree at every header place of
--- the first, the attempt that found no room included, give the same answer and leave the same lists.
+-- Demand 3, of the public call. The sheet and the count that it leaves are those of the scan rule. Two regions of equal length, with the same
+-- hints, base, start and room, that agree at every header place of the first give the same sheet and the same count, whatever the lists held and
+-- however long they are. The count is the number of header places of the attempts that the scan finished with.
 -- Assumes nothing.
 use Prim.Native.Nat.{_*_, _≤_}
-use mathlib.Core.Path.{_≡_, sym, ap, _∙_}
+use mathlib.Core.Path.{_≡_, sym, _∙_}
 use contract.Lifetimes.{Lfts}
 use denote.Ref.{now}
 use denote.Triple.Clauses.{AtExit}
 use borrow.Fn.Kinds.{Dens, resT, endedOf}
 use lib.ListN.{length}
-use Rattle.record.specs.Places.{AgreeAt}
-use Rattle.scan.specs.Scan.{allPlaces, finishedPlaces, triedOffsets, readOf, scanChecks, scanRun}
-use Rattle.scan.proofs.Quiet.{quiet, counted}
-use Rattle.sheet.specs.Refusal.{firstHeld}
+use Rattle.attempt.specs.Places.{mostPlaces}
+use Rattle.scan.specs.Scan.{finishedPlaces, triedOffsets, numberOf, writtenOf, placeOf, readOf}
+use Rattle.scan.specs.Sheet.{Sheet, sheetOf, Asked, asked, askedChecked, askedRun, askedSheet, askedCount, Alike}
+use Rattle.scan.proofs.Leaving.{sheet-left, count-left}
+use Rattle.scan.proofs.SameRun.{same-sheet, finished-few}
 use Rattle.sheet.specs.declared.refusal.Checked.the-variants.{Passed}
 use Rattle.scan.proofs.schema_sig.scan_region.Kinds as kinds
 use Rattle.scan.proofs.schema_sig.scan_region.Reads as scan-region
 
--- a and b are the arguments of the two calls
-module _ (k : Lfts 4) (a b : Dens k kinds.ps) where
-  -- the same but for the region, which has the same length
-  pub record Alike : Type 0 where
-    pub length-same : length (now (a .0)) ≡ length (now (b .0))
-    pub hints-same : now (a .1 .0) ≡ now (b .1 .0)
-    pub base-same : a .1 .1 .0 ≡ b .1 .1 .0
-    pub start-same : a .1 .1 .1 .0 ≡ b .1 .1 .1 .0
-    pub rows-same : now (a .1 .1 .1 .1 .0) ≡ now (b .1 .1 .1 .1 .0)
-    pub cols-same : now (a .1 .1 .1 .1 .1 .0) ≡ now (b .1 .1 .1 .1 .1 .0)
-    pub places-same : AgreeAt (now (a .0)) (now (b .0))
-        (allPlaces (now (a .0)) (scanRun (now (a .0)) (now (a .1 .0)) (a .1 .1 .1 .0) (length (now (a .1 .1 .1 .1 .0))) (length (now (a .1 .1 .1 .1 .1 .0)))))
+module _ (k : Lfts 4) where
+  -- what a call is asked, and the sheet that it leaves
+  abbrev question : Dens k kinds.ps → Asked
+  question a = asked (now (a .0)) (now (a .1 .0)) (a .1 .1 .0) (a .1 .1 .1 .0) (now (a .1 .1 .1 .1 .0)) (now (a .1 .1 .1 .1 .1 .0))
 
-  pub gives-away : Alike → (x y : resT kinds.r k .Denot) (s t : AtExit (endedOf 4 kinds.ps kinds.r) k)
-      → scan-region.Post k a x s → scan-region.Post k b y t
-      → (x ≡ y) × (now (s .1 .1 .1 .1 .0) ≡ now (t .1 .1 .1 .1 .0)) × (now (s .1 .1 .1 .1 .1 .0) ≡ now (t .1 .1 .1 .1 .1 .0))
-  gives-away e x y s t p q =
-      let z = quiet (now (a .0)) (now (b .0)) (e .length-same) (now (a .1 .0)) (a .1 .1 .0) (a .1 .1 .1 .0) (now (a .1 .1 .1 .1 .0)) (now (a .1 .1 .1 .1 .1 .0)) (e .places-same) in
-      let q₀ = rw (← (e .hints-same), ← (e .base-same), ← (e .start-same), ← (e .rows-same), ← (e .cols-same)) at (q .0) in
-      let q₁ = rw (← (e .hints-same), ← (e .base-same), ← (e .start-same), ← (e .rows-same), ← (e .cols-same)) at (q .1 .0) in
-      let q₂ = rw (← (e .hints-same), ← (e .base-same), ← (e .start-same), ← (e .rows-same), ← (e .cols-same)) at (q .1 .1) in
-      (p .0 ∙ sym (q₀ ∙ z .0), p .1 .0 ∙ sym (q₁ ∙ z .1), p .1 .1 ∙ sym (q₂ ∙ z .2))
+  abbrev sheet : Dens k kinds.ps → resT kinds.r k .Denot → AtExit (endedOf 4 kinds.ps kinds.r) k → Sheet
+  sheet a x s = sheetOf (length (now (a .1 .0))) (numberOf x) (writtenOf x) (placeOf x) (now (s .1 .1 .1 .1 .0)) (now (s .1 .1 .1 .1 .1 .0))
 
--- and of a call that is not refused, the count is the number of header places of the attempts that it finished with, at most 520 for each
--- offset tried
-pub counts-places : (k : Lfts 4) (a : Dens k kinds.ps) (x : resT kinds.r k .Denot) (s : AtExit (endedOf 4 kinds.ps kinds.r) k) → scan-region.Post k a x s →
-    let region = now (a .0) in
-    let hints = now (a .1 .0) in
-    let t = scanRun region hints (a .1 .1 .1 .0) (length (now (a .1 .1 .1 .1 .0))) (length (now (a .1 .1 .1 .1 .1 .0))) in
-    firstHeld (scanChecks (length region) hints (a .1 .1 .0)) ≡ Passed → (readOf x ≡ length (finishedPlaces region t)) × (length (finishedPlaces region t) ≤ 520 * triedOffsets t)
-counts-places k a x s p e =
-    let c = counted (now (a .0)) (now (a .1 .0)) (a .1 .1 .0) (a .1 .1 .1 .0) (length (now (a .1 .1 .1 .1 .0))) (length (now (a .1 .1 .1 .1 .1 .0))) e in
-    (ap readOf (p .0) ∙ c .0, c .1)
+  pub sheet-is : (a : Dens k kinds.ps) (x : resT kinds.r k .Denot) (s : AtExit (endedOf 4 kinds.ps kinds.r) k) → scan-region.Post k a x s
+      → (sheet a x s ≡ askedSheet (question a)) × (readOf x ≡ askedCount (question a))
+  sheet-is a x s p =
+      let rows = now (a .1 .1 .1 .1 .0) in
+      let cols = now (a .1 .1 .1 .1 .1 .0) in
+      let n = p .1 .1 .1 in (
+        rw (n .0, n .1 .0, n .1 .1 .0, p .1 .0, p .1 .1 .0) (sheet-left (now (a .0)) (now (a .1 .0)) (a .1 .1 .0) (a .1 .1 .1 .0) rows cols),
+        n .1 .1 .1 ∙ count-left (now (a .0)) (now (a .1 .0)) (a .1 .1 .0) (a .1 .1 .1 .0) rows cols,
+      )
+
+  pub gives-away : (a b : Dens k kinds.ps) → Alike (question a) (question b) → (x y : resT kinds.r k .Denot) (s t : AtExit (endedOf 4 kinds.ps kinds.r) k)
+      → scan-region.Post k a x s → scan-region.Post k b y t → (sheet a x s ≡ sheet b y t) × (readOf x ≡ readOf y)
+  gives-away a b e x y s t p q =
+      let first = sheet-is a x s p in
+      let second = sheet-is b y t q in
+      let same = same-sheet (question a) (question b) e in
+      (first .0 ∙ same .0 ∙ sym (second .0), first .1 ∙ same .1 ∙ sym (second .1))
+
+  -- of a call that is not refused, the count is at most 520 for each offset tried
+  pub counts-places : (a : Dens k kinds.ps) (x : resT kinds.r k .Denot) (s : AtExit (endedOf 4 kinds.ps kinds.r) k) → scan-region.Post k a x s → askedChecked (question a) ≡ Passed →
+      let t = askedRun (question a) in
+      (readOf x ≡ length (finishedPlaces (now (a .0)) t)) × (length (finishedPlaces (now (a .0)) t) ≤ mostPlaces * triedOffsets t)
+  unfolding askedCount
+  counts-places a x s p e = (rw e at (sheet-is a x s p .1), finished-few (now (a .0)) (askedRun (question a)))

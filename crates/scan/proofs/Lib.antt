@@ -1,12 +1,12 @@
-mod Bodies
+mod Answers
 mod Cases
 mod Checks
 pub mod Demand3
-mod Going
-mod Judging
 pub mod Laws
-pub mod Quiet
-mod Single
-mod Types
+pub mod Leaving
+mod OneAttempt
+pub mod ReadBack
+mod Running
+mod RunValues
+pub mod SameRun
 pub mod Unique
-mod Writing

@@ -3,12 +3,8 @@
 use mathlib.Core.Path.{_≡_, sym, _∙_}
 use denote.Ref.{now}
 use Rattle.record.proofs.Unique.{Fixes, FixesSeen}
-use Rattle.scan.proofs.schema_sig.is_compatible.Reads as is-compatible
 use Rattle.scan.proofs.schema_sig.scan_region.Reads as scan-region
 use Rattle.scan.proofs.schema_sig.try_parse_record.Reads as try-parse-record
-
-pub is-compatible-fixed : Fixes is-compatible.Post
-is-compatible-fixed k a x y s t p q = p ∙ sym q
 
 pub scan-region-fixed : Fixes scan-region.Post
 scan-region-fixed k a x y s t p q = p .0 ∙ sym (q .0)
@@ -18,7 +14,7 @@ pub scan-region-rows : FixesSeen scan-region.Post (λ k r s. now (s .1 .1 .1 .1 
 scan-region-rows k a x y s t p q = p .1 .0 ∙ sym (q .1 .0)
 
 pub scan-region-cols : FixesSeen scan-region.Post (λ k r s. now (s .1 .1 .1 .1 .1 .0))
-scan-region-cols k a x y s t p q = p .1 .1 ∙ sym (q .1 .1)
+scan-region-cols k a x y s t p q = p .1 .1 .0 ∙ sym (q .1 .1 .0)
 
 pub try-parse-record-fixed : Fixes try-parse-record.Post
 try-parse-record-fixed k a x y s t p q = p .0 ∙ sym (q .0)
@@ -27,4 +23,4 @@ pub try-parse-record-rows : FixesSeen try-parse-record.Post (λ k r s. now (s .1
 try-parse-record-rows k a x y s t p q = p .1 .0 ∙ sym (q .1 .0)
 
 pub try-parse-record-cols : FixesSeen try-parse-record.Post (λ k r s. now (s .1 .1 .1 .1 .1 .0))
-try-parse-record-cols k a x y s t p q = p .1 .1 ∙ sym (q .1 .1)
+try-parse-record-cols k a x y s t p q = p .1 .1 .0 ∙ sym (q .1 .1 .0)

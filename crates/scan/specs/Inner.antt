@@ -1,121 +1,15 @@
 -- What the code carries between its own functions; nothing that a caller has to believe.
 -- Assumes nothing.
-use Prim.Native.Nat.{ℕ, _+_, _-_, _*_, _≤_, _<_, min}
+use Prim.Native.Nat.{ℕ, _+_, _*_, _≤_}
 use mathlib.Core.Path.{_≡_}
-use mathlib.Core.Bool.{true, false}
-use mathlib.Core.List.{List, [], _∷_, _++_}
-use lib.ListN.{length, drop}
-use Rattle.record.specs.Places.{placesFrom}
-use Rattle.record.specs.Value.{bodyLength}
-use Rattle.record.specs.declared.record.Length.{Length}
-use Rattle.record.specs.declared.record.Length.the-variants.{Bytes, Reserved}
-use Rattle.scan.specs.Attempt.{Types, ended, cut, kind, kinds, isWhole, typesFrom, mostBytes, Found, Tried, miss, hit, judgedWhole, attemptAt}
-use Rattle.scan.specs.Hints.{suited}
-use Rattle.scan.specs.Places.{typePlaces, attemptPlaces}
-use Rattle.scan.specs.Scan.{scanFrom, answerOf, rowsOf, entriesOf, onceRun, onceOf}
+use mathlib.Core.List.{List}
+use lib.ListN.{length}
+use Rattle.scan.specs.Once.{onceRun, onceOf}
+use Rattle.scan.specs.Scan.{scanFrom, answerOf, rowsOf, entriesOf}
 use Rattle.scan.specs.declared.schema_sig.Attempted.{Attempted}
-use Rattle.scan.specs.declared.schema_sig.Find.{Find}
 use Rattle.scan.specs.declared.schema_sig.Scanned.{Scanned}
-use Rattle.scan.specs.declared.schema_sig.Verdict.{Verdict}
-use Rattle.scan.specs.declared.schema_sig.Verdict.the-variants.{Hit, Miss}
-use Rattle.scan.specs.declared.schema_sig.Walk.{Walk}
-use Rattle.scan.specs.declared.schema_sig.Walk.the-variants.{Whole, Cut}
 use Rattle.sheet.specs.Limits.{mostColumns, wordsPerRow, wordsPerEntry, largestRegion, largestBase}
 use Rattle.sheet.specs.Sheet.{overlay, rowsWords}
-use Rattle.sheet.specs.declared.columns.Column.{Column}
-use Rattle.sheet.specs.declared.columns.Column.the-variants.{Body}
-
--- 1 where the type suits the hint at k
-abbrev pub suitsAt : List ℕ → ℕ → ℕ → ℕ
-suitsAt hints k t = suited (drop k hints) (t ∷ [])
-
--- no total of bodies is told from one above this, and a reserved type's body is as long
-abbrev pub tooLong : ℕ
-tooLong = 65537
-
-abbrev pub sizeOr : Length → ℕ
-sizeOr (Bytes n) = n
-sizeOr Reserved = tooLong
-
-unfoldable pub bodySize : ℕ → ℕ
-bodySize t = sizeOr (bodyLength t)
-
--- the total of the bodies before, and of those of a list of types
-unfoldable pub totalFrom : ℕ → List ℕ → ℕ
-totalFrom total [] = total
-totalFrom total (t ∷ ts) = totalFrom (min tooLong (total + bodySize t)) ts
-
--- bodies one behind the other, wherever they end
-abbrev pub columnsAt : ℕ → List ℕ → List Column
-columnsAt at [] = []
-columnsAt at (t ∷ ts) = Body t at (bodySize t) ∷ columnsAt (at + bodySize t) ts
-
-abbrev pub sizes : List ℕ → ℕ
-sizes [] = 0
-sizes (t ∷ ts) = bodySize t + sizes ts
-
--- where reading the types stopped
-abbrev pub reach : List ℕ → Types → ℕ
-reach s (ended at) = at
-reach s cut = length s
-reach s (kind t rest) = reach s rest
-
--- the types of the header of h bytes at o that stand behind `from`
-abbrev pub headerTypes : List ℕ → ℕ → ℕ → ℕ → Types
-headerTypes s o h from = typesFrom h s from (o + h)
-
--- ---- what the functions ask and give
-
--- a header of h bytes at o lies in the region, and its own number ends at `from`
-pub record Headed (s : List ℕ) (o h from : ℕ) : Type 0 where
-  pub low : 2 ≤ h
-  pub high : h ≤ 512
-  pub inside : o + h ≤ length s
-  pub past : o < from
-  pub near : from ≤ o + 9
-  pub within : from ≤ length s
-
-pub record WholeIs (s hints : List ℕ) (ts : Types) (count matched total end : ℕ) : Type 0 where
-  pub is-whole : isWhole ts ≡ true
-  pub counts : length (kinds ts) ≡ count
-  pub matches : suited hints (kinds ts) ≡ matched
-  pub totals : totalFrom 0 (kinds ts) ≡ total
-  pub ends : reach s ts ≡ end
-
-abbrev pub Walked : List ℕ → List ℕ → Types → Walk → Type 0
-Walked s hints ts (Whole count matched total end) = WholeIs s hints ts count matched total end
-Walked s hints ts Cut = isWhole ts ≡ false
-
--- the types of a row that was found, and the row
-abbrev pub findTypes : List ℕ → ℕ → Find → Types
-findTypes s o x = headerTypes s o (x .head) (x .from)
-
-abbrev pub foundAt : List ℕ → ℕ → Find → Found
-foundAt s o x = record { consumed = x .consumed; matched = x .matched; columns = columnsAt (o + x .head) (kinds (findTypes s o x)) }
-
--- what an attempt gives: t is what it finds, p its header places
-pub record MissIs (t : Tried) (p : List ℕ) (read : ℕ) : Type 0 where
-  pub misses : t ≡ miss
-  pub counts : length p ≡ read
-  pub few : read ≤ 520
-
-pub record HitIs (s hints : List ℕ) (o : ℕ) (t : Tried) (p : List ℕ) (x : Find) : Type 0 where
-  pub hits : t ≡ hit (foundAt s o x)
-  pub counts : length p ≡ x .read
-  pub few : x .read ≤ 520
-  pub columns : length (kinds (findTypes s o x)) ≡ length hints
-  pub bodies : x .head + sizes (kinds (findTypes s o x)) ≡ x .consumed
-  pub inside : o + x .consumed ≤ length s
-  pub headed : Headed s o (x .head) (x .from)
-
-abbrev pub Tells : List ℕ → List ℕ → ℕ → Tried → List ℕ → Verdict → Type 0
-Tells s hints o t p (Miss read) = MissIs t p read
-Tells s hints o t p (Hit x) = HitIs s hints o t p x
-
--- a header's types make what `judgedWhole` says; its places are those of its own number and of the types
-abbrev pub Judged : List ℕ → List ℕ → ℕ → ℕ → ℕ → Verdict → Type 0
-Judged s hints o h from v =
-    Tells s hints o (judgedWhole (length s) hints o h (headerTypes s o h from)) (placesFrom o (from - o) ++ typePlaces h s from (o + h)) v
 
 -- a region and hints that have passed the checks
 pub record Fit (s hints : List ℕ) (base : ℕ) : Type 0 where

@@ -1,5 +1,4 @@
-pub mod Attempt
-pub mod Hints
 pub mod Inner
-pub mod Places
+pub mod Once
 pub mod Scan
+pub mod Sheet

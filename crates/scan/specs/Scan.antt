@@ -1,24 +1,20 @@
--- The region scan (rules 4.8 to 4.11), and one attempt as a call (4.12).
+-- The region scan (rules 4.8 to 4.11).
 -- Assumes nothing.
 use Prim.Native.Nat.{ℕ, zero, suc, _+_, _-_}
 use mathlib.Core.Bool.{cond, not}
 use mathlib.Core.List.{List, [], _∷_, _++_}
 use lib.ListN.{length}
 use lib.Dec.{ltb}
-use Rattle.scan.specs.Attempt.{Found, Tried, miss, hit, attemptAt}
-use Rattle.scan.specs.Places.{attemptPlaces}
-use Rattle.scan.specs.declared.schema_sig.Attempted.{Attempted}
-use Rattle.scan.specs.declared.schema_sig.Attempted.the-variants.{Row as Took, NoRow, Full as NoPlace, Refused as Barred}
+use Rattle.attempt.specs.Attempt.{Found, Tried, miss, hit, attemptAt}
+use Rattle.attempt.specs.Places.{attemptPlaces}
 use Rattle.scan.specs.declared.schema_sig.Scanned.{Scanned}
 use Rattle.scan.specs.declared.schema_sig.Scanned.the-variants.{Done, Full, Refused}
-use Rattle.sheet.specs.Columns.{columnWords, roomOf}
+use Rattle.sheet.specs.Columns.{roomOf}
 use Rattle.sheet.specs.Confidence.{share}
 use Rattle.sheet.specs.Limits.{largestRegion, largestBase, countFits, hintsKnown}
-use Rattle.sheet.specs.Refusal.{Check, firstHeld, refusalNumber}
-use Rattle.sheet.specs.Sheet.{overlay, rowsWords}
-use Rattle.sheet.specs.declared.columns.Column.{Column}
+use Rattle.sheet.specs.Refusal.{Check, firstHeld, refusalNumber, after, afterOr0, afterOrKept}
+use Rattle.sheet.specs.Sheet.{overlay, rowsWords, columnsWords}
 use Rattle.sheet.specs.declared.refusal.Checked.{Checked}
-use Rattle.sheet.specs.declared.refusal.Checked.the-variants.{Passed, Refused as Held}
 use Rattle.sheet.specs.declared.refusal.Refusal.the-variants.{ColumnCount, Malformed, TooLarge, BaseTooFar, NoRoom}
 use Rattle.sheet.specs.declared.row.Mode.the-variants.{Plain}
 use Rattle.sheet.specs.declared.row.Row.{Row}
@@ -70,10 +66,6 @@ rowCount (noRoom o) = 0
 rowCount (missed o t) = rowCount t
 rowCount (found o x t) = suc (rowCount t)
 
-abbrev pub columnsWords : List Column → List ℕ
-columnsWords [] = []
-columnsWords (c ∷ cs) = columnWords c ++ columnsWords cs
-
 abbrev pub entriesOf : Run → List ℕ
 entriesOf through = []
 entriesOf (noRoom o) = []
@@ -101,6 +93,18 @@ triedOffsets (missed o t) = suc (triedOffsets t)
 triedOffsets (found o x t) = suc (triedOffsets t)
 
 -- Rule 4.11: rows written, the place, and the count; a scan that is through has the region's length for its place
+abbrev pub runPlace : ℕ → Run → ℕ
+runPlace len through = len
+runPlace len (noRoom o) = o
+runPlace len (missed o t) = runPlace len t
+runPlace len (found o x t) = runPlace len t
+
+abbrev pub runNumber : Run → ℕ
+runNumber through = 0
+runNumber (noRoom o) = refusalNumber NoRoom
+runNumber (missed o t) = runNumber t
+runNumber (found o x t) = runNumber t
+
 abbrev pub endOf : ℕ → ℕ → ℕ → Run → Scanned
 endOf len rows read through = Done rows len read
 endOf len rows read (noRoom o) = Full rows o read
@@ -110,7 +114,7 @@ endOf len rows read (found o x t) = endOf len rows read t
 abbrev pub answerOf : List ℕ → Run → Scanned
 answerOf s t = endOf (length s) (rowCount t) (length (finishedPlaces s t)) t
 
--- ---- the calls
+-- ---- the call
 
 -- the checks of a region of so many bytes, in rising order of their numbers
 abbrev pub scanChecks : ℕ → List ℕ → ℕ → List Check
@@ -121,34 +125,23 @@ scanChecks len hints base =
     ∷ record { refusal = BaseTooFar; holds = ltb largestBase base }
     ∷ []
 
--- what is refused leaves a list as it was
-abbrev pub unless : Checked → List ℕ → List ℕ → List ℕ
-unless Passed new old = new
-unless (Held r) new old = old
-
-abbrev pub orRefused : Checked → Scanned → Scanned
-orRefused Passed a = a
-orRefused (Held r) a = Refused r
+abbrev pub scanChecked : List ℕ → List ℕ → ℕ → Checked
+scanChecked s hints base = firstHeld (scanChecks (length s) hints base)
 
 -- the run of a call whose lists have so many words
 abbrev pub scanRun : List ℕ → List ℕ → ℕ → ℕ → ℕ → Run
 scanRun s hints start rows cols = scanFrom (length s) s hints (roomOf rows cols (length hints)) start 0
 
 unfoldable pub scanAnswer : List ℕ → List ℕ → ℕ → ℕ → ℕ → ℕ → Scanned
-scanAnswer s hints base start rows cols =
-    orRefused (firstHeld (scanChecks (length s) hints base)) (answerOf s (scanRun s hints start rows cols))
+scanAnswer s hints base start rows cols = after Refused (scanChecked s hints base) (answerOf s (scanRun s hints start rows cols))
 
 unfoldable pub scanRows : List ℕ → List ℕ → ℕ → ℕ → List ℕ → List ℕ → List ℕ
 scanRows s hints base start rows cols =
-    unless (firstHeld (scanChecks (length s) hints base))
-    (overlay (rowsWords (rowsOf base (length hints) (scanRun s hints start (length rows) (length cols)))) rows)
-    rows
+    afterOrKept (scanChecked s hints base) (overlay (rowsWords (rowsOf base (length hints) (scanRun s hints start (length rows) (length cols)))) rows) rows
 
 unfoldable pub scanCols : List ℕ → List ℕ → ℕ → ℕ → List ℕ → List ℕ → List ℕ
 scanCols s hints base start rows cols =
-    unless (firstHeld (scanChecks (length s) hints base))
-    (overlay (entriesOf (scanRun s hints start (length rows) (length cols))) cols)
-    cols
+    afterOrKept (scanChecked s hints base) (overlay (entriesOf (scanRun s hints start (length rows) (length cols))) cols) cols
 
 -- the paper's number of an answer, with 0 for none, then rows written, place and count
 abbrev pub numberOf : Scanned → ℕ
@@ -171,42 +164,15 @@ readOf (Done rows place read) = read
 readOf (Full rows place read) = read
 readOf (Refused r) = 0
 
--- Rule 4.12: one attempt is the first step of a scan, and no more
-abbrev pub onceRun : List ℕ → List ℕ → ℕ → ℕ → ℕ → Run
-onceRun s hints o rows cols = goOn (roomOf rows cols (length hints)) o 0 (λ o′ n. through) (attemptAt s hints o)
+-- and these four by the rules, with no answer between
+unfoldable pub scanNumber : List ℕ → List ℕ → ℕ → ℕ → ℕ → ℕ → ℕ
+scanNumber s hints base start rows cols = after refusalNumber (scanChecked s hints base) (runNumber (scanRun s hints start rows cols))
 
-abbrev pub onceOf : Run → Attempted
-onceOf through = NoRow
-onceOf (noRoom o) = NoPlace
-onceOf (missed o t) = NoRow
-onceOf (found o x t) = Took
+unfoldable pub scanWritten : List ℕ → List ℕ → ℕ → ℕ → ℕ → ℕ → ℕ
+scanWritten s hints base start rows cols = afterOr0 (scanChecked s hints base) (rowCount (scanRun s hints start rows cols))
 
-abbrev pub orBarred : Checked → Attempted → Attempted
-orBarred Passed a = a
-orBarred (Held r) a = Barred r
+unfoldable pub scanPlace : List ℕ → List ℕ → ℕ → ℕ → ℕ → ℕ → ℕ
+scanPlace s hints base start rows cols = afterOr0 (scanChecked s hints base) (runPlace (length s) (scanRun s hints start rows cols))
 
-unfoldable pub onceAnswer : List ℕ → List ℕ → ℕ → ℕ → ℕ → ℕ → Attempted
-onceAnswer s hints base o rows cols = orBarred (firstHeld (scanChecks (length s) hints base)) (onceOf (onceRun s hints o rows cols))
-
-unfoldable pub onceRows : List ℕ → List ℕ → ℕ → ℕ → List ℕ → List ℕ → List ℕ
-onceRows s hints base o rows cols =
-    unless (firstHeld (scanChecks (length s) hints base))
-    (overlay (rowsWords (rowsOf base (length hints) (onceRun s hints o (length rows) (length cols)))) rows)
-    rows
-
-unfoldable pub onceCols : List ℕ → List ℕ → ℕ → ℕ → List ℕ → List ℕ → List ℕ
-onceCols s hints base o rows cols =
-    unless (firstHeld (scanChecks (length s) hints base)) (overlay (entriesOf (onceRun s hints o (length rows) (length cols))) cols) cols
-
--- the number of such an answer, and the rows written; its place and its count are 0
-abbrev pub onceNumberOf : Attempted → ℕ
-onceNumberOf Took = 0
-onceNumberOf NoRow = 0
-onceNumberOf NoPlace = refusalNumber NoRoom
-onceNumberOf (Barred r) = refusalNumber r
-
-abbrev pub onceWrittenOf : Attempted → ℕ
-onceWrittenOf Took = 1
-onceWrittenOf NoRow = 0
-onceWrittenOf NoPlace = 0
-onceWrittenOf (Barred r) = 0
+unfoldable pub scanCount : List ℕ → List ℕ → ℕ → ℕ → ℕ → ℕ → ℕ
+scanCount s hints base start rows cols = afterOr0 (scanChecked s hints base) (length (finishedPlaces s (scanRun s hints start rows cols)))

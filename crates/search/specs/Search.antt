@@ -3,14 +3,14 @@
 use Prim.Native.Nat.{ℕ, zero, suc}
 use mathlib.Core.Bool.{Bool, true, false, cond, _&&_}
 use mathlib.Core.List.{List, [], _∷_, _++_}
-use lib.Dec.{eqb, leb, ltb}
-use lib.ListN.{length, take, drop}
+use lib.Dec.{eqb, ltb}
+use lib.ListN.{length, drop}
+use Rattle.sheet.specs.Filled.{filledBy, writtenAfter, laid}
 use Rattle.sheet.specs.Limits.{largestRegion}
-use Rattle.sheet.specs.Refusal.{refusalNumber}
-use Rattle.sheet.specs.Sheet.{overlay}
-use Rattle.sheet.specs.declared.refusal.Refusal.the-variants.{TooLarge, NoRoom}
-use Rattle.search.specs.declared.search.Searched.{Searched}
-use Rattle.search.specs.declared.search.Searched.the-variants.{Done, Full, Refused}
+use Rattle.sheet.specs.Refusal.{Check, firstHeld, after, afterOrKept}
+use Rattle.sheet.specs.declared.filled.Filled.{Filled}
+use Rattle.sheet.specs.declared.filled.Filled.the-variants.{Refused}
+use Rattle.sheet.specs.declared.refusal.Refusal.the-variants.{TooLarge}
 
 -- ---- places
 
@@ -40,34 +40,26 @@ placesOf haystack (p ∷ pattern) = placesBelow haystack (p ∷ pattern) (length
 
 -- ---- the call
 
--- the answer where these are the places and there is room for so many
-unfoldable pub listedAnswer : List ℕ → ℕ → Searched
-listedAnswer places room = cond (leb (length places) room) (Done (length places)) (Full room)
+-- Rule 7.1: a haystack is a region, and may be too large for one
+abbrev pub tooLarge : List ℕ → Bool
+tooLarge haystack = ltb largestRegion (length haystack)
 
--- the list that then comes of the old one: the first places, and behind them what it held
-unfoldable pub listed : List ℕ → List ℕ → List ℕ
-listed places old = overlay (take (length old) places) old
+-- Rule 1.1: the number that the call answers with; 0 stands for none
+unfoldable pub searchNumber : List ℕ → List ℕ → ℕ → ℕ
+searchNumber haystack pattern room = cond (tooLarge haystack) 3 (cond (ltb room (length (placesOf haystack pattern))) 9 0)
 
--- more bytes than a region may have
-abbrev pub searchRefused : List ℕ → Bool
-searchRefused haystack = ltb largestRegion (length haystack)
+-- and how many places it says are written
+unfoldable pub searchWritten : List ℕ → List ℕ → ℕ → ℕ
+searchWritten haystack pattern room = writtenAfter (searchNumber haystack pattern room) (length (placesOf haystack pattern)) room
 
--- what a search answers with room for so many places
-unfoldable pub searchAnswer : List ℕ → List ℕ → ℕ → Searched
-searchAnswer haystack pattern room = cond (searchRefused haystack) (Refused TooLarge) (listedAnswer (placesOf haystack pattern) room)
+-- the check that leaves the list as it was
+abbrev pub searchChecks : List ℕ → List Check
+searchChecks haystack = record { refusal = TooLarge; holds = tooLarge haystack } ∷ []
 
--- what the lent list then holds
+-- what a search answers, with so many cells lent
+unfoldable pub searchAnswer : List ℕ → List ℕ → ℕ → Filled
+searchAnswer haystack pattern room = after Refused (firstHeld (searchChecks haystack)) (filledBy (length (placesOf haystack pattern)) room)
+
+-- what it leaves in the list, by what the list held
 unfoldable pub searchPlaces : List ℕ → List ℕ → List ℕ → List ℕ
-searchPlaces haystack pattern old = cond (searchRefused haystack) old (listed (placesOf haystack pattern) old)
-
--- the paper's number of an answer, 0 where nothing is refused
-abbrev pub searchNumberOf : Searched → ℕ
-searchNumberOf (Done count) = 0
-searchNumberOf (Full written) = refusalNumber NoRoom
-searchNumberOf (Refused refusal) = refusalNumber refusal
-
--- how many places an answer says are written
-abbrev pub searchWrittenOf : Searched → ℕ
-searchWrittenOf (Done count) = count
-searchWrittenOf (Full written) = written
-searchWrittenOf (Refused refusal) = 0
+searchPlaces haystack pattern old = afterOrKept (firstHeld (searchChecks haystack)) (laid (placesOf haystack pattern) old) old

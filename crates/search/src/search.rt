@@ -1,20 +1,14 @@
 // All places of a pattern in a region, found by a window that goes on by the shift of its last byte (Boyer and Moore's search).
 use sheet::LARGEST_REGION;
+use sheet::filled::Filled;
 use sheet::refusal::Refusal;
 ghost use mathlib.Core.Path.{_≡_};
 ghost use Prim.Native.Nat.{_+_, _-_, _≤_, _<_};
 ghost use lib.ListN.{length};
 ghost use lib.Seq.{sets};
 ghost use Rattle.search.specs.Inner.{Entered};
-ghost use Rattle.search.specs.Search.{standsAt, placeAt, placesOf, listedAnswer, listed, searchAnswer, searchPlaces};
-
-pub enum Searched {
-    // All places are written: how many there are.
-    Done(usize),
-    // There is one more than the list holds: how many are written.
-    Full(usize),
-    Refused(Refusal),
-}
+ghost use Rattle.sheet.specs.Filled.{filledNumber, filledWritten, filledBy, laid};
+ghost use Rattle.search.specs.Search.{standsAt, placeAt, placesOf, searchNumber, searchWritten, searchAnswer, searchPlaces};
 
 // For each byte that a window may end with: how far on the pattern holds it there, too.
 fn shifts(pattern: &[u8]) -> [usize; 256]
@@ -64,10 +58,10 @@ fn visit(haystack: &[u8], pattern: &[u8], at: usize, places: &mut [u64], n: usiz
     n + 1
 }
 
-fn slide(haystack: &[u8], pattern: &[u8], places: &mut [u64]) -> Searched
+fn slide(haystack: &[u8], pattern: &[u8], places: &mut [u64]) -> Filled
     requires { ⌜ 0 < length (now pattern) ⌝ }
-    ensures { λ r. ⌜ r ≡ listedAnswer (placesOf (now (haystack .entry)) (now (pattern .entry))) (length (now (places .entry))) ⌝ }
-    ensures { λ _. ⌜ now (places .exit) ≡ listed (placesOf (now (haystack .entry)) (now (pattern .entry))) (now (places .entry)) ⌝ }
+    ensures { λ r. ⌜ r ≡ filledBy (length (placesOf (now (haystack .entry)) (now (pattern .entry)))) (length (now (places .entry))) ⌝ }
+    ensures { λ _. ⌜ now (places .exit) ≡ laid (placesOf (now (haystack .entry)) (now (pattern .entry))) (now (places .entry)) ⌝ }
 {
     let table = shifts(pattern);
     let last = pattern.len() - 1;
@@ -77,26 +71,28 @@ fn slide(haystack: &[u8], pattern: &[u8], places: &mut [u64]) -> Searched
     while i < haystack.len() {
         n = visit(haystack, pattern, i - last, places, n);
         if n > places.len() {
-            return Searched::Full(places.len());
+            return Filled::Full(places.len());
         }
         i = i + table[haystack[i] as usize];
     }
-    Searched::Done(n)
+    Filled::Done(n)
 }
 
-pub fn boyer_moore_search(haystack: &[u8], pattern: &[u8], places: &mut [u64]) -> Searched
-    ensures { λ r. ⌜ r ≡ searchAnswer (now (haystack .entry)) (now (pattern .entry)) (length (now (places .entry))) ⌝ }
-    ensures { λ _. ⌜ now (places .exit) ≡ searchPlaces (now (haystack .entry)) (now (pattern .entry)) (now (places .entry)) ⌝ }
+pub fn boyer_moore_search(haystack: &[u8], pattern: &[u8], places: &mut [u64]) -> Filled
+    ensures answer { λ r. ⌜ r ≡ searchAnswer (now (haystack .entry)) (now (pattern .entry)) (length (now (places .entry))) ⌝ }
+    ensures number { λ r. ⌜ filledNumber r ≡ searchNumber (now (haystack .entry)) (now (pattern .entry)) (length (now (places .entry))) ⌝ }
+    ensures written { λ r. ⌜ filledWritten r ≡ searchWritten (now (haystack .entry)) (now (pattern .entry)) (length (now (places .entry))) ⌝ }
+    ensures list { λ _. ⌜ now (places .exit) ≡ searchPlaces (now (haystack .entry)) (now (pattern .entry)) (now (places .entry)) ⌝ }
 {
     if haystack.len() > LARGEST_REGION {
-        return Searched::Refused(Refusal::TooLarge);
+        return Filled::Refused(Refusal::TooLarge);
     }
     if pattern.len() == 0 {
-        return Searched::Done(0);
+        return Filled::Done(0);
     }
     // A long pattern would cost a table and find nothing.
     if haystack.len() < pattern.len() {
-        return Searched::Done(0);
+        return Filled::Done(0);
     }
     slide(haystack, pattern, places)
 }

@@ -1,6 +1,6 @@
 -- A contract fixes its answer: any two results that it allows for the same arguments are equal. `Post` is the function's own postcondition.
 -- Assumes nothing.
-use mathlib.Core.Path.{_≡_, sym, _∙_}
+use mathlib.Core.Path.{sym, _∙_}
 use Rattle.record.proofs.Unique.{Fixes}
 use Rattle.sheet.proofs.columns.room.Reads as room
 use Rattle.sheet.proofs.columns.words.Reads as column-words
@@ -8,13 +8,21 @@ use Rattle.sheet.proofs.confidence.freed.Reads as freed
 use Rattle.sheet.proofs.confidence.percent.Reads as percent
 use Rattle.sheet.proofs.confidence.rebuilt.Reads as rebuilt
 use Rattle.sheet.proofs.confidence.suited_share.Reads as suited-share
-use Rattle.sheet.proofs.refusal.hint_count_fits.Reads as hint-count-fits
-use Rattle.sheet.proofs.refusal.hints_known.Reads as hints-known
+use Rattle.sheet.proofs.filled.Filled.number.Reads as filled-number
+use Rattle.sheet.proofs.filled.Filled.written.Reads as filled-written
+use Rattle.sheet.proofs.hint.hint_count_fits.Reads as hint-count-fits
+use Rattle.sheet.proofs.hint.hints_known.Reads as hints-known
 use Rattle.sheet.proofs.refusal.number.Reads as number
 use Rattle.sheet.proofs.row.words.Reads as row-words
 
 pub number-fixed : Fixes number.Post
 number-fixed k a x y s t p q = p ∙ sym q
+
+pub filled-number-fixed : Fixes filled-number.Post
+filled-number-fixed k a x y s t p q = p ∙ sym q
+
+pub filled-written-fixed : Fixes filled-written.Post
+filled-written-fixed k a x y s t p q = p ∙ sym q
 
 pub hint-count-fits-fixed : Fixes hint-count-fits.Post
 hint-count-fits-fixed k a x y s t p q = p ∙ sym q

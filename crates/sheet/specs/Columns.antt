@@ -4,16 +4,17 @@ use Prim.Native.Nat.{ℕ, zero, suc, _*_, _/_, min}
 use mathlib.Core.Bool.{cond}
 use mathlib.Core.List.{List, [], _∷_, _++_}
 use lib.Dec.{eqb}
+use Rattle.record.specs.Entry.{bodyState, unfitState, lostState, unusedState}
 use Rattle.sheet.specs.Limits.{wordsPerRow, wordsPerEntry}
 use Rattle.sheet.specs.declared.columns.Column.{Column}
 use Rattle.sheet.specs.declared.columns.Column.the-variants.{Body, Unfit, Lost, Unused}
 
 -- Rule 3.1: state, serial type, start, length. What a state has no use for is 0
 unfoldable pub columnWords : Column → List ℕ
-columnWords (Body kind start len) = 0 ∷ kind ∷ start ∷ len ∷ []
-columnWords (Unfit kind) = 1 ∷ kind ∷ 0 ∷ 0 ∷ []
-columnWords Lost = 2 ∷ 0 ∷ 0 ∷ 0 ∷ []
-columnWords Unused = 3 ∷ 0 ∷ 0 ∷ 0 ∷ []
+columnWords (Body kind start len) = bodyState ∷ kind ∷ start ∷ len ∷ []
+columnWords (Unfit kind) = unfitState ∷ kind ∷ 0 ∷ 0 ∷ []
+columnWords Lost = lostState ∷ 0 ∷ 0 ∷ 0 ∷ []
+columnWords Unused = unusedState ∷ 0 ∷ 0 ∷ 0 ∷ []
 
 -- Rule 5.2: n entries that pad a group
 unfoldable pub unusedWords : ℕ → List ℕ

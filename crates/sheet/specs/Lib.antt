@@ -1,5 +1,6 @@
 pub mod Columns
 pub mod Confidence
+pub mod Filled
 pub mod Limits
 pub mod Refusal
 pub mod Row

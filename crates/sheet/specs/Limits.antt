@@ -25,9 +25,28 @@ largestRegion = 16777216
 abbrev pub largestBase : ℕ
 largestBase = 281474976710656
 
--- Rule 1.3, hint codes: 0 Integer, 1 Real, 2 Text, 3 Blob, 4 Null, 5 Any
+-- Rule 1.3: the hint codes
+abbrev pub integerHint : ℕ
+integerHint = 0
+
+abbrev pub realHint : ℕ
+realHint = 1
+
+abbrev pub textHint : ℕ
+textHint = 2
+
+abbrev pub blobHint : ℕ
+blobHint = 3
+
+abbrev pub nullHint : ℕ
+nullHint = 4
+
+abbrev pub anyHint : ℕ
+anyHint = 5
+
+-- no code is higher
 abbrev pub highestHint : ℕ
-highestHint = 5
+highestHint = anyHint
 
 -- Rule 1.1, number 1: a count of columns or hints is one at least, and no more than there may be
 unfoldable pub countFits : ℕ → Bool

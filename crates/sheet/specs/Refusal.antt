@@ -29,3 +29,15 @@ pub record Check : Type 0 where
 abbrev pub firstHeld : List Check → Checked
 firstHeld [] = Passed
 firstHeld (c ∷ cs) = cond (c .holds) (Refused (c .refusal)) (firstHeld cs)
+
+-- and without one the call comes to what its work does
+abbrev pub after : {A : Type 0} → (Refusal → A) → Checked → A → A
+after refused Passed done = done
+after refused (Refused r) done = refused r
+
+-- Rule 1.2: what is refused by a check answers 0 beside the number, and leaves a list as it was
+abbrev pub afterOr0 : Checked → ℕ → ℕ
+afterOr0 c n = after (λ r. 0) c n
+
+abbrev pub afterOrKept : {A : Type 0} → Checked → List A → List A → List A
+afterOrKept c new old = after (λ r. old) c new

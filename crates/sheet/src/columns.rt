@@ -1,18 +1,21 @@
 // A column of a row, the four words that say it in a lent list, and how many rows two lent lists hold.
 use crate::WORDS_PER_ENTRY;
 use crate::WORDS_PER_ROW;
+use record::entry::BODY;
+use record::entry::LOST;
+use record::entry::UNFIT;
+use record::entry::UNUSED;
 ghost use mathlib.Core.Path.{_≡_};
 ghost use mathlib.Core.List.{[], _∷_};
 ghost use Rattle.sheet.specs.Columns.{columnWords, roomOf};
 
+// A case for each state of an entry.
 pub enum Column {
-    // A body of the serial type `kind`, where it lies in the lent slice.
+    // The serial type, and where the body lies in the lent slice.
     Body { kind: u64, start: u64, len: u64 },
-    // A type whose body does not fit.
+    // The type is kept.
     Unfit(u64),
-    // A column whose type was overwritten.
     Lost,
-    // An entry that pads a group.
     Unused,
 }
 
@@ -26,10 +29,10 @@ pub fn words(column: Column) -> [u64; WORDS_PER_ENTRY]
     ensures { λ r. ⌜ r ≡ columnWords column ⌝ }
 {
     match column {
-        Column::Body { kind, start, len } => entry(0, kind, start, len),
-        Column::Unfit(kind) => entry(1, kind, 0, 0),
-        Column::Lost => entry(2, 0, 0, 0),
-        Column::Unused => entry(3, 0, 0, 0),
+        Column::Body { kind, start, len } => entry(BODY, kind, start, len),
+        Column::Unfit(kind) => entry(UNFIT, kind, 0, 0),
+        Column::Lost => entry(LOST, 0, 0, 0),
+        Column::Unused => entry(UNUSED, 0, 0, 0),
     }
 }
 

@@ -1,11 +1,14 @@
-// What the sheet is made of: rows and column entries as words of lent lists, confidences, and the refusals.
+// What the sheet is made of: rows and column entries as words of lent lists, confidences, hints, and the answers with their refusals.
+// What only pages give, `Freelist` to `CarvedUnalloc`, the three modes, `freed`, `rebuilt`, `percent` and `put_unused`, waits for their crates.
 pub mod columns;
 pub mod confidence;
+pub mod filled;
+pub mod hint;
 pub mod inner;
 pub mod refusal;
 pub mod row;
 
-// The numbers that the paper fixes; no other place knows them.
+// The numbers that the paper fixes.
 pub const MOST_COLUMNS: usize = 126;
 
 pub const WORDS_PER_ROW: usize = 8;
@@ -16,4 +19,4 @@ pub const LARGEST_REGION: usize = 16_777_216;
 // 2 to the power of 48.
 pub const LARGEST_BASE: u64 = 281_474_976_710_656;
 
-pub const HIGHEST_HINT: u8 = 5;
+pub const HIGHEST_HINT: u8 = hint::ANY;

@@ -1,12 +1,12 @@
-// Why a call is refused, and the two tests of hints that every call over columns begins with.
-use crate::HIGHEST_HINT;
-use crate::MOST_COLUMNS;
+// Why a call is refused.
+// The tests behind the first two, named here too.
+pub use crate::hint::hint_count_fits;
+pub use crate::hint::hints_known;
 ghost use mathlib.Core.Path.{_≡_};
-ghost use Rattle.sheet.specs.Limits.{countFits, hintsKnown};
 ghost use Rattle.sheet.specs.Refusal.{refusalNumber};
 
 pub enum Refusal {
-    // No columns, or more than 126: as lent, or as a statement gives them.
+    // No columns, or more than there may be: as lent, or as a statement gives them.
     ColumnCount,
     // An unknown hint code, table lists that do not belong together, or an entry that names no value.
     Malformed,
@@ -49,26 +49,4 @@ pub fn number(refusal: Refusal) -> u64
         Refusal::WalkSpace => 8,
         Refusal::NoRoom => FULL,
     }
-}
-
-pub fn hint_count_fits(count: usize) -> bool
-    ensures { λ r. ⌜ r ≡ countFits count ⌝ }
-{
-    if count < 1 {
-        return false;
-    }
-    count <= MOST_COLUMNS
-}
-
-pub fn hints_known(hints: &[u8]) -> bool
-    ensures { λ r. ⌜ r ≡ hintsKnown (now (hints .entry)) ⌝ }
-{
-    let mut i = 0;
-    while i < hints.len() {
-        if hints[i] > HIGHEST_HINT {
-            return false;
-        }
-        i = i + 1;
-    }
-    true
 }

@@ -4,17 +4,15 @@ use Prim.Native.Char.{code}
 use Prim.Native.Nat.{ℕ}
 use mathlib.Core.Bool.{Bool, cond, not, _&&_, _||_}
 use mathlib.Core.List.{List, [], _∷_, _++_}
-use lib.Dec.{leb, ltb, eqb}
-use lib.ListN.{length, take}
+use lib.Dec.{ltb, eqb}
+use lib.ListN.{length}
 use Rattle.statement.specs.Words.{bytes, trim, has, behindFirst, beforeLast, pieces, secondWord, holds, startsWithOne, equalsOne}
-use Rattle.statement.specs.declared.statement.Hinted.{Hinted}
-use Rattle.statement.specs.declared.statement.Hinted.the-variants.{Done, Full, Refused}
-use Rattle.sheet.specs.Limits.{countFits}
-use Rattle.sheet.specs.Refusal.{Check, firstHeld, refusalNumber}
-use Rattle.sheet.specs.Sheet.{overlay}
-use Rattle.sheet.specs.declared.refusal.Checked.{Checked}
-use Rattle.sheet.specs.declared.refusal.Checked.the-variants.{Passed, Refused as Stopped}
-use Rattle.sheet.specs.declared.refusal.Refusal.the-variants.{ColumnCount, TooLarge, NoColumnList, NoRoom}
+use Rattle.sheet.specs.Filled.{filledBy, writtenAfter, laid}
+use Rattle.sheet.specs.Limits.{integerHint, realHint, textHint, blobHint, anyHint, countFits}
+use Rattle.sheet.specs.Refusal.{Check, firstHeld, after, afterOrKept}
+use Rattle.sheet.specs.declared.filled.Filled.{Filled}
+use Rattle.sheet.specs.declared.filled.Filled.the-variants.{Refused}
+use Rattle.sheet.specs.declared.refusal.Refusal.the-variants.{ColumnCount, TooLarge, NoColumnList}
 
 -- the most bytes that a statement may have
 abbrev pub largestStatement : ℕ
@@ -50,26 +48,6 @@ isReal w = startsWithOne ("REAL" ∷ "FLOAT" ∷ "DOUBLE" ∷ "NUMERIC" ∷ "DEC
 unfoldable pub isBlob : List ℕ → Bool
 isBlob w = startsWithOne ("BLOB" ∷ []) w || equalsOne ("BINARY" ∷ "VARBINARY" ∷ []) w
 
--- the code of the hint Integer
-abbrev pub integerHint : ℕ
-integerHint = 0
-
--- the code of the hint Real
-abbrev pub realHint : ℕ
-realHint = 1
-
--- the code of the hint Text
-abbrev pub textHint : ℕ
-textHint = 2
-
--- the code of the hint Blob
-abbrev pub blobHint : ℕ
-blobHint = 3
-
--- the code of the hint Any; a statement never gives 4, Null
-abbrev pub anyHint : ℕ
-anyHint = 5
-
 -- Rule 6.4, the hint of a declared type: the first kind that it is of; Any where it is of none, or missing
 unfoldable pub hintOf : List ℕ → ℕ
 hintOf w =
@@ -103,44 +81,38 @@ allHints (p ∷ ps) = pieceHints (trim p) ++ allHints ps
 unfoldable pub hintsOf : List ℕ → List ℕ
 hintsOf s = allHints (pieces (between s))
 
--- Rule 6.6: refusals 3, 7 and 1, in the order of the checks
+-- Rule 6.6, the checks: there are more bytes than may be,
+abbrev pub tooLarge : List ℕ → Bool
+tooLarge s = ltb largestStatement (length s)
+
+-- a bracket is missing,
+abbrev pub unlisted : List ℕ → Bool
+unlisted s = not (has opening s) || not (has closing (behindFirst opening s))
+
+-- or there is no hint, or more than there may be
+abbrev pub miscounted : List ℕ → Bool
+miscounted s = not (countFits (length (hintsOf s)))
+
+-- Rule 6.6: the number that the call answers with; 0 stands for none
+unfoldable pub statementNumber : List ℕ → ℕ → ℕ
+statementNumber s room = cond (tooLarge s) 3 (cond (unlisted s) 7 (cond (miscounted s) 1 (cond (ltb room (length (hintsOf s))) 9 0)))
+
+-- and how many hints it says are written
+unfoldable pub statementWritten : List ℕ → ℕ → ℕ
+statementWritten s room = writtenAfter (statementNumber s room) (length (hintsOf s)) room
+
+-- the checks that leave the list as it was
 unfoldable pub statementChecks : List ℕ → List Check
 statementChecks s =
-    record { refusal = TooLarge; holds = ltb largestStatement (length s) }
-    ∷ record { refusal = NoColumnList; holds = not (has opening s) || not (has closing (behindFirst opening s)) }
-    ∷ record { refusal = ColumnCount; holds = not (countFits (length (hintsOf s))) }
+    record { refusal = TooLarge; holds = tooLarge s }
+    ∷ record { refusal = NoColumnList; holds = unlisted s }
+    ∷ record { refusal = ColumnCount; holds = miscounted s }
     ∷ []
 
--- what n hints come to where there is room for so many, and the checks came to this
-abbrev pub answered : Checked → ℕ → ℕ → Hinted
-answered (Stopped r) n room = Refused r
-answered Passed n room = cond (leb n room) (Done n) (Full room)
+-- what the call returns, by the statement and how many cells are lent
+unfoldable pub statementAnswer : List ℕ → ℕ → Filled
+statementAnswer s room = after Refused (firstHeld (statementChecks s)) (filledBy (length (hintsOf s)) room)
 
--- what the call returns, by the statement and the room
-unfoldable pub statementAnswer : List ℕ → ℕ → Hinted
-statementAnswer s room = answered (firstHeld (statementChecks s)) (length (hintsOf s)) room
-
--- Rule 6.5: the first hints over what a list held, as many as it has cells
-abbrev pub laid : List ℕ → List ℕ → List ℕ
-laid hs old = overlay (take (length old) hs) old
-
--- what a list holds in the end: a refusal leaves it as it was
-abbrev pub left : Checked → List ℕ → List ℕ → List ℕ
-left (Stopped r) hs old = old
-left Passed hs old = laid hs old
-
--- what the call leaves in the list, by the statement and what the list held
+-- Rule 6.5: what the call leaves in the list, by the statement and what the list held
 unfoldable pub statementHints : List ℕ → List ℕ → List ℕ
-statementHints s old = left (firstHeld (statementChecks s)) (hintsOf s) old
-
--- the paper's number of an answer; 0 stands for none
-abbrev pub statementNumberOf : Hinted → ℕ
-statementNumberOf (Done n) = 0
-statementNumberOf (Full n) = refusalNumber NoRoom
-statementNumberOf (Refused r) = refusalNumber r
-
--- how many hints an answer says were written
-abbrev pub statementWrittenOf : Hinted → ℕ
-statementWrittenOf (Done n) = n
-statementWrittenOf (Full n) = n
-statementWrittenOf (Refused r) = 0
+statementHints s old = afterOrKept (firstHeld (statementChecks s)) (laid (hintsOf s) old) old

@@ -1,35 +1,23 @@
 // The hints of the columns that a CREATE TABLE statement lists, read where the statement lies.
+use sheet::filled::Filled;
+use sheet::hint::ANY;
+use sheet::hint::BLOB;
+use sheet::hint::INTEGER;
+use sheet::hint::REAL;
+use sheet::hint::TEXT;
+use sheet::hint::hint_count_fits;
 use sheet::refusal::Refusal;
-use sheet::refusal::hint_count_fits;
 ghost use mathlib.Core.Path.{_≡_};
 ghost use Prim.Native.Nat.{_+_, _≤_, _<_};
 ghost use lib.ListN.{length};
 ghost use lib.Seq.{sets};
-ghost use Rattle.statement.specs.Statement.{closing, hintOf, isRowId, isSkipped, pieceHints, allHints, laid, statementAnswer, statementHints};
-ghost use Rattle.statement.specs.Inner.{inRun, Kept, matches, matchesOne, startsOrIs, PieceEnds, givenHints};
-ghost use Rattle.statement.specs.Words.{isBlank, isNot, raise, takeWhile, dropWhile, trim, behindFirst, pieces, firstWord, secondWord, startsWith, equals, holds};
+ghost use Rattle.sheet.specs.Filled.{filledNumber, filledWritten, laid};
+ghost use Rattle.statement.specs.Statement.{closing, hintOf, isRowId, isSkipped, pieceHints, allHints, statementNumber, statementWritten, statementAnswer, statementHints};
+ghost use Rattle.statement.specs.Inner.{inRun, Kept, matches, startsOrIs, PieceEnds, givenHints};
+ghost use Rattle.statement.specs.Words.{isBlank, isNot, raise, takeWhile, dropWhile, trim, behindFirst, pieces, firstWord, secondWord, startsWith, equals, holds, oneOf};
 
 // In bytes.
 pub const LARGEST_STATEMENT: usize = 65_536;
-
-// Hint codes. No statement gives 4.
-const INTEGER: u8 = 0;
-
-const REAL: u8 = 1;
-
-const TEXT: u8 = 2;
-
-const BLOB: u8 = 3;
-
-const ANY: u8 = 5;
-
-pub enum Hinted {
-    // How many hints the statement gives, all written.
-    Done(usize),
-    // The list is full, with this many, and the statement gives more.
-    Full(usize),
-    Refused(Refusal),
-}
 
 // Bytes of one kind, one behind the other.
 enum Run {
@@ -217,7 +205,7 @@ fn piece_end(s: &[u8], at: usize) -> usize
 
 // Whether one of the keywords, which commas part, matches.
 fn one_of(s: &[u8], keywords: &[u8], how: Match) -> bool
-    ensures { λ r. ⌜ r ≡ matchesOne how (pieces (now (keywords .entry))) (now (s .entry)) ⌝ }
+    ensures { λ r. ⌜ r ≡ oneOf (matches how) (pieces (now (keywords .entry))) (now (s .entry)) ⌝ }
 {
     let mut at = 0;
     while at <= keywords.len() {
@@ -355,28 +343,30 @@ fn list_end(rest: &[u8]) -> usize
     kept(rest, Run::Until(b')'))
 }
 
-pub fn from_create_sql(statement: &[u8], hints: &mut [u8]) -> Hinted
+pub fn from_create_sql(statement: &[u8], hints: &mut [u8]) -> Filled
     ensures answer { λ r. ⌜ r ≡ statementAnswer (now (statement .entry)) (length (now (hints .entry))) ⌝ }
+    ensures number { λ r. ⌜ filledNumber r ≡ statementNumber (now (statement .entry)) (length (now (hints .entry))) ⌝ }
+    ensures written { λ r. ⌜ filledWritten r ≡ statementWritten (now (statement .entry)) (length (now (hints .entry))) ⌝ }
     ensures list { λ _. ⌜ now (hints .exit) ≡ statementHints (now (statement .entry)) (now (hints .entry)) ⌝ }
 {
     if statement.len() > LARGEST_STATEMENT {
-        return Hinted::Refused(Refusal::TooLarge);
+        return Filled::Refused(Refusal::TooLarge);
     }
     let rest = behind_first(statement, b'(');
     let end = list_end(rest);
     // Where there is no `(`, the rest is empty, so no `)` stands in it.
     if end == 0 {
-        return Hinted::Refused(Refusal::NoColumnList);
+        return Filled::Refused(Refusal::NoColumnList);
     }
     let columns = &rest[..end - 1];
     let count = count_hints(columns);
     if !hint_count_fits(count) {
-        return Hinted::Refused(Refusal::ColumnCount);
+        return Filled::Refused(Refusal::ColumnCount);
     }
     let room = hints.len();
     put_hints(columns, hints);
     if room < count {
-        return Hinted::Full(room);
+        return Filled::Full(room);
     }
-    Hinted::Done(count)
+    Filled::Done(count)
 }

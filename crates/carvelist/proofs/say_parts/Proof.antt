@@ -14,11 +14,11 @@ use Rattle.carvelist.proofs.say_parts.Statement.{statement}
 use Rattle.carvelist.proofs.say_parts.Tie as tie
 
 abbrev Inv-loop : tie.InvT-loop
-Inv-loop region hints rows₀ cols₀ text₀ at₀ count₀ read₀ rows cols text at count read =
+Inv-loop region hints out₀ rows₀ cols₀ text₀ at₀ count₀ read₀ out rows cols text at count read =
     On region hints at count read × (at ≤ length region) × (count ≤ 8 * at) × (read ≤ 34078720 * at)
 
 abbrev μ-loop : tie.MeasureT-loop
-μ-loop region hints rows₀ cols₀ text₀ at₀ count₀ read₀ rows cols text at count read = length region - at
+μ-loop region hints out₀ rows₀ cols₀ text₀ at₀ count₀ read₀ out rows cols text at count read = length region - at
 
 answer : (c : tie.After-list-part Inv-loop μ-loop) →
     let a = c .before .before .before .before .before .before .before .before .before .before .args in

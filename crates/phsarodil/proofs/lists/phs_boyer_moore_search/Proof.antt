@@ -1,5 +1,6 @@
 -- `phs_boyer_moore_search` meets its contract: number, word and list are those of the search.
 -- Assumes nothing.
+use mathlib.Core.Path.{_∙_}
 use borrow.Author.Needs.{needs}
 use Rattle.phsarodil.proofs.lists.phs_boyer_moore_search.Statement.{statement}
 use Rattle.phsarodil.proofs.lists.phs_boyer_moore_search.Tie as tie
@@ -7,11 +8,11 @@ use Rattle.phsarodil.proofs.lists.phs_boyer_moore_search.Tie as tie
 boyer-moore-search-requires : tie.Need-boyer-moore-search-requires
 boyer-moore-search-requires c κs = search needs
 
-searched-written-requires : tie.Need-searched-written-requires
-searched-written-requires c κs = search needs
+written-requires : tie.Need-written-requires
+written-requires c κs = search needs
 
-searched-number-requires : tie.Need-searched-number-requires
-searched-number-requires c κs = search needs
+number-requires : tie.Need-number-requires
+number-requires c κs = search needs
 
 same-length : tie.Need-same-length
 same-length c = search needs
@@ -19,14 +20,14 @@ same-length c = search needs
 returns : tie.Need-returns
 returns c =
     let s = c .before .before .before .before .before .boyer-moore-search .ensures in
-    (rw (← s .0) (c .searched-number .ensures), (rw (← s .0, c .before .before .searched-written .ensures), s .1))
+    (c .number .ensures ∙ s .1 .0, (rw (c .before .before .written .ensures, s .1 .1 .0), s .1 .1 .1))
 
 pub phs-boyer-moore-search-spec : {M : Type 1} → statement M
 phs-boyer-moore-search-spec =
     tie.close
     (tie.spec
     boyer-moore-search-requires
-    searched-written-requires
-    searched-number-requires
+    written-requires
+    number-requires
     same-length
     returns)

@@ -1,5 +1,6 @@
 -- `phs_from_create_sql` meets its contract: number, word and list are those of the statement.
 -- Assumes nothing.
+use mathlib.Core.Path.{_∙_}
 use borrow.Author.Needs.{needs}
 use Rattle.phsarodil.proofs.lists.phs_from_create_sql.Statement.{statement}
 use Rattle.phsarodil.proofs.lists.phs_from_create_sql.Tie as tie
@@ -7,11 +8,11 @@ use Rattle.phsarodil.proofs.lists.phs_from_create_sql.Tie as tie
 from-create-sql-requires : tie.Need-from-create-sql-requires
 from-create-sql-requires c κs = search needs
 
-hinted-written-requires : tie.Need-hinted-written-requires
-hinted-written-requires c κs = search needs
+written-requires : tie.Need-written-requires
+written-requires c κs = search needs
 
-hinted-number-requires : tie.Need-hinted-number-requires
-hinted-number-requires c κs = search needs
+number-requires : tie.Need-number-requires
+number-requires c κs = search needs
 
 same-length : tie.Need-same-length
 same-length c = search needs
@@ -19,14 +20,14 @@ same-length c = search needs
 returns : tie.Need-returns
 returns c =
     let s = c .before .before .before .before .before .from-create-sql .ensures in
-    (rw (← s .0) (c .hinted-number .ensures), (rw (← s .0, c .before .before .hinted-written .ensures), s .1))
+    (c .number .ensures ∙ s .1 .0, (rw (c .before .before .written .ensures, s .1 .1 .0), s .1 .1 .1))
 
 pub phs-from-create-sql-spec : {M : Type 1} → statement M
 phs-from-create-sql-spec =
     tie.close
     (tie.spec
     from-create-sql-requires
-    hinted-written-requires
-    hinted-number-requires
+    written-requires
+    number-requires
     same-length
     returns)

@@ -7,17 +7,17 @@ use Rattle.phsarodil.proofs.rows.phs_scan_region.Tie as tie
 scan-region-requires : tie.Need-scan-region-requires
 scan-region-requires c κs = search needs
 
-scan-written-requires : tie.Need-scan-written-requires
-scan-written-requires c κs = search needs
+written-requires : tie.Need-written-requires
+written-requires c κs = search needs
 
-scan-place-requires : tie.Need-scan-place-requires
-scan-place-requires c κs = search needs
+place-requires : tie.Need-place-requires
+place-requires c κs = search needs
 
-scan-read-requires : tie.Need-scan-read-requires
-scan-read-requires c κs = search needs
+read-requires : tie.Need-read-requires
+read-requires c κs = search needs
 
-scan-number-requires : tie.Need-scan-number-requires
-scan-number-requires c κs = search needs
+number-requires : tie.Need-number-requires
+number-requires c κs = search needs
 
 same-length : tie.Need-same-length
 same-length c = search needs
@@ -28,20 +28,21 @@ same-length-2 c = search needs
 returns : tie.Need-returns
 returns c =
     let s = c .before .before .before .before .before .before .before .before .before .scan-region .ensures in
-    let w = c .before .before .before .before .scan-written .ensures in
-    let p = c .before .before .before .scan-place .ensures in
-    let r = c .before .before .scan-read .ensures in
-    (rw (← s .0) (c .scan-number .ensures), (rw (← s .0, w, p, r), s .1))
+    let w = c .before .before .before .before .written .ensures in
+    let p = c .before .before .before .place .ensures in
+    let r = c .before .before .read .ensures in
+    let n = s .1 .1 .1 in
+    (rw (← n .0) (c .number .ensures), (rw (w, p, r, n .1 .0, n .1 .1 .0, n .1 .1 .1), (s .1 .0, s .1 .1 .0)))
 
 pub phs-scan-region-spec : {M : Type 1} → statement M
 phs-scan-region-spec =
     tie.close
     (tie.spec
     scan-region-requires
-    scan-written-requires
-    scan-place-requires
-    scan-read-requires
-    scan-number-requires
+    written-requires
+    place-requires
+    read-requires
+    number-requires
     same-length
     same-length-2
     returns)

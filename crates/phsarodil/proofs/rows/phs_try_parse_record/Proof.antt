@@ -7,11 +7,11 @@ use Rattle.phsarodil.proofs.rows.phs_try_parse_record.Tie as tie
 try-parse-record-requires : tie.Need-try-parse-record-requires
 try-parse-record-requires c κs = search needs
 
-once-written-requires : tie.Need-once-written-requires
-once-written-requires c κs = search needs
+written-requires : tie.Need-written-requires
+written-requires c κs = search needs
 
-once-number-requires : tie.Need-once-number-requires
-once-number-requires c κs = search needs
+number-requires : tie.Need-number-requires
+number-requires c κs = search needs
 
 same-length : tie.Need-same-length
 same-length c = search needs
@@ -22,15 +22,16 @@ same-length-2 c = search needs
 returns : tie.Need-returns
 returns c =
     let s = c .before .before .before .before .before .before .before .try-parse-record .ensures in
-    (rw (← s .0) (c .once-number .ensures), (rw (← s .0, c .before .before .once-written .ensures), s .1))
+    let n = s .1 .1 .1 in
+    (rw (← n .0) (c .number .ensures), (rw (c .before .before .written .ensures, n .1), (s .1 .0, s .1 .1 .0)))
 
 pub phs-try-parse-record-spec : {M : Type 1} → statement M
 phs-try-parse-record-spec =
     tie.close
     (tie.spec
     try-parse-record-requires
-    once-written-requires
-    once-number-requires
+    written-requires
+    number-requires
     same-length
     same-length-2
     returns)

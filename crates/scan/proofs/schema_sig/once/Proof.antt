@@ -1,4 +1,4 @@
--- `scan::schema_sig::once` meets its contract: each way out is a law of `proofs/Single.antt`.
+-- `scan::schema_sig::once` meets its contract: each way out is a law of `proofs/OneAttempt.antt`.
 -- Assumes nothing.
 use Prim.Native.Nat.{_+_, _<_}
 use mathlib.Core.Path.{_≡_, sym, _∙_}
@@ -6,11 +6,11 @@ use native.Mathlib.Nat.{zero-mul}
 use native.Mathlib.Omega.{arith}
 use lib.ListN.{length}
 use denote.Ref.{now}
-use Rattle.scan.specs.Attempt.{attemptAt, kinds}
-use Rattle.scan.specs.Inner.{findTypes, HitIs}
-use Rattle.scan.specs.Places.{attemptPlaces}
-use Rattle.scan.proofs.Going.{columns-at-length}
-use Rattle.scan.proofs.Single.{attempt-beyond, once-missed, once-full, once-found}
+use Rattle.attempt.specs.Attempt.{attemptAt, kinds}
+use Rattle.attempt.specs.Inner.{findTypes, HitIs}
+use Rattle.attempt.specs.Places.{attemptPlaces}
+use Rattle.attempt.proofs.Laws.{attempt-beyond, columns-at-length}
+use Rattle.scan.proofs.OneAttempt.{once-missed, once-full, once-found}
 use Rattle.sheet.proofs.Laws.{room-rows, room-cols}
 use borrow.Author.Needs.{needs}
 use Rattle.scan.proofs.schema_sig.once.Statement.{statement}
@@ -50,7 +50,7 @@ put-found-requires c κs =
     let p = c .before .before .before .before .before .before .before .before .before .before .before .before .pre in
     let h = found k in
     let n : 0 < c .before .before .before .before .before .before .before .before .before .before .before .before .args .room = omega (arith, c .before .before .if2 .left) in (
-      (p .0 .few, omega (arith, p .0 .near, h .inside, p .0 .small)),
+      (p .0 .few, p .0 .near, p .0 .small),
       (
         h .headed,
         (

@@ -1,6 +1,7 @@
 -- `scan::schema_sig::put_found` meets its contract: the row, then its group.
 -- Assumes nothing.
 use mathlib.Core.Path.{_≡_}
+use native.Mathlib.Nat.{zero-add}
 use borrow.Author.Needs.{needs}
 use Rattle.scan.proofs.schema_sig.put_found.Statement.{statement}
 use Rattle.scan.proofs.schema_sig.put_found.Tie as tie
@@ -33,7 +34,7 @@ same-length-2 : tie.Need-same-length-2
 same-length-2 c = search needs
 
 returns : tie.Need-returns
-returns c = (rw (c .before .before .before .before .before .before .before .before .suited-share .ensures) at (c .before .before .before .before .before .before .put-row .ensures), c .before .before .put-columns .ensures)
+returns c = (rw (c .before .before .before .before .before .before .before .before .suited-share .ensures) at (c .before .before .before .before .before .before .put-row .ensures), rw zero-add at (c .before .before .put-columns .ensures))
 
 pub put-found-spec : {M : Type 1} → statement M
 put-found-spec =

@@ -6,17 +6,20 @@ use native.Mathlib.Omega.{arith}
 use lib.ListN.{length}
 use denote.Ref.{now}
 use borrow.Author.Needs.{needs}
-use Rattle.scan.specs.Attempt.{attemptAt, kinds}
-use Rattle.scan.specs.Inner.{findTypes, MissIs, HitIs, RoomFor}
-use Rattle.scan.specs.Places.{attemptPlaces}
+use Rattle.attempt.specs.Attempt.{attemptAt, kinds}
+use Rattle.attempt.specs.Inner.{findTypes, MissIs, HitIs}
+use Rattle.scan.specs.Inner.{RoomFor}
+use Rattle.attempt.specs.Places.{mostPlaces, attemptPlaces}
 use Rattle.sheet.proofs.Laws.{room-rows, room-cols}
-use Rattle.scan.proofs.Going.{On, on-start, on-long, on-missed, on-found, on-end, on-full, room-all, columns-at-length}
+use Rattle.scan.proofs.Running.{On, on-start, on-long, on-missed, on-found, on-end, on-full, room-all}
+use Rattle.attempt.proofs.Laws.{columns-at-length}
+use Rattle.sheet.specs.Limits.{largestRegion}
 use Rattle.scan.proofs.schema_sig.run.Statement.{statement}
 use Rattle.scan.proofs.schema_sig.run.Tie as tie
 
 abbrev Inv-loop : tie.InvT-loop
 Inv-loop bytes hints base start room rows₀ cols₀ last o₀ n₀ read₀ rows cols o n read =
-    (n ≤ room) × (read ≤ 520 * o) × On bytes hints base start room rows₀ cols₀ rows cols o n read
+    (n ≤ room) × (read ≤ mostPlaces * o) × On bytes hints base start room rows₀ cols₀ rows cols o n read
 
 abbrev μ-loop : tie.MeasureT-loop
 μ-loop bytes hints base start room rows₀ cols₀ last o₀ n₀ read₀ rows cols o n read = length bytes - o
@@ -44,7 +47,7 @@ taken : (c : tie.After-known-told2 Inv-loop μ-loop) →
     let l = c .before .before .before .before .before .loop in
     let a = c .before .before .before .before .before .before .before .before .before .before .before .args in
     let x = c .before .find .given .0 .0 in
-    (2 ≤ x .consumed) × (l .o + x .consumed ≤ length (now (a .bytes))) × (length (now (a .bytes)) ≤ 16777216) × (x .read ≤ 520)
+    (2 ≤ x .consumed) × (l .o + x .consumed ≤ length (now (a .bytes))) × (length (now (a .bytes)) ≤ largestRegion) × (x .read ≤ mostPlaces)
 taken c =
     let h = found c in
     (omega (arith, h .bodies, h .headed .low), h .inside, c .before .before .before .before .before .before .before .before .before .before .before .pre .0 .small, h .few)
@@ -99,9 +102,8 @@ put-found-requires c κs =
     let p = e .before .before .before .before .before .before .before .before .before .before .before .before .pre in
     let h = found (e .before) in
     let long = on-long _ _ _ _ _ _ _ _ _ _ _ _ (l .inv .2) in
-    let small = taken (e .before) in
     let n : l .n < _ = e .if1 .left in (
-      (p .0 .few, omega (arith, p .0 .near, small .1, small .2)),
+      (p .0 .few, p .0 .near, p .0 .small),
       (
         h .headed,
         (

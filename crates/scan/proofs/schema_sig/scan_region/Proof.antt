@@ -1,11 +1,10 @@
 -- `scan::schema_sig::scan_region` meets its contract: what is refused leaves all as it was, and what is not is a run.
 -- Assumes nothing.
 use mathlib.Core.Path.{_≡_, sym, _∙_}
-use lib.ListN.{length}
 use denote.Ref.{now}
-use Rattle.scan.specs.Scan.{scanChecks, scanAnswer, scanRows, scanCols}
+use Rattle.scan.specs.Scan.{scanChecked}
+use Rattle.scan.proofs.Answers.{scan-refused, scan-done}
 use Rattle.scan.proofs.Checks.{passed}
-use Rattle.sheet.specs.Refusal.{firstHeld}
 use Rattle.sheet.specs.declared.refusal.Checked.the-variants.{Passed}
 use borrow.Author.Needs.{needs}
 use Rattle.scan.proofs.schema_sig.scan_region.Statement.{statement}
@@ -14,7 +13,7 @@ use Rattle.scan.proofs.schema_sig.scan_region.Tie as tie
 -- the checks that were passed
 checked : (c : tie.After-enum-told) →
     let a = c .before .before .before .before .before .before .before .args in
-    firstHeld (scanChecks (length (now (a .region))) (now (a .hints)) (a .base)) ≡ Passed
+    scanChecked (now (a .region)) (now (a .hints)) (a .base) ≡ Passed
 checked c = sym (c .before .before .check .ensures) ∙ c .enum-told .given .1
 
 check-requires : tie.Need-check-requires
@@ -33,10 +32,7 @@ run-requires : tie.Need-run-requires
 run-requires c κs = (passed _ _ _ (checked (c .before .before .before)), c .before .before .room .ensures)
 
 returns : tie.Need-returns
-unfolding scanAnswer scanRows scanCols
-returns c =
-    let e = sym (c .before .before .before .check .ensures) ∙ c .before .refusal .given .1 in
-    (rw e, (rw e, rw e))
+returns c = scan-refused _ _ _ _ _ _ _ (sym (c .before .before .before .check .ensures) ∙ c .before .refusal .given .1)
 
 same-length : tie.Need-same-length
 same-length c = search needs
@@ -45,12 +41,9 @@ same-length-2 : tie.Need-same-length-2
 same-length-2 c = search needs
 
 returns-2 : tie.Need-returns-2
-unfolding scanAnswer scanRows scanCols
 returns-2 c =
-    let k = c .before .before .before .before .before .before .before .before in
-    let e = checked k in
-    let r = rw (c .before .before .before .before .before .before .before .room .ensures) at (c .before .before .before .before .run .ensures) in
-    (rw e (r .answer), (rw e (r .rows-are), rw e (r .cols-are)))
+    scan-done _ _ _ _ _ _ _ _ _ (checked (c .before .before .before .before .before .before .before .before))
+    (rw (c .before .before .before .before .before .before .before .room .ensures) at (c .before .before .before .before .run .ensures))
 
 pub scan-region-spec : {M : Type 1} → statement M
 scan-region-spec =

@@ -1,0 +1,179 @@
+-- The types of a header: how reading goes on, what matching and the totals come to, and where reading stops.
+-- Assumes nothing.
+use Prim.Native.Nat.{ℕ, zero, suc, _+_, _-_, _*_, _≤_, _<_, min}
+use mathlib.Core.Path.{_≡_, refl, sym, ap, _∙_}
+use mathlib.Core.Bool.{Bool, true, false, cond}
+use mathlib.Core.List.{List, [], _∷_, _++_}
+use native.Mathlib.Numerals.{add-one}
+use native.Mathlib.Omega.{arith}
+use lib.ListN.{length, drop, getD, length-append, drop-of-length-le}
+use lib.Seq.{drop-drop}
+use borrow.Author.Tests.{lt-ltb, le-ltb}
+use Rattle.record.proofs.Laws.{Reach, varint-reach, places-count}
+use Rattle.record.proofs.Numbers.{by-order}
+use Rattle.record.specs.Places.{stopOf, varintPlaces}
+use Rattle.record.specs.Varint.{varintAt}
+use Rattle.record.specs.declared.varint.Cursor.{Cursor}
+use Rattle.record.specs.declared.varint.Varint.{Varint}
+use Rattle.record.specs.declared.varint.Varint.the-variants.{Value, Short}
+use Rattle.attempt.specs.Attempt.{Types, ended, cut, kind, kinds, isWhole, typeOn, typesFrom}
+use Rattle.attempt.specs.Hints.{suited}
+use Rattle.attempt.specs.Inner.{suitsAt, tooLong, bodySize, totalFrom, sizes, reach, Walked, WholeIs}
+use Rattle.attempt.specs.Places.{typePlaces, placesOn}
+use Rattle.attempt.specs.declared.inner.Walk.the-variants.{Whole, Cut}
+
+-- ---- reading on
+module _ (f : ℕ) (s : List ℕ) (at stop : ℕ) where
+  pub types-step : (t : ℕ) (c : Cursor) → at < stop → varintAt s at ≡ Value t c → typesFrom (suc f) s at stop ≡ kind t (typesFrom f s (c .at) stop)
+  unfolding typesFrom
+  types-step t c h e = simp (lt-ltb at stop h, e)
+
+  pub types-cut : at < stop → varintAt s at ≡ Short → typesFrom (suc f) s at stop ≡ cut
+  unfolding typesFrom
+  types-cut h e = simp (lt-ltb at stop h, e)
+
+pub types-none : (s : List ℕ) (at stop : ℕ) → typesFrom 0 s at stop ≡ ended at
+unfolding typesFrom
+types-none s at stop = refl
+
+pub types-end : (f : ℕ) (s : List ℕ) (at stop : ℕ) → stop ≤ at → typesFrom f s at stop ≡ ended at
+unfolding typesFrom
+types-end zero s at stop h = refl
+types-end (suc f) s at stop h = simp (le-ltb at stop h)
+
+-- ---- matching and totals
+
+pub suited-step : (hints : List ℕ) (k t : ℕ) (ts : List ℕ) → suited (drop k hints) (t ∷ ts) ≡ suitsAt hints k t + suited (drop (k + 1) hints) ts
+suited-step hints k t ts = rw (← drop-drop 1 k hints) (go (drop k hints))
+  where
+    none : (ts : List ℕ) → suited [] ts ≡ 0
+    none [] = refl
+    none (t ∷ ts) = refl
+
+    go : (l : List ℕ) → suited l (t ∷ ts) ≡ suited l (t ∷ []) + suited (drop 1 l) ts
+    go [] = omega (arith, none ts)
+    go (h ∷ hs) = omega arith
+
+pub total-most : (total : ℕ) (ts : List ℕ) → total ≤ tooLong → totalFrom total ts ≤ tooLong
+unfolding totalFrom
+total-most total [] h = h
+total-most total (t ∷ ts) h = total-most (min tooLong (total + bodySize t)) ts (omega arith)
+
+pub total-least : (total : ℕ) (ts : List ℕ) → total ≤ tooLong → total ≤ totalFrom total ts
+unfolding totalFrom
+total-least total [] h = omega arith
+total-least total (t ∷ ts) h = let z = total-least (min tooLong (total + bodySize t)) ts (omega arith) in omega arith
+
+-- ---- what has been read so far, with what is left, comes to the whole
+
+pub record Along (s hints : List ℕ) (w r : Types) (count matched total : ℕ) : Type 0 where
+  pub whole-is : isWhole w ≡ isWhole r
+  pub reach-is : reach s w ≡ reach s r
+  pub count-is : length (kinds w) ≡ count + length (kinds r)
+  pub matched-is : suited hints (kinds w) ≡ matched + suited (drop count hints) (kinds r)
+  pub total-is : totalFrom 0 (kinds w) ≡ totalFrom total (kinds r)
+
+-- with fuel for what is left
+pub Left : (s hints : List ℕ) (w : Types) (at stop count matched total : ℕ) → Type 0
+Left s hints w at stop count matched total = (f : ℕ) × (stop ≤ at + f) × Along s hints w (typesFrom f s at stop) count matched total
+
+pub left-start : (f : ℕ) (s hints : List ℕ) (at stop : ℕ) → stop ≤ at + f → Left s hints (typesFrom f s at stop) at stop 0 0 0
+unfolding Left
+left-start f s hints at stop h = (
+  f,
+  h,
+  record { whole-is = refl; reach-is = refl; count-is = omega arith; matched-is = omega arith; total-is = refl },
+)
+
+module _ (s hints : List ℕ) (w : Types) (at stop count matched total : ℕ) where
+  pub left-step : (t : ℕ) (c : Cursor) → at < stop → at < c .at → varintAt s at ≡ Value t c → Left s hints w at stop count matched total
+      → Left s hints w (c .at) stop (count + 1) (matched + suitsAt hints count t) (min tooLong (total + bodySize t))
+  unfolding Left totalFrom
+  left-step t c h p e (zero, k, a) = absurd (omega arith)
+  left-step t c h p e (suc f, k, a) =
+      let b : Along s hints w (kind t (typesFrom f s (c .at) stop)) count matched total = rw (types-step f s at stop t c h e) at a in (
+        f,
+        omega arith,
+        record {
+          whole-is = b .whole-is;
+          reach-is = b .reach-is;
+          count-is = omega (arith, b .count-is);
+          matched-is = omega (arith, b .matched-is, suited-step hints count t (kinds (typesFrom f s (c .at) stop)));
+          total-is = b .total-is;
+        },
+      )
+
+  pub left-cut : at < stop → varintAt s at ≡ Short → Left s hints w at stop count matched total → Walked s hints w Cut
+  unfolding Left
+  left-cut h e (zero, k, a) = absurd (omega arith)
+  left-cut h e (suc f, k, a) = let b = rw (types-cut f s at stop h e) at a in b .whole-is
+
+  pub left-end : stop ≤ at → Left s hints w at stop count matched total → Walked s hints w (Whole count matched total at)
+  unfolding Left totalFrom
+  left-end h (f, k, a) =
+      let b : Along s hints w (ended at) count matched total = rw (types-end f s at stop h) at a in
+      record {
+        is-whole = b .whole-is;
+        counts = omega (arith, b .count-is);
+        matches = omega (arith, b .matched-is);
+        totals = b .total-is;
+        ends = b .reach-is;
+      }
+
+-- ---- where reading stops
+
+module _ (f : ℕ) (s : List ℕ) (at stop : ℕ) where
+  pub places-step : (t : ℕ) (c : Cursor) → at < stop → varintAt s at ≡ Value t c → typePlaces (suc f) s at stop ≡ varintPlaces s at ++ typePlaces f s (c .at) stop
+  unfolding typePlaces
+  places-step t c h e = simp (lt-ltb at stop h, e)
+
+  pub places-cut : at < stop → varintAt s at ≡ Short → typePlaces (suc f) s at stop ≡ varintPlaces s at ++ []
+  unfolding typePlaces
+  places-cut h e = simp (lt-ltb at stop h, e)
+
+pub places-none : (s : List ℕ) (at stop : ℕ) → typePlaces 0 s at stop ≡ []
+unfolding typePlaces
+places-none s at stop = refl
+
+pub places-end : (f : ℕ) (s : List ℕ) (at stop : ℕ) → stop ≤ at → typePlaces f s at stop ≡ []
+unfolding typePlaces
+places-end zero s at stop h = refl
+places-end (suc f) s at stop h = simp (le-ltb at stop h)
+
+-- all bytes up to there are read; it lies in the region, and at most 8 behind the header's end
+pub record Stops (s : List ℕ) (at stop : ℕ) (ts : Types) (places : List ℕ) : Type 0 where
+  pub counts : at + length places ≡ reach s ts
+  pub inside : reach s ts ≤ length s
+  pub near : at ≤ stop → reach s ts ≤ stop + 8
+
+module _ (s : List ℕ) (stop : ℕ) where
+  stops-here : (at : ℕ) → at ≤ length s → Stops s at stop (ended at) []
+  stops-here at h = record { counts = omega arith; inside = h; near = λ l. omega arith }
+
+  pub stops : (f at : ℕ) → at ≤ length s → Stops s at stop (typesFrom f s at stop) (typePlaces f s at stop)
+  stops zero at h = rw (types-none s at stop, places-none s at stop) (stops-here at h)
+  stops (suc f) at h =
+      by-order at stop (λ lt. go lt (varintAt s at) refl (λ c k. stops f c k))
+      (λ ge. rw (types-end (suc f) s at stop ge, places-end (suc f) s at stop ge) (stops-here at h))
+    where
+      go : at < stop → (v : Varint) → varintAt s at ≡ v → ((c : ℕ) → c ≤ length s → Stops s c stop (typesFrom f s c stop) (typePlaces f s c stop))
+          → Stops s at stop (typesFrom (suc f) s at stop) (typePlaces (suc f) s at stop)
+      go lt (Value t c) e rest =
+          let z = varint-reach s at in
+          let y : stopOf s (varintAt s at) ≡ c .at = ap (stopOf s) e in
+          let p = z .whole t c e in
+          let r = rest (c .at) (omega (arith, z .inside)) in
+          let n = length-append (varintPlaces s at) (typePlaces f s (c .at) stop) in
+          let last : stop ≤ c .at → reach s (typesFrom f s (c .at) stop) ≡ c .at = λ ge. ap (reach s) (types-end f s (c .at) stop ge) in
+          rw (types-step f s at stop t c lt e, places-step f s at stop t c lt e)
+          (record {
+            counts = omega (arith, n, places-count s at, r .counts);
+            inside = r .inside;
+            near = λ _. by-order stop (c .at) (λ past. omega (arith, last (omega arith), z .near)) (λ before. r .near before);
+          })
+      go lt Short e rest =
+          let z = varint-reach s at in
+          let y : stopOf s (varintAt s at) ≡ length s = ap (stopOf s) e in
+          let n = length-append (varintPlaces s at) [] in
+          rw (types-cut f s at stop lt e, places-cut f s at stop lt e)
+          (record { counts = omega (arith, n, places-count s at); inside = omega arith; near = λ _. omega (arith, z .near) })

@@ -1,0 +1,8 @@
+-- A contract fixes what a call leaves: any two outcomes that it allows for the same arguments are equal. `Post` is the function's own postcondition.
+-- Assumes nothing.
+use mathlib.Core.Path.{_≡_, sym, _∙_}
+use Rattle.record.proofs.Unique.{Fixes}
+use Rattle.attempt.proofs.schema_sig.is_compatible.Reads as is-compatible
+
+pub is-compatible-fixed : Fixes is-compatible.Post
+is-compatible-fixed k a x y s t p q = p .0 ∙ sym (q .0)

@@ -1,0 +1,77 @@
+-- What the entries of a run read as: each is the value of its type at its place.
+-- Assumes nothing.
+use Prim.Native.Nat.{ℕ, zero, suc, _+_, _-_, _*_, _<_}
+use mathlib.Core.Path.{_≡_, refl, sym, ap, _∙_}
+use mathlib.Core.Bool.{Bool, true, false, cond}
+use mathlib.Core.List.{List, [], _∷_, _++_, map, append-nil, append-assoc, map-append}
+use native.Mathlib.Nat.{suc-mul, zero-mul, add-comm}
+use native.Mathlib.Omega.{arith}
+use lib.Dec.{ltb}
+use lib.ListN.{length, length-append}
+use Rattle.attempt.proofs.ReadBack.{hit-reads}
+use Rattle.attempt.specs.Attempt.{Found, Tried, miss, hit, attemptAt}
+use Rattle.attempt.specs.Values.{rowValues}
+use Rattle.record.proofs.Numbers.{by-order}
+use Rattle.record.specs.Entry.{readEntry}
+use Rattle.record.specs.declared.entry.EntryRead.{EntryRead}
+use Rattle.record.specs.declared.entry.EntryRead.the-variants.{Of}
+use Rattle.scan.specs.Scan.{Run, through, noRoom, missed, found, goOn, scanFrom, rowCount, entriesOf}
+use Rattle.scan.specs.Sheet.{runValues}
+use Rattle.scan.proofs.Running.{scan-none, scan-missed, scan-found, scan-full, scan-end}
+use Rattle.sheet.proofs.Laws.{columns-words-length}
+use Rattle.sheet.specs.Limits.{wordsPerEntry}
+use Rattle.sheet.specs.Sheet.{columnsWords, entriesIn, AllWithin}
+
+-- of a run: how many words its entries have, that they lie in the region, and what they read as, whatever words stand behind them
+pub record RunReads (s : List ℕ) (columns : ℕ) (t : Run) : Type 0 where
+  pub words : length (entriesOf t) ≡ rowCount t * (wordsPerEntry * columns)
+  pub reads : (rest : List ℕ) → map (λ e. readEntry e s) (entriesIn (rowCount t * columns) (entriesOf t ++ rest)) ≡ map Of (runValues s t)
+  pub within : (rest : List ℕ) → AllWithin (length s) (entriesIn (rowCount t * columns) (entriesOf t ++ rest))
+
+module _ (s hints : List ℕ) where
+  pub reads-none : (t : Run) → entriesOf t ≡ [] → rowCount t ≡ 0 → runValues s t ≡ [] → RunReads s (length hints) t
+  reads-none t e r v =
+      let z = zero-mul (length hints) in
+      record {
+        words = rw (e, r) (sym (zero-mul (wordsPerEntry * length hints)));
+        reads = λ rest. rw (r, v, z) refl;
+        within = λ rest. rw (r, z) tt;
+      }
+
+  -- THE LAW: a row more
+  pub reads-found : (o : ℕ) (x : Found) (t : Run) → attemptAt s hints o ≡ hit x → RunReads s (length hints) t → RunReads s (length hints) (found o x t)
+  reads-found o x t e r =
+      let h = hit-reads s hints o x e in
+      let n : suc (rowCount t) * length hints ≡ length (x .columns) + rowCount t * length hints = omega (arith, suc-mul (rowCount t) (length hints), h .0) in
+      record {
+        words = omega (arith, length-append (columnsWords (x .columns)) (entriesOf t), columns-words-length (x .columns), h .0, r .words, suc-mul (rowCount t) (wordsPerEntry * length hints));
+        reads = λ rest.
+            rw (n, append-assoc (columnsWords (x .columns)) (entriesOf t) rest, h .1 (rowCount t * length hints) (entriesOf t ++ rest), r .reads rest, map-append Of (rowValues s o) (runValues s t));
+        within = λ rest. rw (n, append-assoc (columnsWords (x .columns)) (entriesOf t) rest) (h .2 (rowCount t * length hints) (entriesOf t ++ rest) (r .within rest));
+      }
+
+  -- THE LAW: so a scan
+  pub run-reads : (f room o n : ℕ) → RunReads s (length hints) (scanFrom f s hints room o n)
+  run-reads zero room o n = rw (scan-none s hints room o n) (reads-none through refl refl refl)
+  run-reads (suc f) room o n =
+      by-order o (length s - 2) (λ lt. go lt (attemptAt s hints o) refl (λ o′ n′. run-reads f room o′ n′))
+      (λ ge. rw (scan-end (suc f) s hints room o n ge) (reads-none through refl refl refl))
+    where
+      go : o < length s - 2 → (t : Tried) → attemptAt s hints o ≡ t → ((o′ n′ : ℕ) → RunReads s (length hints) (scanFrom f s hints room o′ n′))
+          → RunReads s (length hints) (scanFrom (suc f) s hints room o n)
+      go lt miss e rest =
+          let r = rest (o + 1) n in
+          rw (scan-missed f s hints room o n lt e) (record { words = r .words; reads = r .reads; within = r .within })
+      go lt (hit x) e rest =
+          by-order n room
+          (λ in′. rw (scan-found f s hints room o n lt x e in′) (reads-found o x _ e (rest (o + x .consumed) (n + 1))))
+          (λ out. rw (scan-full f s hints room o n lt x e out) (reads-none (noRoom o) refl refl refl))
+
+  -- and one attempt
+  pub once-reads : (room o : ℕ) (v : Tried) → attemptAt s hints o ≡ v → RunReads s (length hints) (goOn room o 0 (λ o′ n. through) v)
+  once-reads room o miss e = reads-none (missed o through) refl refl refl
+  once-reads room o (hit x) e = go (ltb 0 room)
+    where
+      go : (b : Bool) → RunReads s (length hints) (cond b (found o x through) (noRoom o))
+      go true = reads-found o x through e (reads-none through refl refl refl)
+      go false = reads-none (noRoom o) refl refl refl

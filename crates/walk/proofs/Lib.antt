@@ -1,0 +1,14 @@
+pub mod Along
+mod Calls
+pub mod Carving
+mod Cases
+mod Clearing
+mod Collecting
+pub mod Fuel
+pub mod Laws
+mod Popping
+pub mod Promises
+mod Pushing
+mod Summing
+pub mod Tables
+pub mod Unique

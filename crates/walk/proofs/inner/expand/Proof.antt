@@ -1,0 +1,103 @@
+-- `walk::inner::expand` meets its contract: each type of page is a law of `proofs/Pushing.antt`.
+-- Assumes nothing.
+use mathlib.Core.Path.{sym, _∙_}
+use native.Mathlib.Omega.{arith}
+use borrow.Author.Needs.{needs}
+use Rattle.walk.proofs.Pushing.{page-leaf, page-other, inner-on, inner-full}
+use Rattle.walk.proofs.inner.expand.Statement.{statement}
+use Rattle.walk.proofs.inner.expand.Tie as tie
+
+page-type-requires : tie.Need-page-type-requires
+page-type-requires c κs = search needs
+
+returns : tie.Need-returns
+returns c = (page-leaf _ _ _ _ (sym (c .before .page-type .ensures) ∙ c .if1 .taken), search needs)
+
+returns-2 : tie.Need-returns-2
+returns-2 c =
+    let k = c .before .before .page-type .ensures in
+    (page-other _ _ _ _ (λ e. c .before .if1 .left (k ∙ e)) (λ e. c .if2 .taken (k ∙ e)), search needs)
+
+add-push-child : tie.Need-add-push-child
+add-push-child c = search needs
+
+push-child-requires : tie.Need-push-child-requires
+push-child-requires c κs = search needs
+
+enum-known-mid : tie.Need-enum-known-mid
+enum-known-mid c = search needs
+
+enum-told : tie.Need-enum-told
+enum-told c = search needs
+
+same-length : tie.Need-same-length
+same-length c = search needs
+
+returns-3 : tie.Need-returns-3
+returns-3 c =
+    let e = rw (c .enum-told .given .1) at (c .before .before .before .before .push-child .ensures .0) in
+    (inner-full _ _ _ _ (sym (c .before .before .before .before .before .before .before .before .page-type .ensures) ∙ c .before .before .before .before .before .before .if2 .left) e, search needs)
+
+cell-count-requires : tie.Need-cell-count-requires
+cell-count-requires c κs = search needs
+
+add-push-cells : tie.Need-add-push-cells
+add-push-cells c = search needs
+
+push-cells-requires : tie.Need-push-cells-requires
+push-cells-requires c κs =
+    let q = c .before .before .before .before .before .before .before .push-child in
+    let t = rw (c .before .before .before .mid .given .1) at (q .ensures .1) in
+    (search needs, (search needs, omega (arith, q .kept .1 .1 .0)))
+
+enum-known-t : tie.Need-enum-known-t
+enum-known-t c = search needs
+
+enum-told-2 : tie.Need-enum-told-2
+enum-told-2 c = search needs
+
+same-length-2 : tie.Need-same-length-2
+same-length-2 c = search needs
+
+returns-4 : tie.Need-returns-4
+returns-4 c =
+    let p = c .before .before .before .before .before .before .before .before .before .before .before .before .before .push-child in
+    let e = rw (c .before .before .before .before .before .before .before .before .before .mid .given .1) at (p .ensures .0) in
+    let q = c .before .before .before .before .before .push-cells in
+    let f = rw (c .before .t .given .1, c .before .before .before .before .before .before .before .cell-count .ensures .0, p .kept .1 .1 .0) at (q .ensures .0) in (
+      inner-on _ _ _ _ _ _ (sym (c .before .before .before .before .before .before .before .before .before .before .before .before .before .before .before .before .before .page-type .ensures) ∙ c .before .before .before .before .before .before .before .before .before .before .before .before .before .before .before .if2 .left) e f,
+      omega (arith, p .kept .1 .1 .0, rw (c .before .t .given .1) at (q .ensures .1)),
+    )
+
+same-length-3 : tie.Need-same-length-3
+same-length-3 c = search needs
+
+returns-5 : tie.Need-returns-5
+returns-5 c =
+    let p = c .before .before .before .before .before .before .before .before .before .before .before .before .push-child in
+    let e = rw (c .before .before .before .before .before .before .before .before .mid .given .1) at (p .ensures .0) in
+    let f = rw (c .enum-told2 .given .1, c .before .before .before .before .before .before .cell-count .ensures .0, p .kept .1 .1 .0) at (c .before .before .before .before .push-cells .ensures .0) in
+    (inner-on _ _ _ _ _ _ (sym (c .before .before .before .before .before .before .before .before .before .before .before .before .before .before .before .before .page-type .ensures) ∙ c .before .before .before .before .before .before .before .before .before .before .before .before .before .before .if2 .left) e f, search needs)
+
+pub expand-spec : {M : Type 1} → statement M
+expand-spec =
+    tie.close
+    (tie.spec
+    page-type-requires
+    returns
+    returns-2
+    add-push-child
+    push-child-requires
+    enum-known-mid
+    enum-told
+    same-length
+    returns-3
+    cell-count-requires
+    add-push-cells
+    push-cells-requires
+    enum-known-t
+    enum-told-2
+    same-length-2
+    returns-4
+    same-length-3
+    returns-5)

@@ -1,0 +1,137 @@
+-- Carving over walks (rules 9.12 to 9.16): one definition for all that carve pages. A carver of pages knows of no room: that is applied once, at the end.
+-- Assumes nothing.
+use Prim.Native.Nat.{ℕ, suc, _+_, _-_, max}
+use mathlib.Core.Bool.{Bool, true, false, cond, not, _&&_, _||_}
+use mathlib.Core.List.{List, [], _∷_, _++_}
+use lib.Dec.{ltb, eqb}
+use lib.ListN.{length, take, drop}
+use Rattle.page.specs.Page.{sizeFits, wholePages}
+use Rattle.sheet.specs.Columns.{unusedWords, roomOf}
+use Rattle.sheet.specs.Limits.{largestRegion, countFits, hintsKnown}
+use Rattle.sheet.specs.Refusal.{Check, firstHeld, after, afterOrKept}
+use Rattle.sheet.specs.Sheet.{overlay, rowsWords, columnsWords}
+use Rattle.sheet.specs.declared.columns.Column.{Column}
+use Rattle.sheet.specs.declared.refusal.Refusal.the-variants.{ColumnCount, Malformed, TooLarge, PageSize}
+use Rattle.sheet.specs.declared.row.Row.{Row}
+use Rattle.walk.specs.Collect.{walkedOf, ifFlagged, walkNumber, walkWritten}
+use Rattle.walk.specs.Walk.{Walk, walk, hitsOf, overflows}
+use Rattle.walk.specs.declared.walk.Walked.{Walked}
+use Rattle.walk.specs.declared.walk.Walked.the-variants.{Short, Refused}
+
+-- ---- what is found, and the words that say it
+
+-- a row and its columns
+pub record Hit : Type 0 where
+  pub row : Row
+  pub columns : List Column
+
+abbrev pub rowsOf : List Hit → List Row
+rowsOf [] = []
+rowsOf (h ∷ hs) = h .row ∷ rowsOf hs
+
+-- Rule 5.2: a group of `width` entries, and groups one behind the other
+abbrev pub groupWords : ℕ → Hit → List ℕ
+groupWords width h = columnsWords (h .columns) ++ unusedWords (width - length (h .columns))
+
+abbrev pub groupsWords : ℕ → List Hit → List ℕ
+groupsWords width [] = []
+groupsWords width (h ∷ hs) = groupWords width h ++ groupsWords width hs
+
+-- ---- tables
+
+-- the most tables that may be lent
+abbrev pub mostTables : ℕ
+mostTables = 1024
+
+-- Rule 9.12: a table is lent as its root, its count of columns, and so many of the hints, which stand one after the other
+pub record Table : Type 0 where
+  pub root : ℕ
+  pub hints : List ℕ
+
+abbrev pub tablesOf : List ℕ → List ℕ → List ℕ → List Table
+tablesOf [] counts hints = []
+tablesOf (r ∷ rs) [] hints = []
+tablesOf (r ∷ rs) (c ∷ cs) hints = record { root = r; hints = take c hints } ∷ tablesOf rs cs (drop c hints)
+
+abbrev pub sumOf : List ℕ → ℕ
+sumOf [] = 0
+sumOf (c ∷ cs) = c + sumOf cs
+
+-- Rule 5.2: the widest table, with rows or not
+abbrev pub widest : List ℕ → ℕ
+widest [] = 0
+widest (c ∷ cs) = max c (widest cs)
+
+abbrev pub countsFit : List ℕ → Bool
+countsFit [] = true
+countsFit (c ∷ cs) = countFits c && countsFit cs
+
+-- Rule 9.12: the checks, for a database of `len` bytes
+abbrev pub tableChecks : ℕ → ℕ → List ℕ → List ℕ → List ℕ → List Check
+tableChecks len size roots counts hints =
+    record { refusal = ColumnCount; holds = not (countsFit counts) }
+    ∷ record { refusal = Malformed; holds = not (eqb (length roots) (length counts)) || (not (eqb (sumOf counts) (length hints)) || not (hintsKnown hints)) }
+    ∷ record { refusal = TooLarge; holds = ltb largestRegion len || ltb mostTables (length roots) }
+    ∷ record { refusal = PageSize; holds = not (sizeFits size) }
+    ∷ []
+
+-- ---- the hits of tables
+
+-- what is made of a table's index, its hints and the number of a leaf
+abbrev pub Carver : Type 0
+Carver = ℕ → List ℕ → ℕ → List Hit
+
+-- Rule 9.13: tables go in the order lent, from the index t on, and a leaf is carved as soon as it is popped; a full stack ends it all
+abbrev pub hitsFrom : (ℕ → Walk) → Carver → ℕ → List Table → List Hit
+hitsFrom walkOf carve t [] = []
+hitsFrom walkOf carve t (b ∷ bs) =
+    hitsOf (carve t (b .hints)) (walkOf (b .root)) ++ cond (overflows (walkOf (b .root))) [] (hitsFrom walkOf carve (suc t) bs)
+
+abbrev pub overflowFrom : (ℕ → Walk) → List Table → Bool
+overflowFrom walkOf [] = false
+overflowFrom walkOf (b ∷ bs) = cond (overflows (walkOf (b .root))) true (overflowFrom walkOf bs)
+
+unfoldable pub tablesHits : Carver → List ℕ → ℕ → List ℕ → List ℕ → List ℕ → ℕ → List Hit
+tablesHits carve db size roots counts hints depth = hitsFrom (λ root. walk db size depth root) carve 0 (tablesOf roots counts hints)
+
+unfoldable pub tablesOverflow : List ℕ → ℕ → List ℕ → List ℕ → List ℕ → ℕ → Bool
+tablesOverflow db size roots counts hints depth = overflowFrom (λ root. walk db size depth root) (tablesOf roots counts hints)
+
+-- ---- Rule 9.14: a call over tables; of its lists the answer needs only how many words there are
+abbrev pub tablesAnswer : Carver → List ℕ → ℕ → List ℕ → List ℕ → List ℕ → ℕ → ℕ → ℕ → ℕ → Walked
+tablesAnswer carve db size roots counts hints flags depth rows cols =
+    ifFlagged (wholePages (length db) size) flags
+    (walkedOf (roomOf rows cols (widest counts)) (length (tablesHits carve db size roots counts hints depth)) (tablesOverflow db size roots counts hints depth))
+    (Short 0)
+
+-- the hits that are written: the first, as many as there is room for
+abbrev pub tablesWritten : Carver → List ℕ → ℕ → List ℕ → List ℕ → List ℕ → ℕ → ℕ → ℕ → ℕ → List Hit
+tablesWritten carve db size roots counts hints flags depth rows cols =
+    ifFlagged (wholePages (length db) size) flags (take (roomOf rows cols (widest counts)) (tablesHits carve db size roots counts hints depth)) []
+
+unfoldable pub carvedAnswer : Carver → List ℕ → ℕ → List ℕ → List ℕ → List ℕ → ℕ → ℕ → ℕ → ℕ → Walked
+carvedAnswer carve db size roots counts hints flags depth rows cols =
+    after Refused (firstHeld (tableChecks (length db) size roots counts hints)) (tablesAnswer carve db size roots counts hints flags depth rows cols)
+
+unfoldable pub carvedRows : Carver → List ℕ → ℕ → List ℕ → List ℕ → List ℕ → ℕ → ℕ → List ℕ → List ℕ → List ℕ
+carvedRows carve db size roots counts hints flags depth rows cols =
+    afterOrKept (firstHeld (tableChecks (length db) size roots counts hints))
+    (overlay (rowsWords (rowsOf (tablesWritten carve db size roots counts hints flags depth (length rows) (length cols)))) rows)
+    rows
+
+unfoldable pub carvedCols : Carver → List ℕ → ℕ → List ℕ → List ℕ → List ℕ → ℕ → ℕ → List ℕ → List ℕ → List ℕ
+carvedCols carve db size roots counts hints flags depth rows cols =
+    afterOrKept (firstHeld (tableChecks (length db) size roots counts hints))
+    (overlay (groupsWords (widest counts) (tablesWritten carve db size roots counts hints flags depth (length rows) (length cols))) cols)
+    cols
+
+-- the paper's number, and how many rows are written
+unfoldable pub carvedNumber : Carver → List ℕ → ℕ → List ℕ → List ℕ → List ℕ → ℕ → ℕ → ℕ → ℕ → ℕ
+carvedNumber carve db size roots counts hints flags depth rows cols =
+    walkNumber (firstHeld (tableChecks (length db) size roots counts hints)) (wholePages (length db) size) flags (roomOf rows cols (widest counts))
+    (length (tablesHits carve db size roots counts hints depth)) (tablesOverflow db size roots counts hints depth)
+
+unfoldable pub carvedWritten : Carver → List ℕ → ℕ → List ℕ → List ℕ → List ℕ → ℕ → ℕ → ℕ → ℕ → ℕ
+carvedWritten carve db size roots counts hints flags depth rows cols =
+    walkWritten (firstHeld (tableChecks (length db) size roots counts hints)) (wholePages (length db) size) flags (roomOf rows cols (widest counts))
+    (length (tablesHits carve db size roots counts hints depth))

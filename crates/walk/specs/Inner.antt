@@ -1,0 +1,108 @@
+-- What the code carries between its own functions, and how it stands for what the walk speaks of; nothing that a caller has to believe.
+-- Assumes nothing.
+use Prim.Native.Nat.{ℕ, zero, suc, _+_, _-_, _*_, _/_, _≤_, _<_}
+use mathlib.Core.Path.{_≡_}
+use mathlib.Core.Bool.{Bool, cond}
+use mathlib.Core.List.{List, [], _∷_}
+use lib.Dec.{leb, eqb}
+use lib.ListN.{length, getD, take}
+use lib.Seq.{sets}
+use Rattle.sheet.specs.Limits.{wordsPerRow, wordsPerEntry}
+use Rattle.sheet.specs.Sheet.{overlay, rowsWords}
+use Rattle.walk.specs.Carve.{Hit, rowsOf, groupsWords, widest, Carver, tablesAnswer, tablesWritten}
+use Rattle.walk.specs.Collect.{leavesAnswer, leavesWritten}
+use Rattle.walk.specs.Walk.{Popped, leafThen, onward, overflow, Walk, through, stackFull, leaf, walkFrom}
+use Rattle.walk.specs.declared.inner.Carved.{Carved}
+use Rattle.walk.specs.declared.inner.Carved.the-variants.{On as More, Full as Over, Short}
+use Rattle.walk.specs.declared.inner.Pushed.{Pushed}
+use Rattle.walk.specs.declared.inner.Pushed.the-variants.{On, Overflow}
+use Rattle.walk.specs.declared.inner.Step.{Step}
+use Rattle.walk.specs.declared.inner.Step.the-variants.{Leaf as Is, On as Goes, Overflow as Stops}
+use Rattle.walk.specs.declared.inner.Next.{Next}
+use Rattle.walk.specs.declared.inner.Next.the-variants.{Leaf, Done, Overflow as Full}
+use Rattle.walk.specs.declared.walk.Walked.{Walked}
+
+-- the stack that the first n cells hold, its top first
+unfoldable pub tops : List ℕ → ℕ → List ℕ
+tops cells zero = []
+tops cells (suc n) = getD cells n 0 ∷ tops cells n
+
+abbrev pub pushedAs : List ℕ → Pushed → Popped
+pushedAs cells (On t) = onward (tops cells t)
+pushedAs cells Overflow = overflow
+
+abbrev pub pushedTop : Pushed → ℕ
+pushedTop (On t) = t
+pushedTop Overflow = 0
+
+abbrev pub steppedAs : List ℕ → Step → Popped
+steppedAs cells (Is t) = leafThen (tops cells t)
+steppedAs cells (Goes t) = onward (tops cells t)
+steppedAs cells Stops = overflow
+
+abbrev pub steppedTop : Step → ℕ
+steppedTop (Is t) = t
+steppedTop (Goes t) = t
+steppedTop Stops = 0
+
+-- how many marks are 0
+unfoldable pub zeros : List ℕ → ℕ
+zeros [] = 0
+zeros (m ∷ ms) = cond (eqb m 0) 1 0 + zeros ms
+
+-- the pops that can still come: each page that is not marked may fill the stack once more
+unfoldable pub need : ℕ → ℕ → List ℕ → ℕ → ℕ
+need pages depth flags top = zeros (take pages flags) * (depth + 1) + top
+
+-- the walk that is still to come
+abbrev pub rest : ℕ → List ℕ → ℕ → List ℕ → List ℕ → ℕ → Walk
+rest f db size flags stack top = walkFrom f db size (length stack) (take (length db / size) flags) (tops stack top)
+
+-- a leaf is popped: it comes first in the walk w, and what is behind it is the walk from what the lists have become
+pub record LeafIs (db : List ℕ) (size : ℕ) (w : Walk) (most : ℕ) (flags stack : List ℕ) (p top : ℕ) : Type 0 where
+  pub some : 1 ≤ p
+  pub there : p ≤ length db / size
+  pub fuel : ℕ
+  pub enough : need (length db / size) (length stack) flags top ≤ fuel
+  pub less : need (length db / size) (length stack) flags top < most
+  pub fits : top ≤ length stack
+  pub is : w ≡ leaf p (rest fuel db size flags stack top)
+
+abbrev pub NextIs : List ℕ → ℕ → Walk → ℕ → List ℕ → List ℕ → Next → Type 0
+NextIs db size w most flags stack (Leaf p top) = LeafIs db size w most flags stack p top
+NextIs db size w most flags stack Done = w ≡ through
+NextIs db size w most flags stack Full = w ≡ stackFull
+
+-- whatever the fuel, if it is enough
+abbrev pub NextSays : List ℕ → ℕ → List ℕ → List ℕ → ℕ → List ℕ → List ℕ → Next → Type 0
+NextSays db size flags₀ stack₀ top flags stack r =
+    (f : ℕ) → need (length db / size) (length stack₀) flags₀ top ≤ f
+    → NextIs db size (rest f db size flags₀ stack₀ top) (need (length db / size) (length stack₀) flags₀ top) flags stack r
+
+-- what collecting leaves
+pub record Collected (db : List ℕ) (size root flags depth : ℕ) (old : List ℕ) (r : Walked) (leaves : List ℕ) : Type 0 where
+  pub answer : r ≡ leavesAnswer db size root flags depth (length old)
+  pub leaves-are : leaves ≡ leavesWritten db size root flags depth old
+
+-- ---- carving: behind n rows come hits, as many as there is room for
+
+-- the words of those that are written
+pub record Puts (width room n : ℕ) (hs : List Hit) (rows cols rows′ cols′ : List ℕ) : Type 0 where
+  pub rows-are : rows′ ≡ sets rows (n * wordsPerRow) (rowsWords (rowsOf (take (room - n) hs)))
+  pub cols-are : cols′ ≡ sets cols (n * (wordsPerEntry * width)) (groupsWords width (take (room - n) hs))
+  -- each group is as wide as it should be
+  pub wide : length (groupsWords width (take (room - n) hs)) ≡ length (take (room - n) hs) * (wordsPerEntry * width)
+
+-- the answer where k hits come, and the stack overflowed or not
+abbrev pub carvedTo : ℕ → ℕ → ℕ → Bool → Carved
+carvedTo room n k full = cond (leb (n + k) room) (cond full (Short (n + k)) (More (n + k))) Over
+
+pub record Carves (width room n : ℕ) (hs : List Hit) (full : Bool) (rows cols : List ℕ) (r : Carved) (rows′ cols′ : List ℕ) : Type 0 where
+  pub answer : r ≡ carvedTo room n (length hs) full
+  pub puts : Puts width room n hs rows cols rows′ cols′
+
+-- what carving tables leaves
+pub record Tabled (carve : Carver) (db : List ℕ) (size : ℕ) (roots counts hints : List ℕ) (flags depth : ℕ) (rows cols : List ℕ) (r : Walked) (rows′ cols′ : List ℕ) : Type 0 where
+  pub answer : r ≡ tablesAnswer carve db size roots counts hints flags depth (length rows) (length cols)
+  pub rows-are : rows′ ≡ overlay (rowsWords (rowsOf (tablesWritten carve db size roots counts hints flags depth (length rows) (length cols)))) rows
+  pub cols-are : cols′ ≡ overlay (groupsWords (widest counts) (tablesWritten carve db size roots counts hints flags depth (length rows) (length cols))) cols

@@ -1,0 +1,4 @@
+pub mod Carve
+pub mod Collect
+pub mod Inner
+pub mod Walk

@@ -1,9 +1,10 @@
 //! Free blocks of one page: every short chain, every short payload, every place where a row may begin, and random ones.
 //! Pages of a size that a database has are given by their number too.
 
-use super::bytes::{every, varint, TELLING, TYPES};
+use super::bytes::{every, TELLING, TYPES};
 use super::databases::{harm, leaf, link, payload, put, SIZES};
-use super::regions::lists;
+use super::records::hints;
+use super::regions::{lists, with_tail};
 use crate::calls::{RECOVER_PAGE, RECOVER_SLICE};
 use crate::case::Case;
 use crate::random::Random;
@@ -150,19 +151,11 @@ fn short_payloads(sink: &mut dyn Sink) {
     });
 }
 
-/// A header of these types, and so many bytes for its bodies.
-fn with_bodies(types: &[u8], bodies: usize, wide: usize) -> Vec<u8> {
-    let mut bytes = varint((types.len() + wide) as u64, wide);
-    bytes.extend(types);
-    bytes.extend([0x80, 0x7F, 0xFF, 0x00, 0x41, 0xC3, 0xA9, 0x01].iter().cycle().take(bodies));
-    bytes
-}
-
 fn types(sink: &mut dyn Sink) {
     for kind in 0..=255 {
         for bodies in 0..=12 {
             for hint in 0..6 {
-                slice(sink, &around(&with_bodies(&[kind], bodies, 1), &BEHIND), 0, &[hint], 1);
+                slice(sink, &around(&with_tail(&[kind], bodies, 1), &BEHIND), 0, &[hint], 1);
             }
         }
     }
@@ -170,15 +163,15 @@ fn types(sink: &mut dyn Sink) {
         for b in TYPES {
             for bodies in [0, 1, 2, 4, 8, 16] {
                 for hints in [[0, 0], [0, 2], [1, 3], [2, 5], [3, 4], [4, 1]] {
-                    slice(sink, &around(&with_bodies(&[a, b], bodies, 1), &BEHIND), 0, &hints, 1);
-                    slice(sink, &around(&with_bodies(&[a, b], bodies, 2), &[]), 0, &hints, 1);
+                    slice(sink, &around(&with_tail(&[a, b], bodies, 1), &BEHIND), 0, &hints, 1);
+                    slice(sink, &around(&with_tail(&[a, b], bodies, 2), &[]), 0, &hints, 1);
                 }
             }
         }
     }
     every(&TYPES, 3, |types| {
         for bodies in [3, 12, 24] {
-            slice(sink, &around(&with_bodies(types, bodies, 1), &BEHIND), 0, &[0, 2, 3], 1);
+            slice(sink, &around(&with_tail(types, bodies, 1), &BEHIND), 0, &[0, 2, 3], 1);
         }
     });
 }
@@ -294,12 +287,8 @@ fn payloads(random: &mut Random, hints: &[u8]) -> Vec<Vec<u8>> {
     (0..random.below(6)).map(|_| payload(random, hints)).collect()
 }
 
-fn random_hints(random: &mut Random) -> Vec<u8> {
-    (0..1 + random.mostly_below(4, 50, 20)).map(|_| random.below(6) as u8).collect()
-}
-
 fn random_slice(sink: &mut dyn Sink, random: &mut Random) {
-    let hints = random_hints(random);
+    let hints = hints(random);
     let payloads = payloads(random, &hints);
     let head = if random.once_in(4) { random.below(12) } else { 0 };
     let whole: usize = payloads.iter().map(|p| p.len() + 4).sum();
@@ -327,7 +316,7 @@ fn random_links(sink: &mut dyn Sink, random: &mut Random) {
 
 /// A page of a database, given both ways; most are of the least size.
 fn random_page(sink: &mut dyn Sink, random: &mut Random) {
-    let hints = random_hints(random);
+    let hints = hints(random);
     let head = if random.once_in(2) { 100 } else { 0 };
     let mut page = vec![0; SIZES[random.mostly_below(1, 20, 5)]];
     leaf(&mut page, head, &payloads(random, &hints));
@@ -343,7 +332,7 @@ fn random_page(sink: &mut dyn Sink, random: &mut Random) {
 
 /// Every room from none to one more than is needed, in both lists and in each by itself.
 fn rooms(sink: &mut dyn Sink, random: &mut Random) {
-    let hints = random_hints(random);
+    let hints = hints(random);
     let mut page = vec![0; 512];
     leaf(&mut page, 0, &payloads(random, &hints));
     let found = rows(&Limits::of_the_rules(), &page, 0, &hints).len();

@@ -58,7 +58,7 @@ impl Recorder {
 
     fn take(&mut self, case: &Case) {
         let mut frame = Vec::new();
-        case.frame(&mut frame);
+        case.frame(calls::of(case).lists, &mut frame);
         if !self.taken.insert(frame) {
             return;
         }

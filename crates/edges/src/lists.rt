@@ -18,6 +18,9 @@ pub fn statements() {
     let two = b"(a INT, b TEXT)";
     hints(b"of 2 hints, 2 cells:", two, &mut [9; 2]);
     hints(b"of 2 hints, 1 cell:", two, &mut [9; 1]);
+}
+
+pub fn long_statements() {
     let mut long = [b'x'; 65_537];
     long[65_533] = b'(';
     long[65_534] = b'a';

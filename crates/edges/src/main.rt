@@ -14,6 +14,7 @@ fn main() {
     shares::all();
     reals::all();
     lists::statements();
+    lists::long_statements();
     lists::searches();
     records::scans();
     records::long_rows();

@@ -24,7 +24,7 @@ pub fn all(sink: &mut dyn Sink) {
 
 /// Headers that make no row, with a row behind each, so that the count and the next offset show.
 fn failures(sink: &mut dyn Sink) {
-    let headers: [&[u8]; 14] = [
+    let headers: [&[u8]; 15] = [
         // The length is below 2, in one byte and in more,
         &[0],
         &[1],
@@ -34,7 +34,8 @@ fn failures(sink: &mut dyn Sink) {
         &[0x84, 1],
         &[0xFF, 0xFF, 0xFF, 0xFF, 0xFF, 0xFF, 0xFF, 0xFF, 0xFF],
         &[0x20],
-        // A type is too few, in as many bytes as two and in fewer, or too many.
+        &[0x82, 0],
+        // There is a type too few, in one byte and in two, or too many.
         &[2, 1, 0x2A],
         &[3, 0x80, 1, 0x2A],
         &[4, 1, 0x0F, 8, 0x2A, 0x2A],

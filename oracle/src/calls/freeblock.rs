@@ -4,10 +4,9 @@ use super::page::{cleared, enough_flags, page_number, refusal_of, same_end, walk
 use super::scan::{entries, same_columns, signature};
 use super::{all, held, Given};
 use crate::case::{Answer, Case};
-use crate::rules::attempt::Found;
 use crate::rules::freeblock::rows;
 use crate::rules::limits::{first, room, Limits, WORDS_PER_ENTRY, WORDS_PER_ROW};
-use crate::rules::page;
+use crate::rules::page::{self, Page};
 use crate::rules::walk::{walk, End};
 use given::btree::get_page_data;
 use given::context::RecoveryContext;
@@ -36,18 +35,18 @@ impl Sheet {
         Sheet { room: room(rows, entries, width.max(1)), width, written: 0, rows: Vec::new(), entries: Vec::new() }
     }
 
-    /// Writes the rows of one page, which begins at `start` in the lent slice; false where one found no room.
-    fn page(&mut self, limits: &Limits, base: u64, start: usize, table: usize, found: &[(usize, Found)]) -> bool {
-        for (at, found) in found {
+    /// Writes the rows of one page; false where one found no room.
+    fn page(&mut self, limits: &Limits, page: &Page, base: u64, table: usize, hints: &[u8]) -> bool {
+        for (at, found) in rows(limits, page.bytes, page.header, hints) {
             if self.written == self.room {
                 return false;
             }
             self.written += 1;
-            let place = (start + at) as u64;
+            let place = (page.start + at) as u64;
             let confidence = found.suited as f32 / found.kinds.len() as f32 * limits.freed;
             let bits = u64::from(confidence.to_bits());
             self.rows.extend([base + place, found.consumed, 0, 0, FREELIST, 0, bits, 4 * table as u64]);
-            self.entries.extend(entries(place, found));
+            self.entries.extend(entries(place, &found));
             self.entries.extend(UNUSED.repeat(self.width - found.kinds.len()));
         }
         true
@@ -60,10 +59,10 @@ impl Sheet {
 }
 
 /// The rows of a single page.
-fn carve(limits: &Limits, case: &Case, start: usize, page: &[u8], head: usize, base: u64) -> Answer {
+fn carve(limits: &Limits, case: &Case, page: &Page, base: u64) -> Answer {
     let hints = &case.slices[1];
     let mut sheet = Sheet::new(case.lists[0], case.lists[1], hints.len());
-    let whole = sheet.page(limits, base, start, 0, &rows(limits, page, head, hints));
+    let whole = sheet.page(limits, page, base, 0, hints);
     sheet.answer(if whole { End::Through } else { End::NoRoom }, Vec::new())
 }
 
@@ -71,7 +70,7 @@ pub fn slice(limits: &Limits, case: &Case) -> Answer {
     let (head, base) = (case.numbers[0] as usize, case.numbers[1]);
     match limits.region_refusal(&case.slices[0], &case.slices[1], base) {
         Some(number) => Answer::refused(number, 1, 2),
-        None => carve(limits, case, 0, &case.slices[0], head, base),
+        None => carve(limits, case, &Page { bytes: &case.slices[0], start: 0, header: head }, base),
     }
 }
 
@@ -81,7 +80,7 @@ pub fn page(limits: &Limits, case: &Case) -> Answer {
     let refused =
         limits.region_refusal(db, &case.slices[1], 0).or(first(&[(5, !limits.page_size(size)), (6, found.is_none())]));
     match found.filter(|_| refused.is_none()) {
-        Some(page) => carve(limits, case, page.start, &db[page.start..][..size as usize], page.header, 0),
+        Some(page) => carve(limits, case, &page, 0),
         None => Answer::refused(refused.unwrap_or(0), 1, 2),
     }
 }
@@ -116,18 +115,11 @@ pub fn tables(limits: &Limits, case: &Case) -> Answer {
     }
     let (db, size) = (&case.slices[0], case.numbers[0]);
     let mut sheet = Sheet::new(case.lists[2], case.lists[3], widest(case));
-    let mut end = if enough_flags(case) { End::Through } else { End::StackFull };
+    let mut end = if enough_flags(case) { End::Through } else { End::NoSpace };
     for (i, (root, hints)) in lent_tables(case).into_iter().enumerate() {
-        if end != End::Through {
-            break;
+        if end == End::Through {
+            (end, _) = walk(limits, db, size, root, case.lists[1], |_, page| sheet.page(limits, page, 0, i, hints));
         }
-        let leaf = |number| {
-            page::page(limits, db, size, number).is_none_or(|page| {
-                let bytes = &db[page.start..][..size as usize];
-                sheet.page(limits, 0, page.start, i, &rows(limits, bytes, page.header, hints))
-            })
-        };
-        (end, _) = walk(limits, db, size, root, case.lists[1], leaf);
     }
     sheet.answer(end, cleared(case).to_vec())
 }

@@ -52,7 +52,7 @@ pub fn enough_flags(case: &Case) -> bool {
 pub fn refusal_of(end: End) -> u64 {
     match end {
         End::Through => 0,
-        End::StackFull => 8,
+        End::NoSpace => 8,
         End::NoRoom => 9,
     }
 }
@@ -63,17 +63,16 @@ pub fn leaves(limits: &Limits, case: &Case) -> Answer {
         return Answer::refused(number, 1, 3);
     }
     let mut leaves = Vec::new();
-    let mut number = 8;
+    let mut end = End::NoSpace;
     if enough_flags(case) {
-        let (end, _) = walk(limits, db, size, root, case.lists[1], |page| {
+        (end, _) = walk(limits, db, size, root, case.lists[1], |number, _| {
             let fits = leaves.len() < case.lists[2];
-            leaves.extend(fits.then_some(page));
+            leaves.extend(fits.then_some(number));
             fits
         });
-        number = refusal_of(end);
     }
     let [flags, stack] = cleared(case);
-    Answer { number, out: vec![leaves.len() as u64], lists: vec![flags, stack, leaves] }
+    Answer { number: refusal_of(end), out: vec![leaves.len() as u64], lists: vec![flags, stack, leaves] }
 }
 
 /// Whether the Rust has something to say of a walk: it has no refusals before the work.

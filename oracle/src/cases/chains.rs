@@ -3,6 +3,7 @@
 
 use super::bytes::{every, TELLING, TYPES};
 use super::databases::{harm, leaf, link, payload, put, SIZES};
+use super::limits::{exact, long_row};
 use super::records::hints;
 use super::regions::{lists, with_tail};
 use crate::calls::{RECOVER_PAGE, RECOVER_SLICE};
@@ -22,6 +23,8 @@ pub fn all(sink: &mut dyn Sink, random: &mut Random, count: usize) {
     short_payloads(sink);
     types(sink);
     starts(sink);
+    header_lengths(sink);
+    long_rows(sink);
     heads(sink);
     bases(sink);
     refusals(sink, &sample());
@@ -192,6 +195,32 @@ fn starts(sink: &mut dyn Sink) {
                     slice(sink, &around(&whole[..length], &whole[length..]), 0, hints, 2);
                 }
             }
+        }
+    }
+}
+
+/// Headers up to the longest, in blocks that end with them, before, and after.
+fn header_lengths(sink: &mut dyn Sink) {
+    for h in [2, 3, 127, 128, 510, 511, 512, 513, 514] {
+        for (wide, columns) in [(1, 1), (1, 126), (2, 57), (2, 125), (2, 126), (3, 126)] {
+            let Some(header) = exact(h, wide, columns, 8) else {
+                continue;
+            };
+            for end in [header.len() - 1, header.len()] {
+                slice(sink, &around(&header[..end], &header[end..]), 0, &vec![0; columns], 1);
+                slice(sink, &around(&header[..end], &header[end..]), 0, &vec![5; columns - 1], 1);
+            }
+        }
+    }
+}
+
+/// Rows that end where their block does, and one byte behind, up to the longest block.
+fn long_rows(sink: &mut dyn Sink) {
+    for payload in [20, 400, 4000, 65_530, 65_531] {
+        for total in payload - 1..=payload + 1 {
+            let mut bytes = long_row(total, 1, 1, true);
+            bytes.resize(payload, b'a');
+            slice(sink, &around(&bytes, b"aaa"), 0, &[0, 2], 1);
         }
     }
 }

@@ -41,7 +41,7 @@ fn ample(sink: &mut dyn Sink, db: &Database, root: u64) {
 /// The leaves of a walk without bounds, and how many pages its stack holds at most.
 pub fn needs(db: &Database, root: u64) -> (usize, usize) {
     let mut leaves = 0;
-    let (_, most) = walk(&Limits::of_the_rules(), &db.bytes, db.size as u64, root, usize::MAX, |_| {
+    let (_, most) = walk(&Limits::of_the_rules(), &db.bytes, db.size as u64, root, usize::MAX, |_, _| {
         leaves += 1;
         true
     });

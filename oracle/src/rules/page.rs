@@ -3,8 +3,9 @@
 use crate::rules::limits::Limits;
 use std::collections::HashSet;
 
-/// Where a page begins in its database, and where its b-tree header stands in it.
-pub struct Page {
+/// A page, where it begins in its database, and where its b-tree header stands in it.
+pub struct Page<'a> {
+    pub bytes: &'a [u8],
     pub start: usize,
     pub header: usize,
 }
@@ -14,12 +15,13 @@ pub fn whole_pages(db: &[u8], size: u64) -> u64 {
     (db.len() as u64).checked_div(size).unwrap_or(0)
 }
 
-pub fn page(limits: &Limits, db: &[u8], size: u64, number: u64) -> Option<Page> {
+pub fn page<'a>(limits: &Limits, db: &'a [u8], size: u64, number: u64) -> Option<Page<'a>> {
     if number == 0 || number > whole_pages(db, size) {
         return None;
     }
+    let start = ((number - 1) * size) as usize;
     let header = if number == 1 { limits.first_header } else { 0 };
-    Some(Page { start: ((number - 1) * size) as usize, header })
+    Some(Page { bytes: &db[start..][..size as usize], start, header })
 }
 
 /// The number in so many bytes, where they are all there.

@@ -6,7 +6,7 @@ use mathlib.Core.List.{List, [], _∷_, _++_, map}
 use lib.ListN.{replicate}
 use Rattle.listing.specs.Input.{hintsOf, regionOf, inputChecks}
 use Rattle.listing.specs.Part.{rowSpace, colSpace, partText, partAnswer, partsFrom, partsOf, rowsSum, readSum}
-use Rattle.listing.specs.Text.{decimalFrom, decimal, hexDigit, hex8, typeText, typesText, lineText, rowsText, heading, totalsLine, refusalLine}
+use Rattle.listing.specs.Text.{decimalFrom, decimal, hexDigit, hex8, typeText, typesText, numbersText, lineText, rowsText, heading, totalsLine, refusalLine}
 use lib.Ieee.{ofInt, div, round, toBits}
 use Rattle.record.specs.Places.{varintPlaces}
 use Rattle.record.specs.Value.{bodyLength}
@@ -67,5 +67,5 @@ cases =
     ∷ []
 
 table : map computed cases ≡ map expected cases
-unfolding printedIf printed computed expected cases partText partAnswer partsFrom partsOf decimalFrom decimal hexDigit hex8 typeText typesText lineText rowsText heading totalsLine refusalLine ofInt div round toBits varintPlaces bodyLength varintFrom varintAt headerFits typesFrom bodiesFrom judged attemptAt isInteger isReal isText isBlob suits typePlaces attemptPlaces scanFrom scanAnswer scanRows scanCols columnWords roomOf share countFits hintsKnown rowWords
+unfolding printedIf printed computed expected cases partText partAnswer partsFrom partsOf decimalFrom decimal hexDigit hex8 typeText typesText numbersText lineText rowsText heading totalsLine refusalLine ofInt div round toBits varintPlaces bodyLength varintFrom varintAt headerFits typesFrom bodiesFrom judged attemptAt isInteger isReal isText isBlob suits typePlaces attemptPlaces scanFrom scanAnswer scanRows scanCols columnWords roomOf share countFits hintsKnown rowWords
 table = refl

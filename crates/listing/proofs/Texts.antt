@@ -8,7 +8,7 @@ use native.Mathlib.Numerals.{add-one}
 use native.Mathlib.Omega.{arith}
 use borrow.Author.Tests.{lt-ltb, le-ltb}
 use lib.ListN.{getD, length-append}
-use Rattle.listing.specs.Inner.{Put, mostField, mostFields, mostLine}
+use Rattle.listing.specs.Inner.{Put, mostField, mostNumbers, mostLine}
 use Rattle.listing.specs.Text.{mostDigits, decimalFrom, decimal, field, hex8, typeText, typesText, lineText, rowsText}
 use Rattle.io.specs.Digits.{digits, Fewest}
 use Rattle.listing.specs.Part.{rowSpace, colSpace, textSpace}
@@ -27,18 +27,6 @@ put-more {before} {between} {after} {at} {p} {r} {t} {u} a b =
       written = b .written ∙ rw (a .written, a .ends) (sets-append before at t u);
       ends = omega (arith, a .ends, b .ends, length-append t u);
     }
-
-pub line-put : (rows cols : List ℕ) (width n : ℕ) {o₀ o₁ o₂ o₃ o₄ o₅ o₆ : List ℕ} {at p₁ p₂ p₃ p₄ p₅ r : ℕ}
-    → Put o₀ at (field (getD rows (n * wordsPerRow) 0)) o₁ p₁
-    → Put o₁ p₁ (field (getD rows (n * wordsPerRow + 1) 0)) o₂ p₂
-    → Put o₂ p₂ (hex8 (getD rows (n * wordsPerRow + 6) 0)) o₃ p₃
-    → Put o₃ p₃ (32 ∷ []) o₄ p₄
-    → Put o₄ p₄ (typesText cols (n * (wordsPerEntry * width)) width) o₅ p₅
-    → Put o₅ p₅ (10 ∷ []) o₆ r
-    → Put o₀ at (lineText rows cols width n) o₆ r
-unfolding lineText
-line-put rows cols width n offset consumed confidence blank types end =
-    put-more (put-more (put-more (put-more (put-more offset consumed) confidence) blank) types) end
 
 -- ---- digits
 
@@ -117,7 +105,7 @@ room-holds width (suc m) h =
     let c = room-cols rowSpace colSpace width m h in
     let e = suc-mul m (mostLine width) in
     let d = suc-mul m (wordsPerEntry * width) in
-    let x = mul-add m mostFields (mostField * width) in
+    let x = mul-add m (mostNumbers + 1) (mostField * width) in
     let y = mul-left-comm m mostField width in
     let z = mul-left-comm m wordsPerEntry width in
     (omega arith, omega arith, omega arith)

@@ -12,13 +12,14 @@ pub record Put (before : List ℕ) (at : ℕ) (text after : List ℕ) (r : ℕ) 
   pub written : after ≡ sets before at text
   pub ends : r ≡ at + length text
 
--- the most bytes of a number with the byte that ends or parts it, and of a line: two fields, a confidence and its blank, the types,
--- and the line's end
+-- the most bytes of a number with the byte that ends or parts it,
 abbrev pub mostField : ℕ
 mostField = mostDigits + 1
 
-abbrev pub mostFields : ℕ
-mostFields = 2 * mostField + (hexDigits + 1) + 1
+-- of a line up to its types: two fields, a confidence and its blank,
+abbrev pub mostNumbers : ℕ
+mostNumbers = 2 * mostField + (hexDigits + 1)
 
+-- and of a line
 abbrev pub mostLine : ℕ → ℕ
-mostLine width = mostFields + mostField * width
+mostLine width = mostNumbers + 1 + mostField * width

@@ -54,13 +54,14 @@ unfoldable pub typesText : List ℕ → ℕ → ℕ → List ℕ
 typesText cols group zero = []
 typesText cols group (suc k) = typesText cols group k ++ typeText k (getD cols (group + wordsPerEntry * k + 1) 0)
 
--- the row n of both lists: offset, bytes consumed, confidence bits (its words 0, 1 and 6) and types, with blanks between, and a line end
+-- offset, bytes consumed and confidence bits, each with the blank behind it
+unfoldable pub numbersText : ℕ → ℕ → ℕ → List ℕ
+numbersText offset consumed bits = field offset ++ field consumed ++ hex8 bits ++ 32 ∷ []
+
+-- the row n of both lists: its words 0, 1 and 6, its types, and a line end
 unfoldable pub lineText : List ℕ → List ℕ → ℕ → ℕ → List ℕ
 lineText rows cols width n =
-    field (getD rows (n * wordsPerRow) 0)
-    ++ field (getD rows (n * wordsPerRow + 1) 0)
-    ++ hex8 (getD rows (n * wordsPerRow + 6) 0)
-    ++ 32 ∷ []
+    numbersText (getD rows (n * wordsPerRow) 0) (getD rows (n * wordsPerRow + 1) 0) (getD rows (n * wordsPerRow + 6) 0)
     ++ typesText cols (n * (wordsPerEntry * width)) width
     ++ 10 ∷ []
 

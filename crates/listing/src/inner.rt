@@ -5,8 +5,8 @@ use sheet::WORDS_PER_ROW;
 ghost use mathlib.Core.Path.{_≡_};
 ghost use Prim.Native.Nat.{_+_, _*_, _≤_, _<_};
 ghost use lib.ListN.{length};
-ghost use Rattle.listing.specs.Inner.{Put, mostField, mostLine};
-ghost use Rattle.listing.specs.Text.{mostDigits, hexDigits, decimal, field, hexDigit, hex8, typeText, typesText, lineText, rowsText};
+ghost use Rattle.listing.specs.Inner.{Put, mostField, mostNumbers, mostLine};
+ghost use Rattle.listing.specs.Text.{mostDigits, hexDigits, decimal, field, hexDigit, hex8, typeText, typesText, numbersText, lineText, rowsText};
 ghost use Rattle.sheet.specs.Limits.{wordsPerRow, wordsPerEntry};
 
 // The digits of the largest word.
@@ -102,6 +102,18 @@ fn put_types(out: &mut [u8], at: usize, cols: &[u64], group: usize, width: usize
     to
 }
 
+// Offset, bytes consumed and confidence.
+fn put_numbers(out: &mut [u8], at: usize, offset: u64, consumed: u64, bits: u64) -> usize
+    requires { ⌜ at + mostNumbers ≤ length (now out) ⌝ }
+    ensures { λ r. ⌜ Put (now (out .entry)) at (numbersText offset consumed bits) (now (out .exit)) r ⌝ }
+    ensures near { λ r. ⌜ r ≤ at + mostNumbers ⌝ }
+{
+    let at = put_field(out, at, offset);
+    let at = put_field(out, at, consumed);
+    let at = put_hex(out, at, bits);
+    put_bytes(out, at, b" ")
+}
+
 // The line of the row n of both lists.
 fn put_line(out: &mut [u8], at: usize, rows: &[u64], cols: &[u64], width: usize, n: usize) -> usize
     requires { ⌜ at + mostLine width ≤ length (now out) ⌝ }
@@ -111,10 +123,7 @@ fn put_line(out: &mut [u8], at: usize, rows: &[u64], cols: &[u64], width: usize,
     ensures near { λ r. ⌜ r ≤ at + mostLine width ⌝ }
 {
     let row = n * WORDS_PER_ROW;
-    let consumed = put_field(out, at, rows[row]);
-    let confidence = put_field(out, consumed, rows[row + 1]);
-    let blank = put_hex(out, confidence, rows[row + 6]);
-    let types = put_bytes(out, blank, b" ");
+    let types = put_numbers(out, at, rows[row], rows[row + 1], rows[row + 6]);
     let end = put_types(out, types, cols, n * (WORDS_PER_ENTRY * width), width);
     put_bytes(out, end, b"\n")
 }

@@ -1,52 +1,40 @@
--- `listing::inner::put_line` meets its contract: its fields stand one behind the other.
+-- `listing::inner::put_line` meets its contract: numbers, types and line end stand one behind the other.
 -- Assumes nothing.
-use denote.Ref.{now}
 use borrow.Author.Needs.{needs}
-use Rattle.listing.proofs.Texts.{line-put}
+use Rattle.listing.proofs.Texts.{put-more}
+use Rattle.listing.specs.Text.{lineText}
 use Rattle.listing.proofs.inner.put_line.Statement.{statement}
 use Rattle.listing.proofs.inner.put_line.Tie as tie
 
 mul-row : tie.Need-mul-row
 mul-row c = search needs
 
-mul-put-field : tie.Need-mul-put-field
-mul-put-field c = search needs
+mul-put-numbers : tie.Need-mul-put-numbers
+mul-put-numbers c = search needs
 
-shared-slice-read-put-field : tie.Need-shared-slice-read-put-field
-shared-slice-read-put-field c = search needs
+shared-slice-read-put-numbers : tie.Need-shared-slice-read-put-numbers
+shared-slice-read-put-numbers c = search needs
 
-put-field-requires : tie.Need-put-field-requires
-put-field-requires c κs = search needs
+add-put-numbers : tie.Need-add-put-numbers
+add-put-numbers c = search needs
 
-add-put-field : tie.Need-add-put-field
-add-put-field c = search needs
+mul-put-numbers-2 : tie.Need-mul-put-numbers-2
+mul-put-numbers-2 c = search needs
 
-mul-put-field-2 : tie.Need-mul-put-field-2
-mul-put-field-2 c = search needs
+shared-slice-read-put-numbers-2 : tie.Need-shared-slice-read-put-numbers-2
+shared-slice-read-put-numbers-2 c = search needs
 
-shared-slice-read-put-field-2 : tie.Need-shared-slice-read-put-field-2
-shared-slice-read-put-field-2 c = search needs
+add-put-numbers-2 : tie.Need-add-put-numbers-2
+add-put-numbers-2 c = search needs
 
-put-field-requires-2 : tie.Need-put-field-requires-2
-put-field-requires-2 c κs = search needs
+mul-put-numbers-3 : tie.Need-mul-put-numbers-3
+mul-put-numbers-3 c = search needs
 
-add-put-hex : tie.Need-add-put-hex
-add-put-hex c = search needs
+shared-slice-read-put-numbers-3 : tie.Need-shared-slice-read-put-numbers-3
+shared-slice-read-put-numbers-3 c = search needs
 
-mul-put-hex : tie.Need-mul-put-hex
-mul-put-hex c = search needs
-
-shared-slice-read-put-hex : tie.Need-shared-slice-read-put-hex
-shared-slice-read-put-hex c = search needs
-
-put-hex-requires : tie.Need-put-hex-requires
-put-hex-requires c κs = search needs
-
-slice-aggregate-put-bytes : tie.Need-slice-aggregate-put-bytes
-slice-aggregate-put-bytes c = search needs
-
-put-bytes-requires : tie.Need-put-bytes-requires
-put-bytes-requires c κs = search needs
+put-numbers-requires : tie.Need-put-numbers-requires
+put-numbers-requires c κs = search needs
 
 mul-put-types : tie.Need-mul-put-types
 mul-put-types c = search needs
@@ -57,45 +45,40 @@ mul-put-types-2 c = search needs
 put-types-requires : tie.Need-put-types-requires
 put-types-requires c κs = search needs
 
-slice-aggregate-put-bytes-2 : tie.Need-slice-aggregate-put-bytes-2
-slice-aggregate-put-bytes-2 c = search needs
+slice-aggregate-put-bytes : tie.Need-slice-aggregate-put-bytes
+slice-aggregate-put-bytes c = search needs
 
-put-bytes-requires-2 : tie.Need-put-bytes-requires-2
-put-bytes-requires-2 c κs = search needs
+put-bytes-requires : tie.Need-put-bytes-requires
+put-bytes-requires c κs = search needs
 
 same-length : tie.Need-same-length
 same-length c = search needs
 
 returns : tie.Need-returns
+unfolding lineText
 returns c =
-    let a = c .before .before .before .before .before .before .before .before .before .before .before .before .before .before .before .before .before .before .before .before .before .before .before .before .before .before .before .before .before .before .before .before .args in (
-      line-put (now (a .rows)) (now (a .cols)) (a .width) (a .n) (c .before .before .before .before .before .before .before .before .before .before .before .before .before .before .before .before .before .before .before .before .before .before .before .before .before .before .put-field .ensures .0) (c .before .before .before .before .before .before .before .before .before .before .before .before .before .before .before .before .before .before .before .before .before .put-field2 .ensures .0)
-          (c .before .before .before .before .before .before .before .before .before .before .before .before .before .before .before .before .put-hex .ensures .0) (c .before .before .before .before .before .before .before .before .before .before .before .put-bytes .ensures) (c .before .before .before .before .before .before .before .put-types .ensures .0) (c .before .before .put-bytes2 .ensures),
-      search needs,
-    )
+    let types = c .before .before .before .before .before .before .before in
+    let numbers = types .before .before .before .before in
+    (put-more (put-more (numbers .put-numbers .ensures .0) (types .put-types .ensures .0)) (c .before .before .put-bytes .ensures), search needs)
 
 pub put-line-spec : {M : Type 1} → statement M
 put-line-spec =
     tie.close
     (tie.spec
     mul-row
-    mul-put-field
-    shared-slice-read-put-field
-    put-field-requires
-    add-put-field
-    mul-put-field-2
-    shared-slice-read-put-field-2
-    put-field-requires-2
-    add-put-hex
-    mul-put-hex
-    shared-slice-read-put-hex
-    put-hex-requires
-    slice-aggregate-put-bytes
-    put-bytes-requires
+    mul-put-numbers
+    shared-slice-read-put-numbers
+    add-put-numbers
+    mul-put-numbers-2
+    shared-slice-read-put-numbers-2
+    add-put-numbers-2
+    mul-put-numbers-3
+    shared-slice-read-put-numbers-3
+    put-numbers-requires
     mul-put-types
     mul-put-types-2
     put-types-requires
-    slice-aggregate-put-bytes-2
-    put-bytes-requires-2
+    slice-aggregate-put-bytes
+    put-bytes-requires
     same-length
     returns)

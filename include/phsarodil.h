@@ -1,20 +1,30 @@
 /*
  * Phsarodil: rows carved out of what is left in SQLite pages.
  *
- * Link with libphsarodil.a (x86-64 Linux), which `rt staticlib phsarodil` writes to target/staticlib.
+ * Link with libphsarodil.a (x86-64 Linux), which `rt staticlib phsarodil` writes to target/staticlib, and see that
+ * phs_version() == PHS_VERSION before anything else.
  *
  * Memory. A call allocates nothing, keeps no pointer and has no state, so calls may run on any threads at once. All
  * memory stays the caller's. A slice is a pointer and a length in elements. No pointer may be NULL, not even where its
  * length is 0, and memory that a call writes may overlap nothing else that is lent to the same call. A call reads
  * nothing outside its slices and takes any bytes and numbers whatever: what it cannot answer it refuses.
  *
- * Answers. Each call returns a refusal number, 0 for none, and puts the rest of its answer into `out`. Every word of
- * `out` is written by every call; a word with nothing to say is 0.
+ * Answers. Each call but phs_version returns a refusal number, 0 for none, and puts the rest of its answer into `out`.
+ * Every word of `out` is written by every call; a word with nothing to say is 0.
  *
  * Lists. Rows and their column entries go into two lists, `rows` and `cols`, which are filled from the front. Row i
  * has the words rows[8 * i ..] and, for n hints, the n entries cols[4 * n * i ..]. There is room for the smaller of
  * rows_len / 8 and cols_len / (4 * n) rows. Only the cells of rows that out[0] counts are written; all others keep
- * what they held. Refusals 1 to 7 write neither list.
+ * what they held. Hints and places go into one list in the same way. Refusals 1 to 7 write no list.
+ *
+ * What a scan gives away. All that it writes and answers is a function of its other arguments, of the region's length
+ * and of the bytes that it read as headers. But a row is a guess: any bytes that read as a header of the right number
+ * of types, one of which suits its hint. Where these bytes were text, the row's types are that text, a byte each. A
+ * type also shows an integer's size and that a REAL is whole, a length how long a note is. Dropping rows of low
+ * confidence makes text in types rarer; nothing excludes it. README, "What the sheet gives away", has an example.
+ *
+ * Not given by any call so far, and declared for those to come:
+ *     sources, modes and states other than 0; a row id, a percent, or the index of a table.
  */
 #ifndef PHSARODIL_H
 #define PHSARODIL_H
@@ -26,6 +36,15 @@
 extern "C" {
 #endif
 
+/*
+ * The version of this header. It changes when the words of a row, of an entry or of an answer do, or what a call takes;
+ * a call that is added leaves it.
+ */
+#define PHS_VERSION 1
+
+/* The version of the library. Where it is not PHS_VERSION, no other call may be made. */
+uint64_t phs_version(void);
+
 /* Refusals. The checks of a call come in rising order, unless it says otherwise; the first that holds is returned. */
 enum phs_refusal {
     PHS_OK = 0,
@@ -35,9 +54,9 @@ enum phs_refusal {
     PHS_BASE_TOO_FAR = 4,   /* a base above PHS_LARGEST_BASE */
     PHS_PAGE_SIZE = 5,      /* not a page size of the file format */
     PHS_NO_SUCH_PAGE = 6,   /* page 0, or a page that is not wholly in the database */
-    PHS_NO_COLUMN_LIST = 7, /* a statement without brackets around its columns */
+    PHS_NO_COLUMN_LIST = 7, /* a statement without a '(', or without a ')' behind it */
     PHS_WALK_SPACE = 8,     /* too few page flags, or a full page stack */
-    PHS_NO_ROOM = 9         /* one row more than there is room for */
+    PHS_NO_ROOM = 9         /* one row, hint, place or leaf more than the lent list takes */
 };
 
 #define PHS_WORDS_PER_ROW 8
@@ -49,8 +68,8 @@ enum phs_refusal {
 
 /* What a column is expected to hold. Every hint takes a NULL. */
 enum phs_hint {
-    PHS_HINT_INTEGER = 0,
-    PHS_HINT_REAL = 1,
+    PHS_HINT_INTEGER = 0, /* takes the whole values of a REAL column, too, which are stored as integers */
+    PHS_HINT_REAL = 1,    /* does not take them */
     PHS_HINT_TEXT = 2,
     PHS_HINT_BLOB = 3,
     PHS_HINT_NULL = 4,
@@ -116,6 +135,8 @@ uint64_t phs_body_length(uint64_t kind, uint64_t out[2]);
  * out: its tag, PHS_NONE if the type is 10 or 11 or the body leaves the slice;
  *      the bits of an integer, two's complement, or of a real, a double's, any NaN's payload with them;
  *      where a text or a blob starts; the bytes that the body takes.
+ * The types 0, 8 and 9 have no body and leave no slice: they have their value at any offset. Any other body leaves the
+ * slice if offset + length > len, an empty one too: type 12 has a value at offset len, and none behind it.
  * A text is bytes: nothing says that they are UTF-8. Returns 0.
  */
 uint64_t phs_decode_serial_type(uint64_t kind, const uint8_t *bytes, size_t len, size_t offset, uint64_t out[4]);
@@ -124,7 +145,8 @@ uint64_t phs_decode_serial_type(uint64_t kind, const uint8_t *bytes, size_t len,
  * The value of a column entry, given as its four words, over the slice that its row was found in.
  * out: tag, bits and start as above; the length of a text or a blob.
  * Returns PHS_MALFORMED for a bad entry: the state is above 3 or, in state 0, the length is not the type's, the type
- * is 10 or 11, or the body leaves the slice.
+ * is 10 or 11, or the body leaves the slice. Here that is start + length > len whatever the type: over an empty slice
+ * the entry 0, 0, 1, 0 is bad, though phs_decode_serial_type finds a NULL at offset 1.
  */
 uint64_t phs_read_entry(uint64_t state, uint64_t kind, uint64_t start, uint64_t length, const uint8_t *bytes,
                         size_t len, uint64_t out[4]);
@@ -146,7 +168,7 @@ uint64_t phs_is_compatible(uint8_t hint, uint64_t kind, uint64_t out[1]);
 
 /*
  * The row that starts at region[offset], if there is one, for a table whose columns have these hints. `base` is where
- * the region lies in its file; it is added to row offsets only.
+ * the region lies in its file; it is added to row offsets only. Unlike the scan it finds a row in the last two bytes.
  * out: the rows written, 0 or 1; 0; 0.
  * Returns PHS_COLUMN_COUNT, PHS_MALFORMED, PHS_TOO_LARGE, PHS_BASE_TOO_FAR, or PHS_NO_ROOM for a row without room.
  */
@@ -155,8 +177,9 @@ uint64_t phs_try_parse_record(const uint8_t *region, size_t len, const uint8_t *
                               uint64_t out[3]);
 
 /*
- * All rows of a region from `start` on, one behind the other: behind a row the scan goes on at its end, elsewhere at
- * the next byte. No row starts in the last two bytes.
+ * The rows of a region from `start` on, one behind the other: behind a row the scan goes on at its end, elsewhere at
+ * the next byte. No row starts in the last two bytes. A row that is none hides the true ones that start inside it: on
+ * real pages that can be most of them (docs/BENCH.md), and phs_try_parse_record at every offset finds them.
  * out: the rows written; the place, which is `len` when the scan is through; the header bytes that it read to decide.
  * Returns PHS_COLUMN_COUNT, PHS_MALFORMED, PHS_TOO_LARGE or PHS_BASE_TOO_FAR; or PHS_NO_ROOM, with the place of the
  * first row that found no room. With room for at least one row, calling again with that place for `start` goes on
@@ -167,9 +190,22 @@ uint64_t phs_scan_region(const uint8_t *region, size_t len, const uint8_t *hints
                          uint64_t out[3]);
 
 /*
- * The hints of a CREATE TABLE statement, one code of enum phs_hint for each column. A column that is the key itself
- * (INTEGER PRIMARY KEY) gets none: its record holds a NULL there, so for such a table lend PHS_HINT_NULL as well, in
- * that column's place.
+ * The hints of a CREATE TABLE statement: a code of enum phs_hint for each piece between commas, from the first '(' to
+ * the last ')'. That is one for each column of a plain table (I stands for INTEGER, R for REAL, and so on):
+ *     t(plot INT, note TEXT)                 IT
+ * but commas in brackets, quotes and comments split as well, and a piece that begins with the letters PRIMARY, UNIQUE,
+ * CHECK, FOREIGN or CONSTRAINT is left out, a column of such a name too. Of a piece the second word decides:
+ *     t(price DECIMAL(10,2), n INT)          RAI   one too many
+ *     t(a INT, b INT, PRIMARY KEY(a, b))     IIA   one too many
+ *     t(a TEXT DEFAULT 'x,y', n INT)         TAI   one too many
+ *     t(check_day TEXT, n INT)               I     one too few
+ *     t(primary_mail TEXT, n INT)            I     one too few
+ *     t("my note" TEXT, n INT)               AI    not a text
+ * A piece that holds INTEGER, PRIMARY and KEY anywhere is left out. That is meant for the key itself: its record holds
+ * a NULL there, so for such a table lend PHS_HINT_NULL as well, in that column's place:
+ *     t(id INTEGER PRIMARY KEY, n INT)       I     lend NI
+ * A scan with a hint too many or too few finds no row that holds all columns: compare out[0] with their number.
+ * A statement is meant to be ASCII: a byte above 127 is no blank, and is compared as it is.
  * out: the hints written, from the front.
  * Returns PHS_TOO_LARGE, PHS_NO_COLUMN_LIST or PHS_COLUMN_COUNT, in this order and with `hints` as it was; or
  * PHS_NO_ROOM, with as many hints as there was room for.
@@ -177,12 +213,36 @@ uint64_t phs_scan_region(const uint8_t *region, size_t len, const uint8_t *hints
 uint64_t phs_from_create_sql(const uint8_t *statement, size_t len, uint8_t *hints, size_t hints_len, uint64_t out[1]);
 
 /*
- * The places of a pattern in a haystack, rising; they may overlap. An empty pattern is nowhere.
+ * The places of a pattern in a haystack, rising; they may overlap. An empty pattern is nowhere, and so is one that is
+ * longer than the haystack: a pattern may be of any size. At worst, as in a haystack of one byte over and over, the
+ * search takes len * pattern_len steps.
  * out: the places written, from the front.
  * Returns PHS_TOO_LARGE, with `places` as it was; or PHS_NO_ROOM, with the first places, as many as there was room for.
  */
 uint64_t phs_boyer_moore_search(const uint8_t *haystack, size_t len, const uint8_t *pattern, size_t pattern_len,
                                 uint64_t *places, size_t places_len, uint64_t out[1]);
+
+/*
+ * A page of a database by its number; pages count from 1.
+ * out: where the page starts in `db`; its length; where its b-tree header stands in it, 100 on page 1, else 0.
+ * Returns PHS_TOO_LARGE, PHS_PAGE_SIZE or PHS_NO_SUCH_PAGE.
+ */
+uint64_t phs_get_page_data(const uint8_t *db, size_t len, uint64_t page_size, uint64_t page, uint64_t out[3]);
+
+/*
+ * The leaves of the table whose root is the page `root`, in the order in which the walk pops them. Of an interior page the
+ * right child is pushed, and then the children of its cells; every one is pushed, also 0, a page that is not there and one
+ * that was pushed before, and the last pushed is popped first. A page is looked at once. Children whose pointers lie past
+ * the page end the list of them, cells past it are skipped; a page of another type than a table's has none.
+ * `flags` has a byte for each whole page, `stack` is the walk's own: both may hold anything before, and all of both is 0
+ * after a call that no other refusal than PHS_WALK_SPACE and PHS_NO_ROOM ends.
+ * out: the leaves written.
+ * Returns PHS_TOO_LARGE or PHS_PAGE_SIZE; PHS_WALK_SPACE for fewer flags than whole pages, with nothing written, or for a
+ * push onto a full stack, with the leaves popped before it; or PHS_NO_ROOM.
+ */
+uint64_t phs_collect_leaf_pages(const uint8_t *db, size_t len, uint64_t page_size, uint64_t root, uint8_t *flags,
+                                size_t flags_len, uint64_t *stack, size_t stack_len, uint64_t *leaves,
+                                size_t leaves_len, uint64_t out[1]);
 
 #ifdef __cplusplus
 }

@@ -1,14 +1,19 @@
 /*
  * carve FILE HINTS [PAGE]: prints every row that a scan of FILE finds, for a table whose columns have these hints.
- * With PAGE, every PAGE bytes are scanned by themselves: no record of a database reaches from one page into the next,
- * so what seems to is none. From the repository's top:
+ * With PAGE, every PAGE bytes are scanned by themselves: the bytes of a record do not run on into the next page (a long
+ * one goes on behind a page number), so what seems to is none. Where the file does not say that its pages have PAGE
+ * bytes, carve says so, and goes on: a torn file is carved, too. From the repository's top:
  *
  *     rt staticlib phsarodil
  *     cc -Wall -Wextra -std=c99 -O2 -Iinclude -o carve examples/c/carve.c target/staticlib/libphsarodil.a
- *     ./carve tablet.db ITR 4096
+ *     ./carve tablet.db TRIT 4096
+ *
+ * wrapper/examples/carve.rs prints the same rows, to the byte.
  */
+#include <ctype.h>
 #include <errno.h>
 #include <inttypes.h>
+#include <math.h>
 #include <stdio.h>
 #include <stdlib.h>
 #include <string.h>
@@ -18,6 +23,9 @@
 /* Few on purpose: a list that is full is emptied, and the scan goes on. */
 enum { ROOM = 16 };
 
+/* Of the file format. */
+enum { SMALLEST_PAGE = 512, LARGEST_PAGE = 65536 };
+
 /* In the order of the hint codes. */
 static const char LETTERS[] = "IRTBNA";
 
@@ -25,13 +33,13 @@ static const char *const REFUSALS[] = {
     "not refused",
     "a table has 1 to 126 columns",
     "an unknown hint, or a bad column entry",
-    "the region is larger than 16 MiB",
+    "a region larger than 16 MiB, or a statement of more than 65,536 bytes",
     "the base is above 2^48",
     "not a page size",
     "no such page",
     "the statement has no column list",
     "too little space for the walk",
-    "no room for another row",
+    "no room for another row, hint or place",
 };
 
 /* Writes the codes of a string of hint letters, or of digits from 0 to 5; returns 0 at a letter that is none. */
@@ -49,16 +57,41 @@ static int read_hints(const char *letters, uint8_t *hints)
     return 1;
 }
 
+/* The bytes of the character at `text`: UTF-8, and no control character; 0 where there is none. */
+static size_t readable(const uint8_t *text, uint64_t left)
+{
+    /* Of so many bytes; below 0xa0 a character of two is a control character, or should have been one byte. */
+    static const uint32_t LEAST[] = {0, 0x20, 0xa0, 0x800, 0x10000};
+    uint8_t first = text[0];
+    size_t length = first < 0x80 ? 1 : first < 0xc0 ? 0 : first < 0xe0 ? 2 : first < 0xf0 ? 3 : first < 0xf8 ? 4 : 0;
+    uint32_t code = length == 1 ? first : first & (0x7f >> length);
+
+    if (length > left)
+        return 0;
+    for (size_t i = 1; i < length; i++) {
+        if (text[i] >> 6 != 2)
+            return 0;
+        code = code << 6 | (text[i] & 0x3f);
+    }
+    if (code < LEAST[length] || code == 0x7f || (code >= 0xd800 && code < 0xe000) || code > 0x10ffff)
+        return 0;
+    return length;
+}
+
+/* Prints a text in quotes; what is not readable, as the hexadecimal digits of its bytes. */
 static void print_text(const uint8_t *text, uint64_t length)
 {
     putchar('"');
-    for (uint64_t i = 0; i < length; i++) {
+    for (uint64_t i = 0; i < length;) {
+        size_t taken = readable(text + i, length - i);
+        if (taken == 0) {
+            printf("\\x%02x", text[i++]);
+            continue;
+        }
         if (text[i] == '"' || text[i] == '\\')
-            printf("\\%c", text[i]);
-        else if (text[i] >= 0x20 && text[i] < 0x7f)
-            putchar(text[i]);
-        else
-            printf("\\x%02x", text[i]);
+            putchar('\\');
+        fwrite(text + i, 1, taken, stdout);
+        i += taken;
     }
     putchar('"');
 }
@@ -69,6 +102,27 @@ static void print_blob(const uint8_t *blob, uint64_t length)
     for (uint64_t i = 0; i < length; i++)
         printf("%02x", blob[i]);
     putchar('\'');
+}
+
+/* Prints the fewest digits that read back as the same number, with a point or an exponent always. */
+static void print_real(double real)
+{
+    char text[32];
+    int digits = -1; /* behind the first */
+
+    if (!isfinite(real)) {
+        printf("%s", isnan(real) ? "NaN" : real < 0 ? "-inf" : "inf");
+        return;
+    }
+    do
+        snprintf(text, sizeof text, "%.*e", ++digits, real);
+    while (strtod(text, NULL) != real);
+    char *e = strchr(text, 'e');
+    int exponent = atoi(e + 1);
+    if (exponent < -5 || exponent > 15)
+        printf("%.*se%d", (int)(e - text), text, exponent);
+    else
+        printf("%.*f", digits > exponent ? digits - exponent : 1, real);
 }
 
 /* Prints the value of a column entry of the region; returns the refusal. */
@@ -90,7 +144,7 @@ static uint64_t print_entry(const uint64_t *entry, const uint8_t *region, size_t
         break;
     case PHS_REAL:
         memcpy(&real, &value[1], sizeof real);
-        printf("%.17g", real);
+        print_real(real);
         break;
     case PHS_TEXT:
         print_text(region + value[2], value[3]);
@@ -144,8 +198,24 @@ static uint64_t carve(const uint8_t *region, size_t len, uint64_t base, const ui
     return refusal;
 }
 
-/* Carves the file, one region of `size` bytes after the other. */
-static int carve_file(FILE *file, const char *name, uint8_t *region, size_t size, const uint8_t *hints,
+/* Complains of a file that does not say that its pages have `size` bytes. */
+static void check_page_size(const char *name, const uint8_t *page, size_t len, size_t size)
+{
+    static const char MAGIC[16] = "SQLite format 3";
+
+    if (len < 18 || memcmp(page, MAGIC, sizeof MAGIC) != 0) {
+        fprintf(stderr, "carve: %s: no database: it does not begin with '%s'\n", name, MAGIC);
+        return;
+    }
+    size_t own = (size_t)page[16] << 8 | page[17];
+    if (own == 1)
+        own = LARGEST_PAGE;
+    if (own != size)
+        fprintf(stderr, "carve: %s: its pages have %zu bytes, not %zu\n", name, own, size);
+}
+
+/* Carves the file, one region of `size` bytes after the other; they are pages, or else as large as can be. */
+static int carve_file(FILE *file, const char *name, uint8_t *region, size_t size, int pages, const uint8_t *hints,
                       size_t columns)
 {
     uint64_t base = 0;
@@ -155,26 +225,47 @@ static int carve_file(FILE *file, const char *name, uint8_t *region, size_t size
     do {
         len = fread(region, 1, size, file);
         if (ferror(file)) {
-            fprintf(stderr, "carve: %s: cannot be read\n", name);
+            fprintf(stderr, "carve: %s: %s\n", name, strerror(errno));
             return 1;
         }
+        if (pages && base == 0)
+            check_page_size(name, region, len, size);
         uint64_t refusal = carve(region, len, base, hints, columns, &found);
         if (refusal != PHS_OK) {
-            fprintf(stderr, "carve: refused %" PRIu64 ": %s\n", refusal, REFUSALS[refusal]);
+            fprintf(stderr, "carve: %s: refused %" PRIu64 ": %s\n", name, refusal, REFUSALS[refusal]);
             return 1;
         }
         base += len;
     } while (len == size);
     printf("rows %" PRIu64 "\n", found);
+    if (fflush(stdout) != 0 || ferror(stdout)) {
+        fprintf(stderr, "carve: the rows cannot be written\n");
+        return 1;
+    }
     return 0;
+}
+
+/* The page size that a word names, or 0. */
+static size_t page_size(const char *word)
+{
+    char *rest;
+    unsigned long size = strtoul(word, &rest, 10);
+
+    if (!isdigit((unsigned char)word[0]) || *rest != '\0' || size < SMALLEST_PAGE || size > LARGEST_PAGE ||
+        (size & (size - 1)) != 0)
+        return 0;
+    return size;
 }
 
 int main(int argc, char **argv)
 {
     uint8_t hints[PHS_MOST_COLUMNS];
-    unsigned long size = PHS_LARGEST_REGION;
-    char *rest = "";
+    size_t size = PHS_LARGEST_REGION;
 
+    if (phs_version() != PHS_VERSION) {
+        fprintf(stderr, "carve: the library is of version %" PRIu64 ", not %d\n", phs_version(), PHS_VERSION);
+        return 1;
+    }
     if (argc != 3 && argc != 4) {
         fprintf(stderr, "usage: carve FILE HINTS [PAGE]\n"
                         "HINTS has a letter for each column: I integer, R real, T text, B blob, N null, A any;\n"
@@ -182,9 +273,10 @@ int main(int argc, char **argv)
         return 2;
     }
     if (argc == 4)
-        size = strtoul(argv[3], &rest, 10);
-    if (*rest != '\0' || size < 1 || size > PHS_LARGEST_REGION) {
-        fprintf(stderr, "carve: a page has 1 to %d bytes, not '%s'\n", PHS_LARGEST_REGION, argv[3]);
+        size = page_size(argv[3]);
+    if (size == 0) {
+        fprintf(stderr, "carve: a page size is a power of two from %d to %d, not '%s'\n", SMALLEST_PAGE, LARGEST_PAGE,
+                argv[3]);
         return 2;
     }
     size_t columns = strlen(argv[2]);
@@ -206,7 +298,7 @@ int main(int argc, char **argv)
     if (region == NULL)
         fprintf(stderr, "carve: not enough memory\n");
     else
-        status = carve_file(file, argv[1], region, size, hints, columns);
+        status = carve_file(file, argv[1], region, size, argc == 4, hints, columns);
     free(region);
     fclose(file);
     return status;

@@ -1,10 +1,11 @@
 //! Real databases: what comes back of rows that were deleted. The script `tablets` makes the databases and says, for
 //! each, which rows were deleted and which were kept.
 
-use crate::calls::{self, SCAN, STATEMENT};
+use crate::calls::{self, ATTEMPT, SCAN, STATEMENT};
 use crate::case::Case;
 use crate::cases::regions::lists;
 use crate::random::Random;
+use crate::rules::attempt::attempt;
 use crate::rules::value::{self, decode};
 use crate::runner::{Runner, Sink};
 use std::collections::HashSet;
@@ -14,6 +15,8 @@ use std::{fs, io};
 /// No row of these tables is shorter.
 const SHORTEST_ROW: usize = 5;
 const NULL_HINT: u8 = 4;
+/// Of the rows that are looked for at every offset; with four or five columns one may be unsuited.
+const LEAST_CONFIDENCE: f32 = 0.7;
 
 struct Tablet {
     name: String,
@@ -35,8 +38,9 @@ pub fn run(runner: &mut Runner, folder: &str) -> io::Result<bool> {
         .filter_map(|e| Some(e.ok()?.file_name().to_string_lossy().strip_suffix(".db")?.to_string()))
         .collect();
     names.sort();
-    println!("| database | hints | deleted | of these found | rows kept, found | rows that are none |");
-    println!("|---|---|---|---|---|---|");
+    println!("Rows found: deleted, kept, and none; by the scan, and at every offset with confidence from {LEAST_CONFIDENCE}.\n");
+    println!("| database | hints | deleted | the scan | every offset |");
+    println!("|---|---|---|---|---|");
     for name in &names {
         let statement = fs::read(Path::new(folder).join(format!("{name}.sql")))?;
         let hints = hints_of(runner, &statement);
@@ -53,7 +57,7 @@ pub fn run(runner: &mut Runner, folder: &str) -> io::Result<bool> {
         return Ok(false);
     }
     println!("\nThe Rust, the rules and our side agree on all {} cases:", runner.tally.total());
-    println!("the statements, every page and every frame of a log, and a damaged copy of each.");
+    println!("the statements, every page and every frame of a log, a damaged copy of each, and rows at every offset.");
     Ok(true)
 }
 
@@ -103,19 +107,37 @@ fn pages(file: &[u8], head: usize, before: usize, size: usize) -> Vec<(usize, &[
 }
 
 fn report(runner: &mut Runner, tablet: &Tablet, which: &str, pages: &[(usize, &[u8])]) {
-    let mut back = Back::default();
+    let mut scanned = Back::default();
+    let mut tried = Back::default();
     for (at, page) in pages {
         let lists = lists(page.len() / SHORTEST_ROW, tablet.hints.len());
         let case = Case::new(SCAN, &[*at as u64, 0], &[page, &tablet.hints], &lists);
         let answer = (calls::of(&case).answer)(&runner.limits, &case);
         for group in answer.lists[1].chunks(4 * tablet.hints.len()) {
-            sort_in(tablet, page, group, &mut back);
+            sort_in(tablet, page, group, &mut scanned);
         }
         put_damaged(runner, &case, *at as u64);
         runner.put(case);
+        try_every_offset(runner, tablet, page, &mut tried);
     }
-    let Back { deleted, live, none } = back;
-    println!("| {} | {which} | {} | {} | {live} | {none} |", tablet.name, tablet.deleted.len(), deleted.len());
+    let [scanned, tried] = [scanned, tried].map(|b| format!("{}, {}, {}", b.deleted.len(), b.live, b.none));
+    println!("| {} | {which} | {} | {scanned} | {tried} |", tablet.name, tablet.deleted.len());
+}
+
+/// What the scan steps over, too. Each row is put as the case of its own bytes.
+fn try_every_offset(runner: &mut Runner, tablet: &Tablet, page: &[u8], back: &mut Back) {
+    let hints = &tablet.hints;
+    for o in 0..page.len() {
+        let Some(found) = attempt(&runner.limits, page, hints, o).found else { continue };
+        if (found.suited as f32 / hints.len() as f32) < LEAST_CONFIDENCE {
+            continue;
+        }
+        let row = &page[o..][..found.consumed as usize];
+        let case = Case::new(ATTEMPT, &[0, 0], &[row, hints], &lists(1, hints.len()));
+        let answer = (calls::of(&case).answer)(&runner.limits, &case);
+        sort_in(tablet, row, &answer.lists[1], back);
+        runner.put(case);
+    }
 }
 
 /// The same page with a few bytes changed: nothing is counted, but all sides must agree on it too.

@@ -1,6 +1,12 @@
 //! The calls of `include/phsarodil.h` over slices: each answers the refusal number and the words. All that is unsafe
-//! stands here. A call is sound for any slices: the library keeps to their lengths, a slice's pointer is never null, and
-//! the borrow checker sees to it that what is written overlaps nothing.
+//! stands here. A call is sound for any slices: the library keeps to their lengths, a slice's pointer is never null,
+//! and the borrow checker sees to it that what is written overlaps nothing. The first call sees to it that the archive
+//! speaks the words that this crate knows.
+
+use std::sync::Once;
+
+/// The words that this crate knows: `PHS_VERSION` of the header.
+const VERSION: u64 = 1;
 
 /// A refusal number, 0 for none, with the words of `out`.
 pub type Answer<const N: usize> = (u64, [u64; N]);
@@ -8,6 +14,8 @@ pub type Answer<const N: usize> = (u64, [u64; N]);
 /// Declared as in the header.
 mod c {
     extern "C" {
+        pub fn phs_version() -> u64;
+
         pub fn phs_read_varint(
             bytes: *const u8,
             len: usize,
@@ -92,10 +100,44 @@ mod c {
             places_len: usize,
             out: *mut [u64; 1],
         ) -> u64;
+
+        pub fn phs_get_page_data(
+            db: *const u8,
+            len: usize,
+            page_size: u64,
+            page: u64,
+            out: *mut [u64; 3],
+        ) -> u64;
+
+        pub fn phs_collect_leaf_pages(
+            db: *const u8,
+            len: usize,
+            page_size: u64,
+            root: u64,
+            flags: *mut u8,
+            flags_len: usize,
+            stack: *mut u64,
+            stack_len: usize,
+            leaves: *mut u64,
+            leaves_len: usize,
+            out: *mut [u64; 1],
+        ) -> u64;
     }
 }
 
+fn check_version() {
+    static CHECKED: Once = Once::new();
+    CHECKED.call_once(|| {
+        let version = unsafe { c::phs_version() };
+        assert_eq!(
+            version, VERSION,
+            "libphsarodil.a is of another version than this crate"
+        );
+    });
+}
+
 fn answer<const N: usize>(call: impl FnOnce(*mut [u64; N]) -> u64) -> Answer<N> {
+    check_version();
     let mut out = [0; N];
     let number = call(&mut out);
     (number, out)
@@ -204,6 +246,35 @@ pub fn boyer_moore_search(haystack: &[u8], pattern: &[u8], places: &mut [u64]) -
             pattern.len(),
             places.as_mut_ptr(),
             places.len(),
+            out,
+        )
+    })
+}
+
+pub fn get_page_data(db: &[u8], page_size: u64, page: u64) -> Answer<3> {
+    answer(|out| unsafe { c::phs_get_page_data(db.as_ptr(), db.len(), page_size, page, out) })
+}
+
+pub fn collect_leaf_pages(
+    db: &[u8],
+    page_size: u64,
+    root: u64,
+    flags: &mut [u8],
+    stack: &mut [u64],
+    leaves: &mut [u64],
+) -> Answer<1> {
+    answer(|out| unsafe {
+        c::phs_collect_leaf_pages(
+            db.as_ptr(),
+            db.len(),
+            page_size,
+            root,
+            flags.as_mut_ptr(),
+            flags.len(),
+            stack.as_mut_ptr(),
+            stack.len(),
+            leaves.as_mut_ptr(),
+            leaves.len(),
             out,
         )
     })

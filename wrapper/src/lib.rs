@@ -1,7 +1,8 @@
 //! Safe calls into Phsarodil, which carves rows out of what is left in SQLite pages.
 //!
 //! The work is done by the proved library behind `include/phsarodil.h`; this crate lends it memory and gives its words
-//! names and types. Values borrow from the bytes that they were found in.
+//! names and types. Values borrow from the bytes that they were found in. The first call panics where the archive
+//! speaks other words than this crate knows (`phs_version`).
 //!
 //! ```
 //! use phsarodil::{scan, Hint, Value};
@@ -14,16 +15,22 @@
 //! # Ok::<(), phsarodil::Refusal>(())
 //! ```
 
-#![deny(unsafe_code)]
+#![deny(missing_docs, unsafe_code)]
 
 #[allow(unsafe_code)]
 mod door;
+mod hint;
+mod limits;
+mod pages;
 mod refusal;
 mod rows;
 mod search;
 mod values;
 
+pub use hint::{Hint, UnknownHint};
+pub use limits::{LARGEST_BASE, LARGEST_REGION, LARGEST_STATEMENT, MOST_COLUMNS};
+pub use pages::{leaf_pages, page, Page};
 pub use refusal::Refusal;
-pub use rows::{scan, try_parse_record, Hint, Mode, Record, Row, Scan, Source};
+pub use rows::{scan, try_parse_record, Mode, Record, Row, Rows, Scan, Source};
 pub use search::search;
-pub use values::{body_length, decode_serial_type, read_varint, Entry, Value};
+pub use values::{body_length, decode_serial_type, read_varint, Entry, State, Value};

@@ -3,14 +3,15 @@
 use std::error::Error;
 use std::fmt;
 
-/// A refusal; its number is that of the header.
+/// A refusal; its number is that of the header. The calls of this crate go on themselves after [`Refusal::WalkSpace`] and
+/// [`Refusal::NoRoom`].
 #[derive(Clone, Copy, Debug, PartialEq, Eq, Hash)]
 pub enum Refusal {
     /// No columns, or more than 126.
     ColumnCount = 1,
     /// An unknown hint code, or a bad column entry.
     Malformed = 2,
-    /// A region of more than 16 MiB, or a statement of more than 65,536 bytes.
+    /// A region, a haystack or a database of more than 16 MiB, or a statement of more than 65,536 bytes.
     TooLarge = 3,
     /// A base above 2^48.
     BaseTooFar = 4,
@@ -22,7 +23,7 @@ pub enum Refusal {
     NoColumnList = 7,
     /// Too few page flags, or a full page stack.
     WalkSpace = 8,
-    /// One row more than there is room for.
+    /// One row, hint or place more than there is room for.
     NoRoom = 9,
 }
 
@@ -63,7 +64,7 @@ impl fmt::Display for Refusal {
             Refusal::NoSuchPage => "no such page",
             Refusal::NoColumnList => "the statement has no column list",
             Refusal::WalkSpace => "too little space for the walk",
-            Refusal::NoRoom => "no room for another row",
+            Refusal::NoRoom => "no room for another row, hint or place",
         };
         write!(f, "refused {}: {why}", self.number())
     }

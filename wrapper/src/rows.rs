@@ -1,71 +1,31 @@
-//! Hints, one attempt, and the region scan.
+//! One attempt, and the region scan.
 
 use crate::door;
-use crate::{Entry, Refusal, Value};
+use crate::{Entry, Hint, Refusal, Value};
 
-/// The most columns that a table may have.
-const MOST_COLUMNS: usize = 126;
-
-/// What a column is expected to hold; a NULL suits every hint. Its number is the hint's code.
-#[derive(Clone, Copy, Debug, PartialEq, Eq, Hash)]
-pub enum Hint {
-    Integer = 0,
-    Real = 1,
-    Text = 2,
-    Blob = 3,
-    Null = 4,
-    Any = 5,
-}
-
-impl Hint {
-    fn of(code: u8) -> Hint {
-        match code {
-            0 => Hint::Integer,
-            1 => Hint::Real,
-            2 => Hint::Text,
-            3 => Hint::Blob,
-            4 => Hint::Null,
-            5 => Hint::Any,
-            other => unreachable!("a hint is 0 to 5, not {other}"),
-        }
-    }
-
-    /// The hints of a CREATE TABLE statement. A column that is the key itself gets none, though its records hold a NULL
-    /// there: add [`Hint::Null`] in its place.
-    pub fn of_statement(statement: &[u8]) -> Result<Vec<Hint>, Refusal> {
-        let mut codes = [0; MOST_COLUMNS];
-        let (number, [written]) = door::from_create_sql(statement, &mut codes);
-        match Refusal::of(number) {
-            Some(refusal) => Err(refusal),
-            None => Ok(codes[..written as usize]
-                .iter()
-                .map(|&code| Hint::of(code))
-                .collect()),
-        }
-    }
-
-    /// Whether a serial type suits the hint.
-    pub fn suits(self, kind: u64) -> bool {
-        door::is_compatible(self as u8, kind) == (0, [1])
-    }
-}
-
-/// Where a row was found, with its percent where there is one.
+/// Where a row was found, with its percent where there is one. The calls of this crate give [`Source::Scan`] alone.
 #[derive(Clone, Copy, Debug, PartialEq, Eq, Hash)]
 pub enum Source {
+    /// In a region.
     Scan,
+    /// In a freed block of a page.
     Freelist,
+    /// In a page's gap or freed blocks.
     CarvedIntraPage(u64),
+    /// By hints that were learned from other rows.
     CarvedUnalloc(u64),
 }
 
-/// Which of the three modes read a row.
+/// Which of the three modes read a row. The calls of this crate give [`Mode::Plain`] alone.
 #[derive(Clone, Copy, Debug, PartialEq, Eq, Hash)]
 pub enum Mode {
     /// None of them.
     Plain,
+    /// The header was there.
     Normal,
+    /// The header was there, but for its length.
     ColumnsOnly,
+    /// The first four bytes were lost, and the first column with them.
     FirstColMissing,
 }
 
@@ -74,11 +34,15 @@ pub enum Mode {
 pub struct Row {
     /// The base, plus the row's place in the region.
     pub offset: u64,
+    /// How many bytes it takes, header and bodies.
     pub consumed: u64,
+    /// Its row id, where one was found; a scan finds none.
     pub id: Option<i64>,
+    /// Where it was found.
     pub source: Source,
     /// The share of the columns that suit their hints, or less where the row was not read whole.
     pub confidence: f32,
+    /// How it was read.
     pub mode: Mode,
     /// The table's index, where tables are lent.
     pub table: u64,
@@ -115,7 +79,9 @@ impl Row {
 /// A row with its column entries and the region that they lie in.
 #[derive(Clone, Debug, PartialEq)]
 pub struct Record<'a> {
+    /// The row.
     pub row: Row,
+    /// One entry for each hint.
     pub entries: Vec<Entry>,
     region: &'a [u8],
 }
@@ -182,19 +148,86 @@ pub fn try_parse_record<'a>(
     }
 }
 
-/// All rows of a region, one behind the other. `base` is where the region lies in its file.
-///
-/// A refusal shows at once. The lists hold a batch of rows; when it is used up, the scan goes on where it stopped.
-pub fn scan<'a>(region: &'a [u8], hints: &[Hint], base: u64) -> Result<Scan<'a>, Refusal> {
-    Scan::new(region, hints, base, 0, 64)
+/// All rows of a region, one behind the other. `base` is where the region lies in its file. For the rest see [`Scan`].
+pub fn scan<'a>(region: &'a [u8], hints: &[Hint], base: u64) -> Result<Rows<'a>, Refusal> {
+    Scan::new(region, hints).base(base).rows()
 }
 
-/// The rows of a region; made by [`scan`] or [`Scan::new`].
-#[derive(Debug)]
+/// A scan that is to be made.
+///
+/// ```
+/// use phsarodil::{Hint, Scan};
+///
+/// let region = [0x03, 0x01, 0x17, 0x2a, 0x68, 0x69, 0x70, 0x69, 0x6b].repeat(7);
+/// let rows = Scan::new(&region, &[Hint::Integer, Hint::Text])
+///     .base(4096)
+///     .start(18)
+///     .room(2)
+///     .rows()?;
+/// assert_eq!(rows.map(|record| record.row.offset).next(), Some(4096 + 18));
+/// # Ok::<(), phsarodil::Refusal>(())
+/// ```
+#[derive(Clone, Debug)]
+#[must_use = "`rows` makes the scan"]
 pub struct Scan<'a> {
     region: &'a [u8],
     codes: Vec<u8>,
     base: u64,
+    start: usize,
+    room: usize,
+}
+
+impl<'a> Scan<'a> {
+    /// A scan of a whole region for rows of a table with these hints.
+    pub fn new(region: &'a [u8], hints: &[Hint]) -> Scan<'a> {
+        Scan {
+            region,
+            codes: codes(hints),
+            base: 0,
+            start: 0,
+            room: 64,
+        }
+    }
+
+    /// Where the region lies in its file, 0 if it is not said; it is added to row offsets alone.
+    pub fn base(self, base: u64) -> Scan<'a> {
+        Scan { base, ..self }
+    }
+
+    /// The first offset of the region that is tried, 0 if it is not said.
+    pub fn start(self, start: usize) -> Scan<'a> {
+        Scan { start, ..self }
+    }
+
+    /// How many rows the lent lists take at a time, 64 if it is not said, and at least one. The rows are the same with
+    /// any room.
+    pub fn room(self, room: usize) -> Scan<'a> {
+        Scan { room, ..self }
+    }
+
+    /// The rows; a refusal shows here, and none later.
+    pub fn rows(self) -> Result<Rows<'a>, Refusal> {
+        // No row takes fewer than two bytes.
+        let room = self.room.clamp(1, self.region.len() / 2 + 1);
+        let mut rows = Rows {
+            lists: Lists::new(room, self.codes.len()),
+            place: self.start,
+            scan: self,
+            filled: 0,
+            given: 0,
+            more: true,
+            header_bytes: 0,
+        };
+        rows.go_on()?;
+        Ok(rows)
+    }
+}
+
+/// The rows of a region; made by [`scan`] or [`Scan::rows`]. The lists hold a batch of them; when it is used up, the
+/// scan goes on where it stopped.
+#[derive(Debug)]
+pub struct Rows<'a> {
+    scan: Scan<'a>,
     lists: Lists,
     /// The batch has `filled` rows, of which `given` were handed out.
     filled: usize,
@@ -205,32 +238,7 @@ pub struct Scan<'a> {
     header_bytes: u64,
 }
 
-impl<'a> Scan<'a> {
-    /// A scan from an offset of the region on, with room for so many rows at a time, at least one.
-    pub fn new(
-        region: &'a [u8],
-        hints: &[Hint],
-        base: u64,
-        start: usize,
-        room: usize,
-    ) -> Result<Scan<'a>, Refusal> {
-        let codes = codes(hints);
-        let lists = Lists::new(room.max(1), codes.len());
-        let mut scan = Scan {
-            region,
-            codes,
-            base,
-            lists,
-            filled: 0,
-            given: 0,
-            place: start,
-            more: true,
-            header_bytes: 0,
-        };
-        scan.go_on()?;
-        Ok(scan)
-    }
-
+impl Rows<'_> {
     /// How many header bytes were read so far to decide what is a row; of the whole scan once it is through.
     pub fn header_bytes(&self) -> u64 {
         self.header_bytes
@@ -238,8 +246,14 @@ impl<'a> Scan<'a> {
 
     fn go_on(&mut self) -> Result<(), Refusal> {
         let Lists { rows, cols, .. } = &mut self.lists;
+        let Scan {
+            region,
+            codes,
+            base,
+            ..
+        } = &self.scan;
         let (number, [written, place, read]) =
-            door::scan_region(self.region, &self.codes, self.base, self.place, rows, cols);
+            door::scan_region(region, codes, *base, self.place, rows, cols);
         self.more = match Refusal::of(number) {
             None => false,
             Some(Refusal::NoRoom) => true,
@@ -253,7 +267,7 @@ impl<'a> Scan<'a> {
     }
 }
 
-impl<'a> Iterator for Scan<'a> {
+impl<'a> Iterator for Rows<'a> {
     type Item = Record<'a>;
 
     fn next(&mut self) -> Option<Record<'a>> {
@@ -264,46 +278,17 @@ impl<'a> Iterator for Scan<'a> {
             return None;
         }
         self.given += 1;
-        Some(self.lists.record(self.given - 1, self.region))
+        Some(self.lists.record(self.given - 1, self.scan.region))
     }
 }
 
 #[cfg(test)]
 mod tests {
     use super::*;
+    use crate::{State, LARGEST_BASE, LARGEST_REGION, MOST_COLUMNS};
 
     const HIPIK: [u8; 9] = [0x03, 0x01, 0x17, 0x2a, 0x68, 0x69, 0x70, 0x69, 0x6b];
     const HINTS: [Hint; 2] = [Hint::Integer, Hint::Text];
-
-    #[test]
-    fn hints() {
-        let suiting = |hint: Hint| {
-            (0..=13)
-                .filter(|&kind| hint.suits(kind))
-                .collect::<Vec<u64>>()
-        };
-        assert_eq!(suiting(Hint::Integer), [0, 1, 2, 3, 4, 5, 6, 8, 9]);
-        assert_eq!(suiting(Hint::Real), [0, 7]);
-        assert_eq!(suiting(Hint::Text), [0, 13]);
-        assert_eq!(suiting(Hint::Blob), [0, 12]);
-        assert_eq!(suiting(Hint::Null), [0]);
-        assert_eq!(suiting(Hint::Any).len(), 14);
-    }
-
-    #[test]
-    fn hints_of_a_statement() {
-        assert_eq!(
-            Hint::of_statement(b"CREATE TABLE r (plot INTEGER, depth REAL, note TEXT, x)"),
-            Ok(vec![Hint::Integer, Hint::Real, Hint::Text, Hint::Any])
-        );
-        assert_eq!(Hint::of_statement(b")("), Err(Refusal::NoColumnList));
-        assert_eq!(
-            Hint::of_statement(b"(id INTEGER PRIMARY KEY)"),
-            Err(Refusal::ColumnCount)
-        );
-        let most = format!("({})", vec!["a INT"; 126].join(","));
-        assert_eq!(Hint::of_statement(most.as_bytes()).unwrap().len(), 126);
-    }
 
     #[test]
     fn a_record_is_found_with_its_values() {
@@ -324,7 +309,7 @@ mod tests {
         assert_eq!(
             record.entries[1],
             Entry {
-                state: 0,
+                state: State::Body,
                 kind: 23,
                 start: 4,
                 length: 5
@@ -357,23 +342,20 @@ mod tests {
     #[test]
     fn any_room_finds_the_same() {
         let region = HIPIK.repeat(7);
-        let mut whole = Scan::new(&region, &HINTS, 5, 0, 100).unwrap();
+        let from_five = Scan::new(&region, &HINTS).base(5);
+        let mut whole = from_five.clone().room(100).rows().unwrap();
         let all: Vec<_> = whole.by_ref().collect();
         assert_eq!(
             all.iter().map(|r| r.row.offset).collect::<Vec<_>>(),
             [5, 14, 23, 32, 41, 50, 59]
         );
-        for room in 0..9 {
-            let mut scan = Scan::new(&region, &HINTS, 5, 0, room).unwrap();
+        for room in (0..9).chain([usize::MAX]) {
+            let mut scan = from_five.clone().room(room).rows().unwrap();
             assert_eq!(scan.by_ref().collect::<Vec<_>>(), all, "room {room}");
             assert_eq!(scan.header_bytes(), whole.header_bytes(), "room {room}");
         }
-        assert_eq!(
-            Scan::new(&region, &HINTS, 5, 18, 2)
-                .unwrap()
-                .collect::<Vec<_>>(),
-            all[2..]
-        );
+        let later = from_five.start(18).room(2).rows().unwrap();
+        assert_eq!(later.collect::<Vec<_>>(), all[2..]);
     }
 
     #[test]
@@ -391,17 +373,23 @@ mod tests {
 
     #[test]
     fn refusals_come_by_rising_number() {
-        let large = vec![0; (16 << 20) + 1];
+        let large = vec![0; LARGEST_REGION + 1];
         let refused = |region: &[u8], hints: &[Hint], base| {
             let refusal = scan(region, hints, base).map(|_| ()).unwrap_err();
             assert_eq!(try_parse_record(region, hints, base, 0), Err(refusal));
             refusal
         };
         assert_eq!(refused(&large, &[], u64::MAX), Refusal::ColumnCount);
-        assert_eq!(refused(&HIPIK, &[Hint::Any; 127], 0), Refusal::ColumnCount);
+        assert_eq!(
+            refused(&HIPIK, &[Hint::Any; MOST_COLUMNS + 1], 0),
+            Refusal::ColumnCount
+        );
         assert_eq!(refused(&large, &HINTS, u64::MAX), Refusal::TooLarge);
-        assert_eq!(refused(&HIPIK, &HINTS, (1 << 48) + 1), Refusal::BaseTooFar);
-        assert!(scan(&large[1..], &[Hint::Any; 126], 1 << 48).is_ok());
+        assert_eq!(
+            refused(&HIPIK, &HINTS, LARGEST_BASE + 1),
+            Refusal::BaseTooFar
+        );
+        assert!(scan(&large[1..], &[Hint::Any; MOST_COLUMNS], LARGEST_BASE).is_ok());
         assert!(scan(&[], &HINTS, 0).unwrap().next().is_none());
     }
 }

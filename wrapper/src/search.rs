@@ -3,7 +3,8 @@
 use crate::door;
 use crate::Refusal;
 
-/// The places of a pattern in a haystack, rising; they may overlap. An empty pattern is nowhere.
+/// The places of a pattern in a haystack, rising; they may overlap. An empty pattern is nowhere. At worst, as in a
+/// haystack of one byte over and over, the time grows with both lengths multiplied.
 pub fn search(haystack: &[u8], pattern: &[u8]) -> Result<Vec<usize>, Refusal> {
     let mut places = vec![0; 64];
     loop {
@@ -24,6 +25,7 @@ pub fn search(haystack: &[u8], pattern: &[u8]) -> Result<Vec<usize>, Refusal> {
 #[cfg(test)]
 mod tests {
     use super::*;
+    use crate::LARGEST_REGION;
 
     #[test]
     fn places_rise_and_overlap() {
@@ -36,7 +38,7 @@ mod tests {
     #[test]
     fn a_large_haystack_is_refused() {
         assert_eq!(
-            search(&vec![0; (16 << 20) + 1], b"x"),
+            search(&vec![0; LARGEST_REGION + 1], b"x"),
             Err(Refusal::TooLarge)
         );
     }

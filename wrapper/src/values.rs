@@ -6,11 +6,15 @@ use crate::Refusal;
 /// A value, with the bytes of a text or a blob where they lie.
 #[derive(Clone, Copy, Debug, PartialEq)]
 pub enum Value<'a> {
+    /// NULL.
     Null,
+    /// An integer; a REAL column's whole values are stored as integers, too.
     Integer(i64),
+    /// A real; a NaN keeps its payload.
     Real(f64),
     /// Bytes that need not be UTF-8.
     Text(&'a [u8]),
+    /// Bytes.
     Blob(&'a [u8]),
 }
 
@@ -43,19 +47,48 @@ pub fn body_length(kind: u64) -> Option<u64> {
 }
 
 /// The value of a serial type whose body starts at `offset` and the bytes that the body takes, or `None` where the type
-/// is 10 or 11 or the body leaves the slice.
+/// is 10 or 11 or the body leaves the slice. The types 0, 8 and 9 have no body, so they have a value at any offset,
+/// behind the slice too; any other body, an empty one too, ends in the slice.
 pub fn decode_serial_type(kind: u64, bytes: &[u8], offset: usize) -> Option<(Value<'_>, usize)> {
     let (_, [tag, bits, start, taken]) = door::decode_serial_type(kind, bytes, offset);
     Some((Value::of(tag, bits, bytes, start, taken)?, taken as usize))
 }
 
-/// A column entry: a state (0 a body, 1 one that does not fit, 2 a lost column, 3 unused), a serial type, and where the
-/// body lies in the bytes that the row was found in.
+/// What became of a column. All but [`State::Body`] read as NULL, and no call of this crate gives them.
+#[derive(Clone, Copy, Debug, PartialEq, Eq, Hash)]
+pub enum State {
+    /// The body is there.
+    Body = 0,
+    /// The body does not fit.
+    Unfit = 1,
+    /// The column's type was overwritten.
+    Lost = 2,
+    /// The entry pads its row's group.
+    Unused = 3,
+}
+
+impl State {
+    fn of(word: u64) -> State {
+        match word {
+            0 => State::Body,
+            1 => State::Unfit,
+            2 => State::Lost,
+            3 => State::Unused,
+            other => unreachable!("a state is 0 to 3, not {other}"),
+        }
+    }
+}
+
+/// A column entry.
 #[derive(Clone, Copy, Debug, PartialEq, Eq, Hash)]
 pub struct Entry {
-    pub state: u64,
+    /// What became of the column.
+    pub state: State,
+    /// The serial type.
     pub kind: u64,
+    /// Where the body starts, in the bytes that the row was found in.
     pub start: u64,
+    /// How many bytes the body has.
     pub length: u64,
 }
 
@@ -64,7 +97,7 @@ impl Entry {
 
     pub(crate) fn of(words: &[u64]) -> Entry {
         Entry {
-            state: words[0],
+            state: State::of(words[0]),
             kind: words[1],
             start: words[2],
             length: words[3],
@@ -72,10 +105,11 @@ impl Entry {
     }
 
     fn words(self) -> [u64; Entry::WORDS] {
-        [self.state, self.kind, self.start, self.length]
+        [self.state as u64, self.kind, self.start, self.length]
     }
 
-    /// The entry's value, or [`Refusal::Malformed`] for a bad entry.
+    /// The entry's value over the bytes that its row was found in, or [`Refusal::Malformed`] for a bad entry: a body
+    /// whose length is not its type's, whose type is 10 or 11, or that ends behind these bytes, whatever its type.
     pub fn read(self, bytes: &[u8]) -> Result<Value<'_>, Refusal> {
         let (number, [tag, bits, start, length]) = door::read_entry(self.words(), bytes);
         match Refusal::of(number) {
@@ -164,7 +198,7 @@ mod tests {
     #[test]
     fn entries() {
         let text = Entry {
-            state: 0,
+            state: State::Body,
             kind: 23,
             start: 2,
             length: 5,
@@ -173,22 +207,34 @@ mod tests {
         assert_eq!(text.view(b"..hipik"), b"hipik");
         assert_eq!(text.read(b"..hipi"), Err(Refusal::Malformed));
         assert_eq!(text.view(b"..hipi"), b"");
-        assert_eq!(Entry { state: 2, ..text }.read(b""), Ok(Value::Null));
-        assert_eq!(
-            Entry { state: 4, ..text }.read(b"..hipik"),
-            Err(Refusal::Malformed)
-        );
+        for state in [State::Unfit, State::Lost, State::Unused] {
+            assert_eq!(Entry { state, ..text }.read(b""), Ok(Value::Null));
+        }
         assert_eq!(
             Entry { length: 4, ..text }.read(b"..hipik"),
             Err(Refusal::Malformed)
         );
         let number = Entry {
-            state: 0,
+            state: State::Body,
             kind: 1,
             start: 0,
             length: 1,
         };
         assert_eq!(number.read(b"*"), Ok(Value::Integer(42)));
         assert_eq!(number.view(b"*"), b"");
+    }
+
+    #[test]
+    fn behind_the_slice() {
+        let null = Entry {
+            state: State::Body,
+            kind: 0,
+            start: 1,
+            length: 0,
+        };
+        assert_eq!(null.read(b""), Err(Refusal::Malformed));
+        assert_eq!(decode_serial_type(0, b"", 1), Some((Value::Null, 0)));
+        assert_eq!(decode_serial_type(12, b"", 0), Some((Value::Blob(b""), 0)));
+        assert_eq!(decode_serial_type(12, b"", 1), None);
     }
 }

@@ -6,7 +6,7 @@ use mathlib.Core.List.{List, [], _∷_}
 use lib.Dec.{ltb, leb, eqb}
 use Rattle.attempt.specs.declared.schema_sig.Compatible.{Compatible}
 use Rattle.attempt.specs.declared.schema_sig.Compatible.the-variants.{Suits, Differs, Refused}
-use Rattle.sheet.specs.Limits.{highestHint}
+use Rattle.sheet.specs.Limits.{integerHint, realHint, textHint, blobHint, nullHint, anyHint, highestHint}
 use Rattle.sheet.specs.Refusal.{refusalNumber}
 use Rattle.sheet.specs.declared.refusal.Refusal.the-variants.{Malformed}
 
@@ -26,12 +26,12 @@ isBlob t = eqb t 0 || (leb 12 t && eqb (t % 2) 0)
 -- Rule 4.1: by the hint's code, Integer, Real, Text, Blob, Null and Any
 unfoldable pub suits : ℕ → ℕ → Bool
 suits hint t =
-    cond (eqb hint 0) (isInteger t)
-    (cond (eqb hint 1) (isReal t)
-    (cond (eqb hint 2) (isText t)
-    (cond (eqb hint 3) (isBlob t)
-    (cond (eqb hint 4) (eqb t 0)
-    (eqb hint 5)))))
+    cond (eqb hint integerHint) (isInteger t)
+    (cond (eqb hint realHint) (isReal t)
+    (cond (eqb hint textHint) (isText t)
+    (cond (eqb hint blobHint) (isBlob t)
+    (cond (eqb hint nullHint) (eqb t 0)
+    (eqb hint anyHint)))))
 
 -- how many types suit the hints that they stand at
 abbrev pub suited : List ℕ → List ℕ → ℕ

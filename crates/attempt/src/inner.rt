@@ -5,6 +5,12 @@ use record::varint::Cursor;
 use record::varint::Varint;
 use sheet::WORDS_PER_ENTRY;
 use sheet::columns::Column;
+use sheet::hint::ANY;
+use sheet::hint::BLOB;
+use sheet::hint::INTEGER;
+use sheet::hint::NULL;
+use sheet::hint::REAL;
+use sheet::hint::TEXT;
 use sheet::inner::put_column;
 ghost use mathlib.Core.Path.{_≡_};
 ghost use Prim.Native.Nat.{_+_, _*_, _≤_, min};
@@ -50,7 +56,10 @@ const MOST_HEADER: u64 = 512;
 const MOST_BYTES: usize = 65_536;
 
 // No total of bodies is told from one above this.
-const TOO_LONG: usize = 65_537;
+const TOO_LONG: usize = MOST_BYTES + 1;
+
+// A reserved type's body is as long.
+const NEVER_FITS: usize = TOO_LONG;
 
 fn is_integer(kind: u64) -> bool
     ensures { λ r. ⌜ r ≡ isInteger kind ⌝ }
@@ -79,22 +88,22 @@ fn is_blob(kind: u64) -> bool
 pub fn suits(hint: u8, kind: u64) -> bool
     ensures { λ r. ⌜ r ≡ suitsHint hint kind ⌝ }
 {
-    if hint == 0 {
+    if hint == INTEGER {
         return is_integer(kind);
     }
-    if hint == 1 {
+    if hint == REAL {
         return is_real(kind);
     }
-    if hint == 2 {
+    if hint == TEXT {
         return is_text(kind);
     }
-    if hint == 3 {
+    if hint == BLOB {
         return is_blob(kind);
     }
-    if hint == 4 {
+    if hint == NULL {
         return kind == 0;
     }
-    hint == 5
+    hint == ANY
 }
 
 // 1 where the type suits the hint at k; types behind the last hint suit none.
@@ -110,12 +119,11 @@ fn suits_at(hints: &[u8], k: usize, kind: u64) -> u16
     0
 }
 
-// A reserved type never fits.
 fn body_size(kind: u64) -> usize
     ensures { λ r. ⌜ r ≡ bodySize kind ⌝ }
 {
     let Length::Bytes(n) = body_length(kind) else {
-        return TOO_LONG;
+        return NEVER_FITS;
     };
     n
 }
@@ -206,15 +214,16 @@ pub fn attempt(bytes: &[u8], hints: &[u8], o: usize) -> Verdict
         return Verdict::Miss(bytes.len() - o);
     };
     let from = next.at;
+    let own = from - o;
     if h < 2 {
-        return Verdict::Miss(from - o);
+        return Verdict::Miss(own);
     }
     if h > MOST_HEADER {
-        return Verdict::Miss(from - o);
+        return Verdict::Miss(own);
     }
     let head = h as usize;
     if head > bytes.len() - o {
-        return Verdict::Miss(from - o);
+        return Verdict::Miss(own);
     }
     judge(bytes, hints, o, head, from)
 }

@@ -1,66 +1,70 @@
 // Lists the rows of a region on standard input: one byte says how many hints there are, then come their codes, then the region.
-mod inner;
-mod input;
-mod part;
-mod text;
-
-use input::judge;
+use libc::STDERR_FILENO;
 use libc::STDIN_FILENO;
-use libc::STDOUT_FILENO;
-use part::Totals;
-use part::col_space;
-use part::list_part;
-use part::read_in;
-use part::row_space;
-use part::rows_in;
-use part::text_space;
+use listing::input::COUNT_BYTES;
+use listing::input::LARGEST_INPUT;
+use listing::input::count_of;
+use listing::input::judge;
+use listing::part::Totals;
+use listing::part::col_space;
+use listing::part::list_part;
+use listing::part::row_space;
+use listing::part::text_space;
+use listing::text::put_heading;
+use listing::text::put_refusal;
+use listing::text::put_totals;
 use scan::schema_sig::Scanned;
 use sheet::refusal::Checked;
 use sheet::refusal::Refusal;
-use text::put_heading;
-use text::put_refusal;
-use text::put_totals;
+use streams::Got;
+use streams::Output;
+use streams::read_whole;
+use streams::write_whole;
 ghost use mathlib.Core.Path.{_≡_};
-ghost use Prim.Native.Nat.{_≤_};
+ghost use Prim.Native.Nat.{_+_, _≤_};
 ghost use lib.ListN.{length};
-ghost use Rattle.carvelist.specs.Input.{largestInput, hintsOf, regionOf, Taken};
-ghost use Rattle.carvelist.specs.Part.{totalsOf, partsOf};
+ghost use Rattle.listing.specs.Input.{largestInput, hintsOf, regionOf, Taken};
+ghost use Rattle.listing.specs.Part.{totalsOf, partsOf};
 ghost use Rattle.sheet.specs.Limits.{mostColumns};
 
-// One byte more than the program takes, which tells a longer input.
-fn input_space() -> [u8; 65_537]
-    ensures { λ r. ⌜ 65537 ≡ length r ⌝ }
+// One byte more than is taken, which tells a longer input.
+const INPUT_SPACE: usize = LARGEST_INPUT + 1;
+
+fn input_space() -> [u8; INPUT_SPACE]
+    ensures { λ r. ⌜ largestInput + 1 ≡ length r ⌝ }
 {
-    [0; 65_537]
+    [0; INPUT_SPACE]
 }
 
-fn say(text: &[u8]) {
-    io::write_all(STDOUT_FILENO, text);
-}
-
-fn say_heading() {
+fn say_heading(out: Output) -> Output {
     let mut text = text_space();
     let n = put_heading(&mut text);
-    say(&text[..n]);
+    out.say(&text[..n])
 }
 
-fn say_totals(total: Totals) {
+fn say_totals(out: Output, total: Totals) -> Output {
     let mut text = text_space();
     let n = put_totals(&mut text, total);
-    say(&text[..n]);
+    out.say(&text[..n])
 }
 
-fn say_refusal(refusal: Refusal) {
+fn say_refusal(out: Output, refusal: Refusal) -> Output {
     let mut text = text_space();
     let n = put_refusal(&mut text, refusal);
-    say(&text[..n]);
+    out.say(&text[..n])
 }
 
-// Writes the region's rows, part by part; a part has as many as the lists hold.
-fn say_parts(region: &[u8], hints: &[u8]) -> Totals
+struct Listed {
+    out: Output,
+    total: Totals,
+}
+
+// Says the region's rows, part by part; a part has as many as the lists hold.
+fn say_parts(out: Output, region: &[u8], hints: &[u8]) -> Listed
     requires { ⌜ (length (now region) ≤ largestInput) × (length (now hints) ≤ mostColumns) ⌝ }
-    ensures { λ r. ⌜ r ≡ totalsOf (partsOf (now (region .entry)) (now (hints .entry))) ⌝ }
+    ensures { λ r. ⌜ r .total ≡ totalsOf (partsOf (now (region .entry)) (now (hints .entry))) ⌝ }
 {
+    let mut out = out;
     let mut rows = row_space();
     let mut cols = col_space();
     let mut text = text_space();
@@ -70,54 +74,73 @@ fn say_parts(region: &[u8], hints: &[u8]) -> Totals
     loop {
         let part = list_part(region, hints, at, &mut rows, &mut cols, &mut text);
         let len = part.len;
-        say(&text[..len]);
+        out = out.say(&text[..len]);
         let found = part.found;
-        count = count + rows_in(found);
-        read = read + read_in(found);
-        let Scanned::Full {
-            rows: _,
-            place,
-            read: _,
-        } = found
-        else {
-            return Totals {
+        count = count + found.written();
+        read = read + found.read();
+        let Scanned::Full { place, .. } = found else {
+            let total = Totals {
                 rows: count as u64,
                 read: read as u64,
             };
+            return Listed { out, total };
         };
         at = place;
     }
 }
 
-fn say_list(region: &[u8], hints: &[u8])
+fn say_list(out: Output, region: &[u8], hints: &[u8]) -> Output
     requires { ⌜ (length (now region) ≤ largestInput) × (length (now hints) ≤ mostColumns) ⌝ }
 {
-    say_heading();
-    say_totals(say_parts(region, hints));
+    let listed = say_parts(say_heading(out), region, hints);
+    say_totals(listed.out, listed.total)
 }
 
 fn hints_of(input: &[u8]) -> &[u8]
     requires { ⌜ Taken (now input) ⌝ }
     ensures { λ r. ⌜ now r ≡ hintsOf (now (input .entry)) ⌝ }
 {
-    let end = 1 + input[0] as usize;
-    &input[1..end]
+    let end = COUNT_BYTES + count_of(input);
+    &input[COUNT_BYTES..end]
 }
 
 fn region_of(input: &[u8]) -> &[u8]
     requires { ⌜ Taken (now input) ⌝ }
     ensures { λ r. ⌜ now r ≡ regionOf (now (input .entry)) ⌝ }
 {
-    let start = 1 + input[0] as usize;
+    let start = COUNT_BYTES + count_of(input);
     &input[start..]
 }
 
-fn main() {
-    let mut space = input_space();
-    let n = io::read_full(STDIN_FILENO, &mut space);
-    let input = &space[..n];
+fn say_answer(out: Output, input: &[u8]) -> Output {
     match judge(input) {
-        Checked::Refused(refusal) => say_refusal(refusal),
-        Checked::Passed => say_list(region_of(input), hints_of(input)),
+        Checked::Refused(refusal) => say_refusal(out, refusal),
+        Checked::Passed => say_list(out, region_of(input), hints_of(input)),
+    }
+}
+
+fn say_usage() {
+    write_whole(
+        STDERR_FILENO,
+        b"carvelist: takes no words, and reads from standard input: how many columns, a hint code for each, and the region\n",
+    );
+}
+
+fn answer(input: &[u8]) {
+    if input.len() == 0 {
+        say_usage();
+    }
+    say_answer(Output::new(), input).end(b"carvelist: standard output");
+}
+
+fn main() {
+    if os::arg_count() > 1 {
+        say_usage();
+        return;
+    }
+    let mut space = input_space();
+    match read_whole(STDIN_FILENO, &mut space) {
+        Got::Bytes(n) => answer(&space[..n]),
+        Got::Failed => os::fail(b"carvelist: standard input"),
     }
 }

@@ -13,6 +13,10 @@ use Rattle.phsarodil.proofs.values.phs_decode_serial_type.Reads as deco
 use Rattle.phsarodil.proofs.values.phs_read_entry.Reads as read-entry
 use Rattle.phsarodil.proofs.values.phs_read_varint.Reads as read-varint
 use Rattle.phsarodil.proofs.values.phs_view_entry.Reads as view-entry
+use Rattle.phsarodil.proofs.version.phs_version.Reads as version
+
+pub version-number : Fixes version.Post
+version-number k a x y s t p q = p ∙ sym q
 
 -- ---- the number that is returned, and the words at exit
 pub read-varint-number : Fixes read-varint.Post

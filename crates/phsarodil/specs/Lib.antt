@@ -1,1 +1,2 @@
 pub mod Door
+pub mod Version

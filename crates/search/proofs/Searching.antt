@@ -9,16 +9,19 @@ use native.Mathlib.Decide.{ℕ-discrete, le-ind}
 use native.Mathlib.Numerals.{add-one}
 use native.Mathlib.Omega.{arith}
 use borrow.Author.Tests.{eq-eqb, eqb-true, le-leb, lt-leb}
-use lib.Dec.{eqb}
+use lib.Dec.{eqb, ltb}
 use lib.ListN.{length, getD, drop, set, replicate, length-append, length-drop, getD-replicate}
 use lib.Seq.{sets, length-sets, set-out, getD-set-same, getD-set-other, getD-drop, take-all, take-at}
-use Rattle.sheet.specs.Filled.{filledAnswer, laid}
+use Rattle.sheet.specs.Filled.{filledNumber, filledWritten, filledBy, writtenAfter, laid}
+use Rattle.sheet.specs.Refusal.{after}
 use Rattle.sheet.specs.Sheet.{overlay}
-use Rattle.sheet.specs.declared.filled.Filled.the-variants.{Done, Full}
-use Rattle.sheet.specs.declared.refusal.Checked.the-variants.{Passed}
-use Rattle.sheet.proofs.Laws.{overlay-length, overlay-more}
+use Rattle.sheet.specs.declared.filled.Filled.{Filled}
+use Rattle.sheet.specs.declared.filled.Filled.the-variants.{Done, Full, Refused}
+use Rattle.sheet.specs.declared.refusal.Checked.the-variants.{Passed, Refused as Stopped}
+use Rattle.sheet.specs.declared.refusal.Refusal.the-variants.{TooLarge}
+use Rattle.sheet.proofs.Laws.{overlay-length, overlay-more, Numbers, filled-numbers}
 use Rattle.search.specs.Inner.{Entered}
-use Rattle.search.specs.Search.{matches, standsAt, placeAt, placesBelow, placesOf}
+use Rattle.search.specs.Search.{matches, standsAt, placeAt, placesBelow, placesOf, tooLarge, searchNumber, searchWritten, searchAnswer, searchPlaces}
 
 -- ---- a match, byte by byte
 matches-fits : (p s : List ℕ) → matches p s ≡ true → length p ≤ length s
@@ -187,7 +190,7 @@ module _ {haystack pattern old places : List ℕ} {at n : ℕ} (s : Seen haystac
 
   -- no place follows
   pub seen-all : placesOf haystack pattern ≡ placesBelow haystack pattern at →
-      (Done n ≡ filledAnswer Passed (placesOf haystack pattern) (length old)) × (places ≡ laid (placesOf haystack pattern) old)
+      (Done n ≡ filledBy (length (placesOf haystack pattern)) (length old)) × (places ≡ laid (placesOf haystack pattern) old)
   seen-all e =
       let found = placesBelow haystack pattern at in
       let fits : length found ≤ length old = omega arith in
@@ -211,7 +214,7 @@ module _ {haystack pattern old places : List ℕ} {at n : ℕ} (s : Seen haystac
 
     -- there was one place too many
     pub seen-full : 0 < length pattern → at < length haystack → length old < count →
-        (Full (length list) ≡ filledAnswer Passed (placesOf haystack pattern) (length old)) × (list ≡ laid (placesOf haystack pattern) old)
+        (Full (length list) ≡ filledBy (length (placesOf haystack pattern)) (length old)) × (list ≡ laid (placesOf haystack pattern) old)
     seen-full some inside over =
         let found = placesBelow haystack pattern at in
         let here = placeAt haystack pattern at in
@@ -224,3 +227,25 @@ module _ {haystack pattern old places : List ℕ} {at n : ℕ} (s : Seen haystac
           simp (lt-leb _ _ longer, kept),
           rw (take-at found (here ++ more) (length old) (omega arith)) (written ∙ sets-out places n here (omega arith) ∙ s .list),
         )
+
+-- ---- the answer
+-- THE LAW: its number is that of the first check that holds
+numbers : (haystack pattern : List ℕ) (room : ℕ) →
+    Numbers (searchAnswer haystack pattern room) (searchNumber haystack pattern room) (searchWritten haystack pattern room)
+unfolding searchAnswer searchNumber searchWritten
+numbers haystack pattern room = go (tooLarge haystack)
+  where
+    go : (large : Bool) →
+        let number : ℕ = cond large 3 (cond (ltb room (length (placesOf haystack pattern))) 9 0) in
+        Numbers (after Refused (cond large (Stopped TooLarge) Passed) (filledBy (length (placesOf haystack pattern)) room)) number
+        (writtenAfter number (length (placesOf haystack pattern)) room)
+    go true = (refl, refl)
+    go false = filled-numbers (length (placesOf haystack pattern)) room
+
+pub answers : (haystack pattern old : List ℕ) {r : Filled} {list : List ℕ} →
+    (r ≡ searchAnswer haystack pattern (length old)) × (list ≡ searchPlaces haystack pattern old) →
+    (r ≡ searchAnswer haystack pattern (length old))
+    × ((filledNumber r ≡ searchNumber haystack pattern (length old))
+    × ((filledWritten r ≡ searchWritten haystack pattern (length old)) × (list ≡ searchPlaces haystack pattern old)))
+answers haystack pattern old (e, l) =
+    let n = numbers haystack pattern (length old) in (e, (ap filledNumber e ∙ n .0, (ap filledWritten e ∙ n .1, l)))

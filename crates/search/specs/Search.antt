@@ -5,10 +5,11 @@ use mathlib.Core.Bool.{Bool, true, false, cond, _&&_}
 use mathlib.Core.List.{List, [], _∷_, _++_}
 use lib.Dec.{eqb, ltb}
 use lib.ListN.{length, drop}
-use Rattle.sheet.specs.Filled.{filledAnswer, filledList}
+use Rattle.sheet.specs.Filled.{filledBy, writtenAfter, laid}
 use Rattle.sheet.specs.Limits.{largestRegion}
-use Rattle.sheet.specs.Refusal.{Check, firstHeld}
+use Rattle.sheet.specs.Refusal.{Check, firstHeld, after, afterOrKept}
 use Rattle.sheet.specs.declared.filled.Filled.{Filled}
+use Rattle.sheet.specs.declared.filled.Filled.the-variants.{Refused}
 use Rattle.sheet.specs.declared.refusal.Refusal.the-variants.{TooLarge}
 
 -- ---- places
@@ -39,14 +40,26 @@ placesOf haystack (p ∷ pattern) = placesBelow haystack (p ∷ pattern) (length
 
 -- ---- the call
 
--- Rule 7.1: a haystack is a region, so it may be too large
+-- Rule 7.1: a haystack is a region, and may be too large for one
+abbrev pub tooLarge : List ℕ → Bool
+tooLarge haystack = ltb largestRegion (length haystack)
+
+-- Rule 1.1: the number that the call answers with; 0 stands for none
+unfoldable pub searchNumber : List ℕ → List ℕ → ℕ → ℕ
+searchNumber haystack pattern room = cond (tooLarge haystack) 3 (cond (ltb room (length (placesOf haystack pattern))) 9 0)
+
+-- and how many places it says are written
+unfoldable pub searchWritten : List ℕ → List ℕ → ℕ → ℕ
+searchWritten haystack pattern room = writtenAfter (searchNumber haystack pattern room) (length (placesOf haystack pattern)) room
+
+-- the check that leaves the list as it was
 abbrev pub searchChecks : List ℕ → List Check
-searchChecks haystack = record { refusal = TooLarge; holds = ltb largestRegion (length haystack) } ∷ []
+searchChecks haystack = record { refusal = TooLarge; holds = tooLarge haystack } ∷ []
 
 -- what a search answers, with so many cells lent
 unfoldable pub searchAnswer : List ℕ → List ℕ → ℕ → Filled
-searchAnswer haystack pattern room = filledAnswer (firstHeld (searchChecks haystack)) (placesOf haystack pattern) room
+searchAnswer haystack pattern room = after Refused (firstHeld (searchChecks haystack)) (filledBy (length (placesOf haystack pattern)) room)
 
 -- what it leaves in the list, by what the list held
 unfoldable pub searchPlaces : List ℕ → List ℕ → List ℕ → List ℕ
-searchPlaces haystack pattern old = filledList (firstHeld (searchChecks haystack)) (placesOf haystack pattern) old
+searchPlaces haystack pattern old = afterOrKept (firstHeld (searchChecks haystack)) (laid (placesOf haystack pattern) old) old

@@ -5,9 +5,8 @@ use Prim.Native.String.{String}
 use mathlib.Core.Path.{_≡_, refl}
 use mathlib.Core.List.{List, [], _∷_, _++_, map}
 use lib.ListN.{length, replicate}
-use Rattle.statement.specs.Statement.{between, isInteger, isText, isReal, isBlob, hintOf, isRowId, isConstraint, isSkipped, pieceHints, allHints, hintsOf, statementChecks, statementAnswer, statementHints}
-use Rattle.statement.specs.Words.{bytes, isBlank, raise, takeWhile, dropWhile, trim, has, behindFirst, beforeLast, pieces, firstWord, secondWord, startsWith, equals, holds, startsWithOne, equalsOne}
-use Rattle.sheet.specs.Filled.{filledNumber, filledWritten}
+use Rattle.statement.specs.Statement.{between, isInteger, isText, isReal, isBlob, hintOf, isRowId, isConstraint, isSkipped, pieceHints, allHints, hintsOf, statementChecks, statementNumber, statementWritten, statementHints}
+use Rattle.statement.specs.Words.{bytes, isBlank, raise, takeWhile, dropWhile, trim, has, behindFirst, beforeLast, pieces, firstWord, secondWord, startsWith, equals, holds, oneOf}
 use Rattle.sheet.specs.Limits.{countFits}
 
 -- a statement and how many cells are lent, with the answer's number, how many hints are written, and the hints
@@ -20,9 +19,7 @@ cells n = replicate n 99
 
 -- the case as the definitions have it
 computed : Case → Case
-computed (case s room number written hints) =
-    let r = statementAnswer s room in
-    case s room (filledNumber r) (filledWritten r) (statementHints s (cells room))
+computed (case s room number written hints) = case s room (statementNumber s room) (statementWritten s room) (statementHints s (cells room))
 
 -- a list that the hints fill
 abbrev sql : String → List ℕ → Case
@@ -81,5 +78,5 @@ cases : List Case
 cases = given ++ refused ++ roomed ++ counted
 
 table : map computed cases ≡ cases
-unfolding cases given refused roomed counted several computed statementAnswer statementHints statementChecks hintsOf allHints pieceHints isSkipped isRowId isConstraint hintOf isInteger isText isReal isBlob between startsWithOne equalsOne equals holds startsWith secondWord firstWord pieces beforeLast behindFirst has trim dropWhile takeWhile raise isBlank countFits
+unfolding cases given refused roomed counted several computed statementNumber statementWritten statementHints statementChecks hintsOf allHints pieceHints isSkipped isRowId isConstraint hintOf isInteger isText isReal isBlob between oneOf equals holds startsWith secondWord firstWord pieces beforeLast behindFirst has trim dropWhile takeWhile raise isBlank countFits
 table = refl

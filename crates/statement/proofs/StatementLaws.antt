@@ -2,26 +2,27 @@
 -- Assumes nothing.
 use Prim.Native.Nat.{ℕ, _+_, _-_, _≤_, _<_}
 use mathlib.Core.Path.{_≡_, refl, sym, ap, _∙_}
-use mathlib.Core.Bool.{true, false, cond, not}
+use mathlib.Core.Bool.{Bool, true, false, cond, not}
 use mathlib.Core.List.{List, [], _++_, append-nil, append-assoc}
 use native.Mathlib.Omega.{arith}
 use borrow.Author.Tests.{lt-ltb, le-ltb, le-leb, lt-leb}
+use lib.Dec.{ltb}
 use lib.ListN.{length, take, drop, length-append}
 use lib.Seq.{sets, take-all, take-at}
-use Rattle.statement.specs.Statement.{largestStatement, opening, closing, between, pieceHints, allHints, hintsOf, statementChecks, statementAnswer, statementHints}
+use Rattle.statement.specs.Statement.{largestStatement, opening, closing, between, pieceHints, allHints, hintsOf, tooLarge, unlisted, miscounted, statementNumber, statementWritten, statementChecks, statementAnswer, statementHints}
 use Rattle.statement.specs.Inner.{Kept, PieceEnds, piecesFrom}
 use Rattle.statement.specs.Words.{trim, isNot, has, behindFirst, beforeLast, pieces}
 use Rattle.statement.proofs.WordsLaws.{behind-has, kept-has, kept-before, pieces-none}
-use Rattle.sheet.specs.Filled.{laid}
+use Rattle.sheet.specs.Filled.{filledNumber, filledWritten, filledBy, writtenAfter, laid}
 use Rattle.sheet.specs.Limits.{countFits}
-use Rattle.sheet.specs.Refusal.{firstHeld}
+use Rattle.sheet.specs.Refusal.{firstHeld, after}
 use Rattle.sheet.specs.Sheet.{overlay}
 use Rattle.sheet.specs.declared.filled.Filled.{Filled}
 use Rattle.sheet.specs.declared.filled.Filled.the-variants.{Done, Full, Refused}
 use Rattle.sheet.specs.declared.refusal.Checked.the-variants.{Passed, Refused as Stopped}
 use Rattle.sheet.specs.declared.refusal.Refusal.{Refusal}
 use Rattle.sheet.specs.declared.refusal.Refusal.the-variants.{ColumnCount, TooLarge, NoColumnList}
-use Rattle.sheet.proofs.Laws.{overlay-more}
+use Rattle.sheet.proofs.Laws.{overlay-more, Numbers, filled-numbers}
 
 -- ---- the hints of the pieces from a place on
 pub hints-next : {s : List ℕ} {at e : ℕ} → PieceEnds s at e →
@@ -71,12 +72,31 @@ module _ {all rest old hints : List ℕ} {n : ℕ} where
       rw e (w .lies)
 
 -- ---- the answer
+-- THE LAW: the number is that of the first check that holds
+numbers : (s : List ℕ) (room : ℕ) → Numbers (statementAnswer s room) (statementNumber s room) (statementWritten s room)
+unfolding statementAnswer statementChecks statementNumber statementWritten
+numbers s room = go (tooLarge s) (unlisted s) (miscounted s)
+  where
+    go : (a b c : Bool) →
+        let checked = cond a (Stopped TooLarge) (cond b (Stopped NoColumnList) (cond c (Stopped ColumnCount) Passed)) in
+        let number : ℕ = cond a 3 (cond b 7 (cond c 1 (cond (ltb room (length (hintsOf s))) 9 0))) in
+        Numbers (after Refused checked (filledBy (length (hintsOf s)) room)) number (writtenAfter number (length (hintsOf s)) room)
+    go true b c = (refl, refl)
+    go false true c = (refl, refl)
+    go false false true = (refl, refl)
+    go false false false = filled-numbers (length (hintsOf s)) room
+
 abbrev Answers : List ℕ → List ℕ → Filled → List ℕ → Type 0
-Answers s old r hints = (r ≡ statementAnswer s (length old)) × (hints ≡ statementHints s old)
+Answers s old r hints =
+    (r ≡ statementAnswer s (length old))
+    × ((filledNumber r ≡ statementNumber s (length old)) × ((filledWritten r ≡ statementWritten s (length old)) × (hints ≡ statementHints s old)))
+
+answers : (s old : List ℕ) {r : Filled} {hints : List ℕ} → r ≡ statementAnswer s (length old) → hints ≡ statementHints s old → Answers s old r hints
+answers s old e l = let n = numbers s (length old) in (e, (ap filledNumber e ∙ n .0, (ap filledWritten e ∙ n .1, l)))
 
 refused-by : (s old : List ℕ) {r : Refusal} → firstHeld (statementChecks s) ≡ Stopped r → Answers s old (Refused r) old
 unfolding statementAnswer statementHints
-refused-by s old h = (simp h, simp h)
+refused-by s old h = answers s old (simp h) (simp h)
 
 -- THE LAW: the first check that holds refuses, and leaves the list as it was
 pub too-large : (s old : List ℕ) → largestStatement < length s → Answers s old (Refused TooLarge) old
@@ -134,8 +154,8 @@ module _ {s columns : List ℕ} {n : ℕ} (k : Counts s columns n) where
 
     pub full : length old < n → Answers s old (Full (length old)) hints
     unfolding statementAnswer
-    full h = (simp (passed, counted, lt-leb n (length old) h), written)
+    full h = answers s old (simp (passed, counted, lt-leb n (length old) h)) written
 
     pub done : n ≤ length old → Answers s old (Done n) hints
     unfolding statementAnswer
-    done h = (simp (passed, counted, le-leb n (length old) h), written)
+    done h = answers s old (simp (passed, counted, le-leb n (length old) h)) written

@@ -3,8 +3,8 @@
 use Prim.Native.Nat.{_+_, _≤_}
 use mathlib.Core.Path.{sym, _∙_}
 use native.Mathlib.Omega.{arith}
-use lib.ListN.{length}
 use denote.Ref.{now}
+use lib.ListN.{length}
 use Rattle.record.proofs.Laws.{decoded-ends}
 use borrow.Author.Needs.{needs}
 use Rattle.readrecord.proofs.say_column.Statement.{statement}
@@ -23,8 +23,8 @@ slice-aggregate-say c = search needs
 say-requires : tie.Need-say-requires
 say-requires c κs = search needs
 
-say-number-requires : tie.Need-say-number-requires
-say-number-requires c κs = search needs
+say-decimal-requires : tie.Need-say-decimal-requires
+say-decimal-requires c κs = search needs
 
 slice-aggregate-say-2 : tie.Need-slice-aggregate-say-2
 slice-aggregate-say-2 c = search needs
@@ -50,14 +50,20 @@ say-requires-3 c κs = search needs
 returns : tie.Need-returns
 returns c = search needs
 
-add-end : tie.Need-add-end
-add-end c = omega (arith, ends c)
+add-next : tie.Need-add-next
+add-next c = omega (arith, ends c)
 
 say-value-requires : tie.Need-say-value-requires
 say-value-requires c κs = (omega arith, ends c)
 
+slice-aggregate-say-4 : tie.Need-slice-aggregate-say-4
+slice-aggregate-say-4 c = search needs
+
+say-requires-4 : tie.Need-say-requires-4
+say-requires-4 c κs = search needs
+
 returns-2 : tie.Need-returns-2
-returns-2 c = ends (c .before)
+returns-2 c = ends (c .before .before .before)
 
 pub say-column-spec : {M : Type 1} → statement M
 say-column-spec =
@@ -65,7 +71,7 @@ say-column-spec =
     (tie.spec
     slice-aggregate-say
     say-requires
-    say-number-requires
+    say-decimal-requires
     slice-aggregate-say-2
     say-requires-2
     decode-serial-type-requires
@@ -74,6 +80,8 @@ say-column-spec =
     slice-aggregate-say-3
     say-requires-3
     returns
-    add-end
+    add-next
     say-value-requires
+    slice-aggregate-say-4
+    say-requires-4
     returns-2)

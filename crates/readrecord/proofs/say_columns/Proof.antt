@@ -4,16 +4,16 @@ use Prim.Native.Nat.{_-_, _≤_}
 use mathlib.Core.Path.{sym, _∙_}
 use native.Mathlib.Omega.{arith}
 use lib.ListN.{length}
-use borrow.Author.Needs.{needs}
 use Rattle.record.proofs.Laws.{varint-lies}
+use borrow.Author.Needs.{needs}
 use Rattle.readrecord.proofs.say_columns.Statement.{statement}
 use Rattle.readrecord.proofs.say_columns.Tie as tie
 
 abbrev Inv-loop : tie.InvT-loop
-Inv-loop bytes from header at₀ body₀ t9 at body = (body ≤ length bytes) × (8 ≤ length t9)
+Inv-loop bytes from header out₀ at₀ body₀ t12 out at body = (body ≤ length bytes) × (8 ≤ length t12)
 
 abbrev μ-loop : tie.MeasureT-loop
-μ-loop bytes from header at₀ body₀ t9 at body = length bytes - at
+μ-loop bytes from header out₀ at₀ body₀ t12 out at body = length bytes - at
 
 loop-holds : tie.Need-loop-holds Inv-loop μ-loop
 loop-holds c = search needs
@@ -41,7 +41,7 @@ say-column-requires c κs = search needs
 
 loop-less : tie.Need-loop-less Inv-loop μ-loop
 loop-less c =
-    let z = varint-lies _ _ _ _ (sym (c .before .before .before .before .serial-type .ensures) ∙ c .before .before .kind .given .1) in
+    let z = varint-lies _ _ _ _ (sym (c .before .before .before .before .before .serial-type .ensures) ∙ c .before .before .before .kind .given .1) in
     omega (arith, z .past, z .inside)
 
 loop-again : tie.Need-loop-again Inv-loop μ-loop

@@ -1,28 +1,28 @@
--- `readrecord::say_hex` is safe and ends: each turn prints one byte.
+-- `readrecord::say_hex` is safe and ends: each turn says one byte.
 -- Assumes nothing.
-use Prim.Native.Nat.{_-_, _≤_}
+use Prim.Native.Nat.{_-_}
 use native.Mathlib.Omega.{arith}
 use borrow.Author.Needs.{needs}
 use Rattle.readrecord.proofs.say_hex.Statement.{statement}
 use Rattle.readrecord.proofs.say_hex.Tie as tie
 
 abbrev Inv-loop : tie.InvT-loop
-Inv-loop bytes start end i₀ i = Unit
+Inv-loop bytes start end out₀ i₀ out i = Unit
 
 abbrev μ-loop : tie.MeasureT-loop
-μ-loop bytes start end i₀ i = end - i
+μ-loop bytes start end out₀ i₀ out i = end - i
 
 loop-holds : tie.Need-loop-holds Inv-loop μ-loop
 loop-holds c = search needs
 
-shared-slice-read-print-hex : tie.Need-shared-slice-read-print-hex Inv-loop μ-loop
-shared-slice-read-print-hex c = search needs
+shared-slice-read-say-hex : tie.Need-shared-slice-read-say-hex Inv-loop μ-loop
+shared-slice-read-say-hex c = search needs
 
-cast-print-hex : tie.Need-cast-print-hex Inv-loop μ-loop
-cast-print-hex c = omega (arith, c .shared-slice-known2 .given (c .before .before .loop .i))
+cast-say-hex : tie.Need-cast-say-hex Inv-loop μ-loop
+cast-say-hex c = omega (arith, c .shared-slice-known2 .given (c .before .before .loop .i))
 
-print-hex-requires : tie.Need-print-hex-requires Inv-loop μ-loop
-print-hex-requires c κs = search needs
+say-hex-requires : tie.Need-say-hex-requires Inv-loop μ-loop
+say-hex-requires c κs = search needs
 
 add-i : tie.Need-add-i Inv-loop μ-loop
 add-i c = search needs
@@ -43,9 +43,9 @@ say-hex-spec =
     Inv-loop
     μ-loop
     loop-holds
-    shared-slice-read-print-hex
-    cast-print-hex
-    print-hex-requires
+    shared-slice-read-say-hex
+    cast-say-hex
+    say-hex-requires
     add-i
     loop-less
     loop-again

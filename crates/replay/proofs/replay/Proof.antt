@@ -10,6 +10,9 @@ Inv-loop file tally₀ left₀ tally left = Unit
 abbrev μ-loop : tie.MeasureT-loop
 μ-loop file tally₀ left₀ tally left = left
 
+new-requires : tie.Need-new-requires Inv-loop μ-loop
+new-requires c κs = search needs
+
 loop-holds : tie.Need-loop-holds Inv-loop μ-loop
 loop-holds c = tt
 
@@ -18,6 +21,9 @@ read-case-requires c κs = search needs
 
 with-next-requires : tie.Need-with-next-requires Inv-loop μ-loop
 with-next-requires c κs = search needs
+
+goes-on-requires : tie.Need-goes-on-requires Inv-loop μ-loop
+goes-on-requires c κs = search needs
 
 returns : tie.Need-returns Inv-loop μ-loop
 returns c = search needs
@@ -29,7 +35,7 @@ loop-less : tie.Need-loop-less Inv-loop μ-loop
 loop-less c = search needs
 
 loop-again : tie.Need-loop-again Inv-loop μ-loop
-loop-again c = tt
+loop-again c = search needs
 
 returns-2 : tie.Need-returns-2 Inv-loop μ-loop
 returns-2 c = search needs
@@ -40,9 +46,11 @@ replay-spec =
     (tie.spec
     Inv-loop
     μ-loop
+    new-requires
     loop-holds
     read-case-requires
     with-next-requires
+    goes-on-requires
     returns
     sub-left
     loop-less

@@ -21,8 +21,8 @@ enum-known-h c = search needs
 enum-told : tie.Need-enum-told
 enum-told c = search needs
 
-sub-t11 : tie.Need-sub-t11
-sub-t11 c = search needs
+sub-t12 : tie.Need-sub-t12
+sub-t12 c = search needs
 
 returns : tie.Need-returns
 returns c = attempt-short _ _ _ (sym (c .before .before .header-length .ensures) ∙ c .enum-told .given .1) (omega arith)
@@ -36,23 +36,17 @@ read c = sym (c .before .before .before .header-length .ensures) ∙ c .before .
 past : (c : tie.After-known-told) → c .before .before .before .before .before .before .args .o ≤ c .before .h .given .0 .1 .0 .at
 past c = omega (arith, varint-lies _ _ _ _ (read c) .past)
 
-sub-t13 : tie.Need-sub-t13
-sub-t13 c = past (c .before)
+sub-own : tie.Need-sub-own
+sub-own c = past c
 
 returns-2 : tie.Need-returns-2
 returns-2 c = attempt-bad _ _ _ _ _ (read (c .before)) (fits-not _ _ _ (λ p q r. omega arith))
-
-sub-t14 : tie.Need-sub-t14
-sub-t14 c = past (c .before .before)
 
 returns-3 : tie.Need-returns-3
 returns-3 c = attempt-bad _ _ _ _ _ (read (c .before .before)) (fits-not _ _ _ (λ p q r. omega arith))
 
 sub-if3 : tie.Need-sub-if3
 sub-if3 c = search needs
-
-sub-t17 : tie.Need-sub-t17
-sub-t17 c = past (c .before .before .before)
 
 returns-4 : tie.Need-returns-4
 returns-4 c = attempt-bad _ _ _ _ _ (read (c .before .before .before)) (fits-not _ _ _ (λ p q r. omega arith))
@@ -73,14 +67,12 @@ attempt-spec =
     header-length-requires
     enum-known-h
     enum-told
-    sub-t11
+    sub-t12
     returns
-    sub-t13
+    sub-own
     returns-2
-    sub-t14
     returns-3
     sub-if3
-    sub-t17
     returns-4
     judge-requires
     returns-5)

@@ -4,21 +4,21 @@ use mathlib.Core.Path.{refl}
 use borrow.Author.Needs.{needs}
 use borrow.Author.Tests.{lt-ltb, le-ltb}
 use Rattle.search.specs.Search.{placesBelow, searchAnswer, searchPlaces}
-use Rattle.search.proofs.Searching.{empty-nowhere, ended, seen-none, seen-all}
+use Rattle.search.proofs.Searching.{answers, empty-nowhere, ended, seen-none, seen-all}
 use Rattle.search.proofs.search.boyer_moore_search.Statement.{statement}
 use Rattle.search.proofs.search.boyer_moore_search.Tie as tie
 
 returns : tie.Need-returns
 unfolding searchAnswer searchPlaces
-returns c = simp (lt-ltb _ _ (c .if1 .taken)) (refl, refl)
+returns c = answers _ _ _ (simp (lt-ltb _ _ (c .if1 .taken)) (refl, refl))
 
 returns-2 : tie.Need-returns-2
 unfolding searchAnswer searchPlaces placesBelow
-returns-2 c = simp (le-ltb _ _ (c .before .if1 .left)) (seen-all seen-none (empty-nowhere _ _ (c .if2 .taken)))
+returns-2 c = answers _ _ _ (simp (le-ltb _ _ (c .before .if1 .left)) (seen-all seen-none (empty-nowhere _ _ (c .if2 .taken))))
 
 returns-3 : tie.Need-returns-3
 unfolding searchAnswer searchPlaces
-returns-3 c = simp (le-ltb _ _ (c .before .before .if1 .left)) (seen-all seen-none (ended _ _ 0 (search needs) (search needs) (search needs)))
+returns-3 c = answers _ _ _ (simp (le-ltb _ _ (c .before .before .if1 .left)) (seen-all seen-none (ended _ _ 0 (search needs) (search needs) (search needs))))
 
 slide-requires : tie.Need-slide-requires
 slide-requires c κs = search needs
@@ -28,7 +28,7 @@ same-length c = search needs
 
 returns-4 : tie.Need-returns-4
 unfolding searchAnswer searchPlaces
-returns-4 c = simp (le-ltb _ _ (c .before .before .before .before .before .before .if1 .left)) (c .before .before .slide .ensures)
+returns-4 c = answers _ _ _ (simp (le-ltb _ _ (c .before .before .before .before .before .before .if1 .left)) (c .before .before .slide .ensures))
 
 pub boyer-moore-search-spec : {M : Type 1} → statement M
 boyer-moore-search-spec = tie.close (tie.spec returns returns-2 returns-3 slide-requires same-length returns-4)

@@ -7,12 +7,13 @@ use lib.Dec.{ltb, eqb}
 use lib.ListN.{length, take, drop}
 use Rattle.page.specs.Page.{sizeFits, wholePages}
 use Rattle.sheet.specs.Columns.{unusedWords, roomOf}
-use Rattle.sheet.specs.Filled.{filledAnswer}
+use Rattle.sheet.specs.Filled.{filledBy}
 use Rattle.sheet.specs.Limits.{largestRegion, countFits, hintsKnown}
 use Rattle.sheet.specs.Refusal.{Check, firstHeld, refusalNumber, after, afterOr0, afterOrKept}
 use Rattle.sheet.specs.Sheet.{overlay, rowsWords, columnsWords}
 use Rattle.sheet.specs.declared.columns.Column.{Column}
 use Rattle.sheet.specs.declared.filled.Filled.{Filled}
+use Rattle.sheet.specs.declared.filled.Filled.the-variants.{Refused as Barred}
 use Rattle.sheet.specs.declared.refusal.Checked.{Checked}
 use Rattle.sheet.specs.declared.refusal.Refusal.the-variants.{ColumnCount, Malformed, TooLarge, PageSize}
 use Rattle.sheet.specs.declared.row.Row.{Row}
@@ -141,7 +142,7 @@ carvedWritten carve db size roots counts hints flags depth rows cols =
 
 -- ---- Rule 9.15: a call on one page: its checks came to c, and a group is as wide as the hints are many
 abbrev pub pageAnswerOf : Checked → List Hit → ℕ → ℕ → ℕ → Filled
-pageAnswerOf c hits width rows cols = filledAnswer c hits (roomOf rows cols width)
+pageAnswerOf c hits width rows cols = after Barred c (filledBy (length hits) (roomOf rows cols width))
 
 abbrev pub pageRowsOf : Checked → List Hit → ℕ → List ℕ → List ℕ → List ℕ
 pageRowsOf c hits width rows cols = afterOrKept c (overlay (rowsWords (rowsOf (take (roomOf (length rows) (length cols) width) hits))) rows) rows

@@ -15,6 +15,7 @@ pub fn all(sink: &mut dyn Sink) {
     ends(sink);
     suiting(sink);
     every_type(sink);
+    past_the_header(sink);
     offsets(sink);
     starts(sink);
     rooms(sink);
@@ -95,6 +96,13 @@ fn every_type(sink: &mut dyn Sink) {
         scan(sink, &region, &hints, 3);
         attempt(sink, &region, &hints, 0);
     }
+}
+
+/// The last type ends behind the header, and the first body starts in it.
+fn past_the_header(sink: &mut dyn Sink) {
+    let region = [3, 1, 0x80, 0x0F, 0x2A, 0x61, 0];
+    scan(sink, &region, &HINTS, 2);
+    attempt(sink, &region, &HINTS, 0);
 }
 
 /// One attempt at each offset, up to the region's end and behind it, with a base; in the last two bytes stands a row that

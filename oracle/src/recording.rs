@@ -16,8 +16,8 @@ const LARGEST_CASE: usize = 1200;
 const LARGEST_FILE: usize = 2_000_000;
 
 /// Cases of one kind: the first few, and then ever fewer of the many.
-const FIRST: usize = 16;
-const GROWTH: f64 = 1.25;
+const FIRST: usize = 8;
+const GROWTH: f64 = 1.3;
 
 struct Recorder {
     file: Vec<u8>,

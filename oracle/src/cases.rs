@@ -7,6 +7,7 @@ pub mod entries;
 pub mod large;
 pub mod limits;
 pub mod numbers;
+pub mod payloads;
 pub mod records;
 pub mod regions;
 pub mod rooms;

@@ -16,8 +16,8 @@ const LARGEST_CASE: usize = 1200;
 const LARGEST_FILE: usize = 2_000_000;
 
 /// Cases of one kind: the first few, and then ever fewer of the many.
-const FIRST: usize = 16;
-const GROWTH: f64 = 1.25;
+const FIRST: usize = 8;
+const GROWTH: f64 = 1.3;
 
 struct Recorder {
     file: Vec<u8>,
@@ -34,7 +34,7 @@ struct Recorder {
 
 impl Sink for Recorder {
     fn put(&mut self, case: Case) {
-        if case.size() > LARGEST_CASE || self.file.len() > LARGEST_FILE || self.differs.is_some() {
+        if !fits(&case) || self.file.len() > LARGEST_FILE || self.differs.is_some() {
             return;
         }
         let answer = (calls::of(&case).answer)(&self.limits, &case);
@@ -72,6 +72,11 @@ impl Recorder {
         self.with_the_rust += usize::from(rust);
         put_case(&mut self.file, case, &answer, rust);
     }
+}
+
+/// A head has room for two slices of bytes and two lists: walks take more.
+fn fits(case: &Case) -> bool {
+    case.size() <= LARGEST_CASE && case.words.is_empty() && case.lists.len() <= 2
 }
 
 /// A head of eighteen words, then the bytes of the slices, then the written cells of the lists.
@@ -121,6 +126,7 @@ pub fn record(folder: &str, seed: u64) -> io::Result<bool> {
     recorder.keep_all = false;
     let plan = Plan { seed, random: 200_000, large: false, long: false };
     cases::all(&mut recorder, &plan);
+    cases::pages(&mut recorder, &plan);
     if let Some(why) = recorder.differs {
         println!("DIFFERENCE: {why}");
         return Ok(false);

@@ -19,6 +19,7 @@
 
 #[allow(unsafe_code)]
 mod door;
+mod freeblocks;
 mod hint;
 mod limits;
 mod pages;
@@ -27,6 +28,9 @@ mod rows;
 mod search;
 mod values;
 
+pub use freeblocks::{
+    recover_freeblocks, recover_page_freeblocks, recover_slice_freeblocks, Table,
+};
 pub use hint::{Hint, UnknownHint};
 pub use limits::{LARGEST_BASE, LARGEST_REGION, LARGEST_STATEMENT, MOST_COLUMNS};
 pub use pages::{leaf_pages, page, Page};

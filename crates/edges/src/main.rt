@@ -14,7 +14,6 @@ fn main() {
     shares::all();
     reals::all();
     lists::statements();
-    lists::long_statements();
     lists::searches();
     records::scans();
     records::long_rows();

@@ -1,6 +1,5 @@
 // What is written to standard output.
 use libc::STDOUT_FILENO;
-use record::inner::wide;
 
 pub fn text(bytes: &[u8]) {
     io::write_all(STDOUT_FILENO, bytes);
@@ -19,14 +18,6 @@ pub fn words(list: &[u64]) {
     let mut i = 0;
     while i < list.len() {
         word(list[i]);
-        i = i + 1;
-    }
-}
-
-pub fn bytes(list: &[u8]) {
-    let mut i = 0;
-    while i < list.len() {
-        word(wide(list[i]));
         i = i + 1;
     }
 }

@@ -1,4 +1,4 @@
--- The input (paper, "Bench cases"): a count, as many hint codes, and the region; and what is refused.
+-- The input of carvelist: a count, as many hint codes, and the region; and what is refused.
 -- Assumes nothing.
 use Prim.Native.Nat.{ℕ, _+_, _-_, _≤_}
 use mathlib.Core.Bool.{not}
@@ -9,11 +9,11 @@ use Rattle.sheet.specs.Limits.{mostColumns, countFits, hintsKnown}
 use Rattle.sheet.specs.Refusal.{Check}
 use Rattle.sheet.specs.declared.refusal.Refusal.the-variants.{ColumnCount, Malformed, TooLarge}
 
--- the most bytes that are read
+-- Rule 8.2: the most bytes that are taken
 abbrev pub largestInput : ℕ
 largestInput = 65536
 
--- the bytes of the count
+-- Rule 8.1: the bytes of the count; the count; its hints, and the rest
 abbrev pub countBytes : ℕ
 countBytes = 1
 
@@ -26,7 +26,7 @@ hintsOf s = take (countOf s) (drop countBytes s)
 abbrev pub regionOf : List ℕ → List ℕ
 regionOf s = drop (countBytes + countOf s) s
 
--- its length is judged first; then that there is a count, and not too large a one; then that its hints are all there, and known
+-- Rule 8.2: its length is judged first; then that there is a count, and not too large a one; then that its hints are all there, and known
 abbrev pub inputChecks : List ℕ → List Check
 inputChecks s =
     record { refusal = TooLarge; holds = ltb largestInput (length s) }

@@ -1,4 +1,4 @@
--- The parts of a list: a scan into short lists, and on from the row that found no room.
+-- The parts of a list (rule 8.4): a scan into short lists, and on from the row that found no room.
 -- Assumes nothing.
 use Prim.Native.Nat.{ℕ, zero, suc, _+_, _*_}
 use mathlib.Core.List.{List, [], _∷_}

@@ -1,4 +1,4 @@
--- What the program prints, as lists of ASCII bytes (paper, "Bench cases").
+-- What carvelist prints (rule 8.3), as lists of ASCII bytes.
 -- Assumes nothing.
 use Prim.Native.Nat.{ℕ, zero, suc, _+_, _*_, _/_, _%_}
 use mathlib.Core.Bool.{cond}

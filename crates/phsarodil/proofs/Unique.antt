@@ -3,8 +3,13 @@
 use mathlib.Core.Path.{sym, _∙_}
 use denote.Ref.{now}
 use Rattle.record.proofs.Unique.{Fixes, FixesSeen}
+use Rattle.phsarodil.proofs.freeblocks.phs_recover_freeblocks.Reads as recover-freeblocks
+use Rattle.phsarodil.proofs.freeblocks.phs_recover_page_freeblocks.Reads as recover-page-freeblocks
+use Rattle.phsarodil.proofs.freeblocks.phs_recover_slice_freeblocks.Reads as recover-slice-freeblocks
 use Rattle.phsarodil.proofs.lists.phs_boyer_moore_search.Reads as boyer-moore-search
 use Rattle.phsarodil.proofs.lists.phs_from_create_sql.Reads as from-create-sql
+use Rattle.phsarodil.proofs.pages.phs_collect_leaf_pages.Reads as collect-leaf-pages
+use Rattle.phsarodil.proofs.pages.phs_get_page_data.Reads as get-page-data
 use Rattle.phsarodil.proofs.rows.phs_is_compatible.Reads as is-compatible
 use Rattle.phsarodil.proofs.rows.phs_scan_region.Reads as scan-region
 use Rattle.phsarodil.proofs.rows.phs_try_parse_record.Reads as try-parse-record
@@ -97,3 +102,67 @@ boyer-moore-search-words k a x y s t p q = p .1 .0 ∙ sym (q .1 .0)
 
 pub boyer-moore-search-places : FixesSeen boyer-moore-search.Post (λ k r s. now (s .1 .1 .0))
 boyer-moore-search-places k a x y s t p q = p .1 .1 ∙ sym (q .1 .1)
+
+-- ---- pages and freed blocks: what the walk leaves in flags and stack, too
+pub get-page-data-number : Fixes get-page-data.Post
+get-page-data-number k a x y s t p q = p .0 ∙ sym (q .0)
+
+pub get-page-data-words : FixesSeen get-page-data.Post (λ k r s. now (s .1 .1 .1 .0))
+get-page-data-words k a x y s t p q = p .1 ∙ sym (q .1)
+
+pub collect-leaf-pages-number : Fixes collect-leaf-pages.Post
+collect-leaf-pages-number k a x y s t p q = p .0 ∙ sym (q .0)
+
+pub collect-leaf-pages-words : FixesSeen collect-leaf-pages.Post (λ k r s. now (s .1 .1 .1 .1 .1 .1 .0))
+collect-leaf-pages-words k a x y s t p q = p .1 .0 ∙ sym (q .1 .0)
+
+pub collect-leaf-pages-leaves : FixesSeen collect-leaf-pages.Post (λ k r s. now (s .1 .1 .1 .1 .1 .0))
+collect-leaf-pages-leaves k a x y s t p q = p .1 .1 .0 ∙ sym (q .1 .1 .0)
+
+pub collect-leaf-pages-flags : FixesSeen collect-leaf-pages.Post (λ k r s. now (s .1 .1 .1 .0))
+collect-leaf-pages-flags k a x y s t p q = p .1 .1 .1 .0 ∙ sym (q .1 .1 .1 .0)
+
+pub collect-leaf-pages-stack : FixesSeen collect-leaf-pages.Post (λ k r s. now (s .1 .1 .1 .1 .0))
+collect-leaf-pages-stack k a x y s t p q = p .1 .1 .1 .1 ∙ sym (q .1 .1 .1 .1)
+
+pub recover-freeblocks-number : Fixes recover-freeblocks.Post
+recover-freeblocks-number k a x y s t p q = p .0 ∙ sym (q .0)
+
+pub recover-freeblocks-words : FixesSeen recover-freeblocks.Post (λ k r s. now (s .1 .1 .1 .1 .1 .1 .1 .1 .1 .0))
+recover-freeblocks-words k a x y s t p q = p .1 .0 ∙ sym (q .1 .0)
+
+pub recover-freeblocks-rows : FixesSeen recover-freeblocks.Post (λ k r s. now (s .1 .1 .1 .1 .1 .1 .1 .0))
+recover-freeblocks-rows k a x y s t p q = p .1 .1 .0 ∙ sym (q .1 .1 .0)
+
+pub recover-freeblocks-cols : FixesSeen recover-freeblocks.Post (λ k r s. now (s .1 .1 .1 .1 .1 .1 .1 .1 .0))
+recover-freeblocks-cols k a x y s t p q = p .1 .1 .1 .0 ∙ sym (q .1 .1 .1 .0)
+
+pub recover-freeblocks-flags : FixesSeen recover-freeblocks.Post (λ k r s. now (s .1 .1 .1 .1 .1 .0))
+recover-freeblocks-flags k a x y s t p q = p .1 .1 .1 .1 .0 ∙ sym (q .1 .1 .1 .1 .0)
+
+pub recover-freeblocks-stack : FixesSeen recover-freeblocks.Post (λ k r s. now (s .1 .1 .1 .1 .1 .1 .0))
+recover-freeblocks-stack k a x y s t p q = p .1 .1 .1 .1 .1 ∙ sym (q .1 .1 .1 .1 .1)
+
+pub recover-page-freeblocks-number : Fixes recover-page-freeblocks.Post
+recover-page-freeblocks-number k a x y s t p q = p .0 ∙ sym (q .0)
+
+pub recover-page-freeblocks-words : FixesSeen recover-page-freeblocks.Post (λ k r s. now (s .1 .1 .1 .1 .1 .1 .0))
+recover-page-freeblocks-words k a x y s t p q = p .1 .0 ∙ sym (q .1 .0)
+
+pub recover-page-freeblocks-rows : FixesSeen recover-page-freeblocks.Post (λ k r s. now (s .1 .1 .1 .1 .0))
+recover-page-freeblocks-rows k a x y s t p q = p .1 .1 .0 ∙ sym (q .1 .1 .0)
+
+pub recover-page-freeblocks-cols : FixesSeen recover-page-freeblocks.Post (λ k r s. now (s .1 .1 .1 .1 .1 .0))
+recover-page-freeblocks-cols k a x y s t p q = p .1 .1 .1 ∙ sym (q .1 .1 .1)
+
+pub recover-slice-freeblocks-number : Fixes recover-slice-freeblocks.Post
+recover-slice-freeblocks-number k a x y s t p q = p .0 ∙ sym (q .0)
+
+pub recover-slice-freeblocks-words : FixesSeen recover-slice-freeblocks.Post (λ k r s. now (s .1 .1 .1 .1 .1 .1 .0))
+recover-slice-freeblocks-words k a x y s t p q = p .1 .0 ∙ sym (q .1 .0)
+
+pub recover-slice-freeblocks-rows : FixesSeen recover-slice-freeblocks.Post (λ k r s. now (s .1 .1 .1 .1 .0))
+recover-slice-freeblocks-rows k a x y s t p q = p .1 .1 .0 ∙ sym (q .1 .1 .0)
+
+pub recover-slice-freeblocks-cols : FixesSeen recover-slice-freeblocks.Post (λ k r s. now (s .1 .1 .1 .1 .1 .0))
+recover-slice-freeblocks-cols k a x y s t p q = p .1 .1 .1 ∙ sym (q .1 .1 .1)

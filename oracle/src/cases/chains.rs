@@ -1,11 +1,10 @@
-//! Free blocks of one page: every short chain, every short payload, every place where a row may begin, and random ones.
-//! Pages of a size that a database has are given by their number too.
+//! The chain of free blocks of one page: every short one, loops, headers at every place, and random ones. Pages of a
+//! size that a database has are given by their number too.
 
-use super::bytes::{every, TELLING, TYPES};
 use super::databases::{harm, leaf, link, payload, put, SIZES};
-use super::limits::{exact, long_row};
+use super::payloads;
 use super::records::hints;
-use super::regions::{lists, with_tail};
+use super::regions::lists;
 use crate::calls::{RECOVER_PAGE, RECOVER_SLICE};
 use crate::case::Case;
 use crate::random::Random;
@@ -20,11 +19,7 @@ pub fn all(sink: &mut dyn Sink, random: &mut Random, count: usize) {
     one_block(sink);
     two_blocks(sink);
     loops(sink);
-    short_payloads(sink);
-    types(sink);
-    starts(sink);
-    header_lengths(sink);
-    long_rows(sink);
+    payloads::all(sink);
     heads(sink);
     bases(sink);
     refusals(sink, &sample());
@@ -39,7 +34,7 @@ pub fn all(sink: &mut dyn Sink, random: &mut Random, count: usize) {
     }
 }
 
-fn slice(sink: &mut dyn Sink, page: &[u8], head: usize, hints: &[u8], rows: usize) {
+pub fn slice(sink: &mut dyn Sink, page: &[u8], head: usize, hints: &[u8], rows: usize) {
     let lists = lists(rows, hints.len());
     sink.put(Case::new(RECOVER_SLICE, &[head as u64, 0], &[page, hints], &lists));
 }
@@ -131,100 +126,6 @@ fn overlapping(length: usize) -> Vec<u8> {
     page
 }
 
-/// A page with one block, which holds just these bytes; the page ends with it, or others come behind.
-fn around(payload: &[u8], behind: &[u8]) -> Vec<u8> {
-    let mut page = vec![0; 12];
-    put(&mut page, 1, 8);
-    link(&mut page, 8, 0, 4 + payload.len());
-    page.extend(payload);
-    page.extend(behind);
-    page
-}
-
-/// The bytes behind a block, which no row may reach.
-const BEHIND: [u8; 12] = [2, 8, 0, 1, 2, 8, 3, 8, 8, 0x7F, 0, 0];
-
-fn short_payloads(sink: &mut dyn Sink) {
-    let lent: [&[u8]; 8] = [&[0], &[1], &[2], &[3], &[4], &[5], &[0, 5], &[5, 5, 5]];
-    every(&TELLING, 3, |payload| {
-        for hints in lent {
-            slice(sink, &around(payload, &[]), 0, hints, 1);
-            slice(sink, &around(payload, &BEHIND), 0, hints, 1);
-        }
-    });
-}
-
-fn types(sink: &mut dyn Sink) {
-    for kind in 0..=255 {
-        for bodies in 0..=12 {
-            for hint in 0..6 {
-                slice(sink, &around(&with_tail(&[kind], bodies, 1), &BEHIND), 0, &[hint], 1);
-            }
-        }
-    }
-    for a in TYPES {
-        for b in TYPES {
-            for bodies in [0, 1, 2, 4, 8, 16] {
-                for hints in [[0, 0], [0, 2], [1, 3], [2, 5], [3, 4], [4, 1]] {
-                    slice(sink, &around(&with_tail(&[a, b], bodies, 1), &BEHIND), 0, &hints, 1);
-                    slice(sink, &around(&with_tail(&[a, b], bodies, 2), &[]), 0, &hints, 1);
-                }
-            }
-        }
-    }
-    every(&TYPES, 3, |types| {
-        for bodies in [3, 12, 24] {
-            slice(sink, &around(&with_tail(types, bodies, 1), &BEHIND), 0, &[0, 2, 3], 1);
-        }
-    });
-}
-
-/// A row at every place up to the first that does not count, in payloads of every length up to and past its end.
-fn starts(sink: &mut dyn Sink) {
-    let records: [(&[u8], &[u8]); 3] =
-        [(&[2, 8], &[0]), (&[3, 1, 0x17, 0x2A, 0x68, 0x69, 0x70, 0x69, 0x6B], &[0, 2]), (&[0x80, 3, 13], &[2])];
-    for (record, hints) in records {
-        for v in 0..=23 {
-            for filled in [0, 1, 0x80, 0xFF] {
-                let mut whole = vec![filled; v];
-                whole.extend(record);
-                whole.extend([filled; 3]);
-                // A second row, which must not be taken.
-                whole.extend(record);
-                for length in 0..=whole.len() {
-                    slice(sink, &around(&whole[..length], &whole[length..]), 0, hints, 2);
-                }
-            }
-        }
-    }
-}
-
-/// Headers up to the longest, in blocks that end with them, before, and after.
-fn header_lengths(sink: &mut dyn Sink) {
-    for h in [2, 3, 127, 128, 510, 511, 512, 513, 514] {
-        for (wide, columns) in [(1, 1), (1, 126), (2, 57), (2, 125), (2, 126), (3, 126)] {
-            let Some(header) = exact(h, wide, columns, 8) else {
-                continue;
-            };
-            for end in [header.len() - 1, header.len()] {
-                slice(sink, &around(&header[..end], &header[end..]), 0, &vec![0; columns], 1);
-                slice(sink, &around(&header[..end], &header[end..]), 0, &vec![5; columns - 1], 1);
-            }
-        }
-    }
-}
-
-/// Rows that end where their block does, and one byte behind, up to the longest block.
-fn long_rows(sink: &mut dyn Sink) {
-    for payload in [20, 400, 4000, 65_530, 65_531] {
-        for total in payload - 1..=payload + 1 {
-            let mut bytes = long_row(total, 1, 1, true);
-            bytes.resize(payload, b'a');
-            slice(sink, &around(&bytes, b"aaa"), 0, &[0, 2], 1);
-        }
-    }
-}
-
 /// A leaf with some blocks, at a header of any place.
 fn sample_at(head: usize, length: usize) -> Vec<u8> {
     let mut page = vec![0; length];
@@ -312,13 +213,13 @@ fn sizes(sink: &mut dyn Sink) {
     refusals(sink, &sample_at(100, 512));
 }
 
-fn payloads(random: &mut Random, hints: &[u8]) -> Vec<Vec<u8>> {
+fn some_payloads(random: &mut Random, hints: &[u8]) -> Vec<Vec<u8>> {
     (0..random.below(6)).map(|_| payload(random, hints)).collect()
 }
 
 fn random_slice(sink: &mut dyn Sink, random: &mut Random) {
     let hints = hints(random);
-    let payloads = payloads(random, &hints);
+    let payloads = some_payloads(random, &hints);
     let head = if random.once_in(4) { random.below(12) } else { 0 };
     let whole: usize = payloads.iter().map(|p| p.len() + 4).sum();
     let mut page = vec![0; head + 8 + whole + random.below(8)];
@@ -348,7 +249,7 @@ fn random_page(sink: &mut dyn Sink, random: &mut Random) {
     let hints = hints(random);
     let head = if random.once_in(2) { 100 } else { 0 };
     let mut page = vec![0; SIZES[random.mostly_below(1, 20, 5)]];
-    leaf(&mut page, head, &payloads(random, &hints));
+    leaf(&mut page, head, &some_payloads(random, &hints));
     if random.once_in(3) {
         page[head] = random.next() as u8;
     }
@@ -363,7 +264,7 @@ fn random_page(sink: &mut dyn Sink, random: &mut Random) {
 fn rooms(sink: &mut dyn Sink, random: &mut Random) {
     let hints = hints(random);
     let mut page = vec![0; 512];
-    leaf(&mut page, 0, &payloads(random, &hints));
+    leaf(&mut page, 0, &some_payloads(random, &hints));
     let found = rows(&Limits::of_the_rules(), &page, 0, &hints).len();
     let db = [&vec![0; 512], &page[..]].concat();
     let [most_r, most_c] = lists(found + 1, hints.len());

@@ -47,8 +47,9 @@ pub fn get_page_data(db: &[u8], size: u64, page: u64) -> Paged
     if page > (db.len() / len) as u64 {
         return Paged::Refused(Refusal::NoSuchPage);
     }
+    let start = (page as usize - 1) * len;
     Paged::At {
-        start: (page as usize - 1) * len,
+        start,
         len,
         head: head_of(page),
     }

@@ -1,4 +1,4 @@
--- Carving over walks (rules 9.12 to 9.16): one definition for all that carve pages. A carver of pages knows of no room: that is applied once, at the end.
+-- Carving over walks (rules 9.12 to 9.14): one definition for all that carve pages. A carver of pages knows of no room: that is applied once, at the end.
 -- Assumes nothing.
 use Prim.Native.Nat.{ℕ, suc, _+_, _-_, min, max}
 use mathlib.Core.Bool.{Bool, true, false, cond, not, _&&_, _||_}
@@ -140,7 +140,7 @@ carvedWritten carve db size roots counts hints flags depth rows cols =
     walkWritten (firstHeld (tableChecks (length db) size roots counts hints)) (wholePages (length db) size) flags (roomOf rows cols (widest counts))
     (length (tablesHits carve db size roots counts hints depth))
 
--- ---- Rule 9.15: a call on one page: its checks came to c, and a group is as wide as the hints are many
+-- ---- a call on one page: its checks came to c, and a group is as wide as the hints are many
 abbrev pub pageAnswerOf : Checked → List Hit → ℕ → ℕ → ℕ → Filled
 pageAnswerOf c hits width rows cols = after Barred c (filledBy (length hits) (roomOf rows cols width))
 

@@ -64,11 +64,11 @@ some c = omega arith
 inside : (c : tie.Else4) → let a = c .before .before .before .before .before .before .args in startOf (a .size) (a .page) + a .size ≤ length (now (a .db))
 inside c = page-inside _ _ _ (omega (arith, size-range _ (fits (c .before .before)) .0)) (some c) (c .if4 .left)
 
-sub-t11 : tie.Need-sub-t11
-sub-t11 c = search needs
+sub-start : tie.Need-sub-start
+sub-start c = search needs
 
-mul-t14 : tie.Need-mul-t14
-mul-t14 c = omega (arith, inside c)
+mul-start : tie.Need-mul-start
+mul-start c = omega (arith, inside c)
 
 head-of-requires : tie.Need-head-of-requires
 head-of-requires c κs = search needs
@@ -79,4 +79,4 @@ returns-5 c =
     rw (c .head-of .ensures .0) (there _ _ _ (c .before .before .before .before .before .if1 .left) f (page-there _ _ _ (some (c .before)) (c .before .if4 .left)))
 
 pub get-page-data-spec : {M : Type 1} → statement M
-get-page-data-spec = tie.close (tie.spec returns size-fits-requires returns-2 returns-3 div-if4 returns-4 sub-t11 mul-t14 head-of-requires returns-5)
+get-page-data-spec = tie.close (tie.spec returns size-fits-requires returns-2 returns-3 div-if4 returns-4 sub-start mul-start head-of-requires returns-5)

@@ -14,7 +14,7 @@ ghost use lib.Seq.{sets};
 ghost use Rattle.sheet.specs.Filled.{filledNumber, filledWritten, laid};
 ghost use Rattle.statement.specs.Statement.{closing, hintOf, isRowId, isSkipped, pieceHints, allHints, statementNumber, statementWritten, statementAnswer, statementHints};
 ghost use Rattle.statement.specs.Inner.{inRun, Kept, matches, startsOrIs, PieceEnds, givenHints};
-ghost use Rattle.statement.specs.Words.{isBlank, isNot, raise, takeWhile, dropWhile, trim, behindFirst, pieces, firstWord, secondWord, startsWith, equals, holds, oneOf};
+ghost use Rattle.statement.specs.Words.{isBlank, isNot, raise, takeWhile, dropWhile, trim, behindFirst, pieces, firstWord, secondWord, startsWith, holds, oneOf};
 
 // In bytes.
 pub const LARGEST_STATEMENT: usize = 65_536;
@@ -103,13 +103,6 @@ fn kept(s: &[u8], run: Run) -> usize
     end
 }
 
-fn taken(s: &[u8], run: Run) -> &[u8]
-    ensures { λ r. ⌜ now r ≡ takeWhile (inRun run) (now (s .entry)) ⌝ }
-{
-    let n = leading(s, run);
-    &s[..n]
-}
-
 fn dropped(s: &[u8], run: Run) -> &[u8]
     ensures { λ r. ⌜ now r ≡ dropWhile (inRun run) (now (s .entry)) ⌝ }
 {
@@ -138,7 +131,9 @@ fn behind_first(s: &[u8], byte: u8) -> &[u8]
 fn first_word(s: &[u8]) -> &[u8]
     ensures { λ r. ⌜ now r ≡ firstWord (now (s .entry)) ⌝ }
 {
-    taken(dropped(s, Run::Blanks), Run::Word)
+    let from = dropped(s, Run::Blanks);
+    let n = leading(from, Run::Word);
+    &from[..n]
 }
 
 fn second_word(s: &[u8]) -> &[u8]
@@ -163,15 +158,6 @@ fn starts_with(s: &[u8], word: &[u8]) -> bool
     true
 }
 
-fn same(s: &[u8], word: &[u8]) -> bool
-    ensures { λ r. ⌜ r ≡ equals (now (word .entry)) (now (s .entry)) ⌝ }
-{
-    if s.len() != word.len() {
-        return false;
-    }
-    starts_with(s, word)
-}
-
 fn holds_word(s: &[u8], word: &[u8]) -> bool
     ensures { λ r. ⌜ r ≡ holds (now (word .entry)) (now (s .entry)) ⌝ }
 {
@@ -191,7 +177,12 @@ fn matched(s: &[u8], word: &[u8], how: Match) -> bool
 {
     match how {
         Match::Start => starts_with(s, word),
-        Match::Whole => same(s, word),
+        Match::Whole => {
+            if s.len() != word.len() {
+                return false;
+            }
+            starts_with(s, word)
+        }
     }
 }
 

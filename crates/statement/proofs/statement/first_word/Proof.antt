@@ -1,25 +1,32 @@
 -- `statement::statement::first_word` meets its contract: a run of blanks, and the word behind it.
 -- Assumes nothing.
-use mathlib.Core.Path.{ap, _∙_}
+use mathlib.Core.Path.{sym, ap, _∙_}
 use borrow.Author.Needs.{needs}
+use lib.Seq.{length-take-le}
 use Rattle.statement.specs.Words.{takeWhile, inWord, firstWord}
+use Rattle.statement.proofs.WordsLaws.{take-run}
 use Rattle.statement.proofs.statement.first_word.Statement.{statement}
 use Rattle.statement.proofs.statement.first_word.Tie as tie
 
 dropped-requires : tie.Need-dropped-requires
 dropped-requires c κs = search needs
 
-taken-requires : tie.Need-taken-requires
-taken-requires c κs = search needs
+leading-requires : tie.Need-leading-requires
+leading-requires c κs = search needs
+
+slice-aggregate-result : tie.Need-slice-aggregate-result
+slice-aggregate-result c = sym (length-take-le _ _ (c .before .leading .ensures .1))
 
 returns : tie.Need-returns
 unfolding firstWord
-returns c = c .taken .ensures ∙ ap (takeWhile inWord) (c .before .dropped .ensures)
+returns c =
+    rw (c .before .leading .ensures .0) (take-run inWord _ ∙ ap (takeWhile inWord) (c .before .before .dropped .ensures))
 
 pub first-word-spec : {M : Type 1} → statement M
 first-word-spec =
     tie.close
     (tie.spec
     dropped-requires
-    taken-requires
+    leading-requires
+    slice-aggregate-result
     returns)

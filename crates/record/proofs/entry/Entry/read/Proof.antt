@@ -20,10 +20,10 @@ returns : tie.Need-returns
 returns c = both (entry-refused _ _ (bad-state _ _ (c .if1 .taken)))
 
 returns-2 : tie.Need-returns-2
-returns-2 c = both (entry-null _ _ (c .if2 .taken) (omega arith))
+returns-2 c = both (entry-null _ _ (λ z. omega arith) (omega arith))
 
 returns-3 : tie.Need-returns-3
-returns-3 c = both (entry-refused _ _ (bad-body _ _ (c .before .if2 .left) (λ n l q. omega arith)))
+returns-3 c = both (entry-refused _ _ (bad-body _ _ (omega arith) (λ n l q. omega arith)))
 
 decode-serial-type-requires : tie.Need-decode-serial-type-requires
 decode-serial-type-requires c κs = search needs

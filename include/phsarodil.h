@@ -24,7 +24,7 @@
  * confidence makes text in types rarer; nothing excludes it. README, "What the sheet gives away", has an example.
  *
  * Not given by any call so far, and declared for those to come:
- *     refusals 5, 6 and 8; sources, modes and states other than 0; a row id, a percent, or the index of a table.
+ *     sources, modes and states other than 0; a row id, a percent, or the index of a table.
  */
 #ifndef PHSARODIL_H
 #define PHSARODIL_H
@@ -56,7 +56,7 @@ enum phs_refusal {
     PHS_NO_SUCH_PAGE = 6,   /* page 0, or a page that is not wholly in the database */
     PHS_NO_COLUMN_LIST = 7, /* a statement without a '(', or without a ')' behind it */
     PHS_WALK_SPACE = 8,     /* too few page flags, or a full page stack */
-    PHS_NO_ROOM = 9         /* one row, hint or place more than the lent list takes */
+    PHS_NO_ROOM = 9         /* one row, hint, place or leaf more than the lent list takes */
 };
 
 #define PHS_WORDS_PER_ROW 8
@@ -221,6 +221,28 @@ uint64_t phs_from_create_sql(const uint8_t *statement, size_t len, uint8_t *hint
  */
 uint64_t phs_boyer_moore_search(const uint8_t *haystack, size_t len, const uint8_t *pattern, size_t pattern_len,
                                 uint64_t *places, size_t places_len, uint64_t out[1]);
+
+/*
+ * A page of a database by its number; pages count from 1.
+ * out: where the page starts in `db`; its length; where its b-tree header stands in it, 100 on page 1, else 0.
+ * Returns PHS_TOO_LARGE, PHS_PAGE_SIZE or PHS_NO_SUCH_PAGE.
+ */
+uint64_t phs_get_page_data(const uint8_t *db, size_t len, uint64_t page_size, uint64_t page, uint64_t out[3]);
+
+/*
+ * The leaves of the table whose root is the page `root`, in the order in which the walk pops them. Of an interior page the
+ * right child is pushed, and then the children of its cells; every one is pushed, also 0, a page that is not there and one
+ * that was pushed before, and the last pushed is popped first. A page is looked at once. Children whose pointers lie past
+ * the page end the list of them, cells past it are skipped; a page of another type than a table's has none.
+ * `flags` has a byte for each whole page, `stack` is the walk's own: both may hold anything before, and all of both is 0
+ * after a call that no other refusal than PHS_WALK_SPACE and PHS_NO_ROOM ends.
+ * out: the leaves written.
+ * Returns PHS_TOO_LARGE or PHS_PAGE_SIZE; PHS_WALK_SPACE for fewer flags than whole pages, with nothing written, or for a
+ * push onto a full stack, with the leaves popped before it; or PHS_NO_ROOM.
+ */
+uint64_t phs_collect_leaf_pages(const uint8_t *db, size_t len, uint64_t page_size, uint64_t root, uint8_t *flags,
+                                size_t flags_len, uint64_t *stack, size_t stack_len, uint64_t *leaves,
+                                size_t leaves_len, uint64_t out[1]);
 
 #ifdef __cplusplus
 }

@@ -21,6 +21,9 @@ const PARTS: &[Part] = &[
     Part { module: "varint", only: None, opened: 0, fields: &[] },
     Part { module: "record", only: None, opened: 0, fields: &[] },
     Part { module: "schema_sig", only: None, opened: 1, fields: &[] },
+    Part { module: "context", only: None, opened: 0, fields: &[] },
+    Part { module: "btree", only: Some("get_page_data"), opened: 1, fields: &[] },
+    Part { module: "freeblock", only: None, opened: 5, fields: &["page_offset: usize", "data: Vec<u8>"] },
 ];
 
 const PRIVATE: [&str; 3] = ["fn ", "pub(crate) fn ", "struct "];

@@ -2,9 +2,10 @@
    writes back all that the call left. Built for x86-64 without any header, since the kit has none.
 
    A batch is its length in bytes (4 bytes, lowest first) and then its cases. A case is the call's number, how many
-   numbers, slices and lists it has (a byte each), the numbers (8 bytes each), the lengths of the slices and of the
-   lists (4 bytes each), and the bytes of the slices. The answer to a case is the returned number and the words of
-   `out` (8 bytes each), then every cell of every lent list.
+   numbers, slices of bytes, slices of words and lists it has (a byte each), the numbers (8 bytes each), the lengths of
+   the slices and of the lists (4 bytes each), what each list holds (a byte), the bytes of the slices and the words (8
+   bytes each) of the others. The answer to a case is the returned number and the words of `out` (8 bytes each), then
+   every cell of every lent list.
 
    Call 0 has nothing lent, and its one word of `out` says which calls the archive has: bit n for call n. */
 
@@ -32,8 +33,22 @@ CALL u64 phs_scan_region(const u8 *region, u64 len, const u8 *hints, u64 hints_l
 CALL u64 phs_from_create_sql(const u8 *statement, u64 len, u8 *hints, u64 hints_len, u64 *out);
 CALL u64 phs_boyer_moore_search(const u8 *haystack, u64 len, const u8 *pattern, u64 pattern_len, u64 *places,
                                   u64 places_len, u64 *out);
+CALL u64 phs_get_page_data(const u8 *db, u64 len, u64 page_size, u64 page, u64 *out);
+CALL u64 phs_collect_leaf_pages(const u8 *db, u64 len, u64 page_size, u64 root, u8 *flags, u64 flags_len, u64 *stack,
+                                  u64 stack_len, u64 *leaves, u64 leaves_len, u64 *out);
+CALL u64 phs_recover_freeblocks(const u8 *db, u64 len, u64 page_size, const u64 *roots, u64 roots_len,
+                                  const u64 *counts, u64 counts_len, const u8 *hints, u64 hints_len, u8 *flags,
+                                  u64 flags_len, u64 *stack, u64 stack_len, u64 *rows, u64 rows_len, u64 *cols,
+                                  u64 cols_len, u64 *out);
+CALL u64 phs_recover_page_freeblocks(const u8 *db, u64 len, u64 page_size, u64 page, const u8 *hints, u64 hints_len,
+                                       u64 *rows, u64 rows_len, u64 *cols, u64 cols_len, u64 *out);
+CALL u64 phs_recover_slice_freeblocks(const u8 *page, u64 len, u64 head, u64 base, const u8 *hints, u64 hints_len,
+                                        u64 *rows, u64 rows_len, u64 *cols, u64 cols_len, u64 *out);
 
 enum { MOST = 4, GUARD = 4 };
+
+/* What a lent list holds. */
+enum { WORDS = 0, BYTES = 1, FLAGS = 2 };
 
 static const u64 PATTERN = 0x5EED000000000000;
 static const u64 GUARDED = 0xFEEDFACEFEEDFACE;
@@ -48,12 +63,14 @@ struct frame {
     u64 number[MOST];
     const u8 *slice[MOST];
     u64 length[MOST];
+    const u64 *wide[MOST];
+    u64 wides[MOST];
     u64 *words[MOST];
     u8 *cells[MOST];
     u64 lent[MOST];
 };
 
-static struct buffer input, output, lists[MOST];
+static struct buffer input, output, wide[MOST], lists[MOST];
 
 static void fail(const char *why, u64 length) {
     write(2, why, length);
@@ -114,10 +131,10 @@ static void check_words(const u64 *w, u64 count) {
         if (w[-(long)i] != GUARDED || w[count + i - 1] != GUARDED) fail("server: a call wrote outside of a list\n", 39);
 }
 
-static u8 *lend_bytes(struct buffer *b, u64 count) {
+static u8 *lend_bytes(struct buffer *b, u64 count, int kind) {
     make_room(b, count + 2 * GUARD);
     for (u64 i = 0; i < GUARD; i++) b->bytes[i] = b->bytes[GUARD + count + i] = 0xEE;
-    for (u64 i = 0; i < count; i++) b->bytes[GUARD + i] = (u8)(200 + i % 50);
+    for (u64 i = 0; i < count; i++) b->bytes[GUARD + i] = (u8)(kind == FLAGS ? 1 + i % 3 : 200 + i % 50);
     return b->bytes + GUARD;
 }
 
@@ -138,6 +155,11 @@ static u64 calls_there(void) {
     there |= (u64)(phs_scan_region != 0) << 8;
     there |= (u64)(phs_from_create_sql != 0) << 9;
     there |= (u64)(phs_boyer_moore_search != 0) << 10;
+    there |= (u64)(phs_get_page_data != 0) << 11;
+    there |= (u64)(phs_collect_leaf_pages != 0) << 12;
+    there |= (u64)(phs_recover_freeblocks != 0) << 13;
+    there |= (u64)(phs_recover_page_freeblocks != 0) << 14;
+    there |= (u64)(phs_recover_slice_freeblocks != 0) << 15;
     return there;
 }
 
@@ -146,6 +168,8 @@ static u64 make_call(int call, const struct frame *f, u64 *out, u64 *words) {
     const u64 *n = f->number;
     const u8 *a = f->slice[0], *b = f->slice[1];
     u64 la = f->length[0], lb = f->length[1];
+    u64 *const *w = f->words;
+    const u64 *l = f->lent;
     switch (call) {
     case 0: *words = 1; out[0] = calls_there(); return 0;
     case 1: *words = 3; return phs_read_varint(a, la, n[0], out);
@@ -156,36 +180,62 @@ static u64 make_call(int call, const struct frame *f, u64 *out, u64 *words) {
     case 6: *words = 1; return phs_is_compatible((u8)n[0], n[1], out);
     case 7:
         *words = 3;
-        return phs_try_parse_record(a, la, b, lb, n[0], n[1], f->words[0], f->lent[0], f->words[1], f->lent[1], out);
+        return phs_try_parse_record(a, la, b, lb, n[0], n[1], w[0], l[0], w[1], l[1], out);
     case 8:
         *words = 3;
-        return phs_scan_region(a, la, b, lb, n[0], n[1], f->words[0], f->lent[0], f->words[1], f->lent[1], out);
-    case 9: *words = 1; return phs_from_create_sql(a, la, f->cells[0], f->lent[0], out);
-    case 10: *words = 1; return phs_boyer_moore_search(a, la, b, lb, f->words[0], f->lent[0], out);
+        return phs_scan_region(a, la, b, lb, n[0], n[1], w[0], l[0], w[1], l[1], out);
+    case 9: *words = 1; return phs_from_create_sql(a, la, f->cells[0], l[0], out);
+    case 10: *words = 1; return phs_boyer_moore_search(a, la, b, lb, w[0], l[0], out);
+    case 11: *words = 3; return phs_get_page_data(a, la, n[0], n[1], out);
+    case 12:
+        *words = 1;
+        return phs_collect_leaf_pages(a, la, n[0], n[1], f->cells[0], l[0], w[1], l[1], w[2], l[2], out);
+    case 13:
+        *words = 1;
+        return phs_recover_freeblocks(a, la, n[0], f->wide[0], f->wides[0], f->wide[1], f->wides[1], b, lb, f->cells[0],
+                                      l[0], w[1], l[1], w[2], l[2], w[3], l[3], out);
+    case 14:
+        *words = 1;
+        return phs_recover_page_freeblocks(a, la, n[0], n[1], b, lb, w[0], l[0], w[1], l[1], out);
+    case 15:
+        *words = 1;
+        return phs_recover_slice_freeblocks(a, la, n[0], n[1], b, lb, w[0], l[0], w[1], l[1], out);
     }
     fail("server: no such call\n", 21);
     return 0;
 }
 
-/* Reads one case at `at`, answers it, and returns where the next one stands. */
+/* Reads one case at `at`, with what is lent for it; returns where the next one stands. */
+static const u8 *read_case(const u8 *at, struct frame *f, const u8 **kinds) {
+    int numbers = at[1], slices = at[2], wides = at[3], lent = at[4];
+    if (numbers > MOST || slices > MOST || wides > MOST || lent > MOST) fail("server: a malformed case\n", 25);
+    at += 5;
+    for (int i = 0; i < numbers; i++, at += 8) f->number[i] = number_at(at, 8);
+    for (int i = 0; i < slices; i++, at += 4) f->length[i] = number_at(at, 4);
+    for (int i = 0; i < wides; i++, at += 4) f->wides[i] = number_at(at, 4);
+    for (int i = 0; i < lent; i++, at += 4) f->lent[i] = number_at(at, 4);
+    *kinds = at;
+    for (int i = 0; i < lent; i++, at++) {
+        if (*at == WORDS)
+            f->words[i] = lend_words(&lists[i], f->lent[i]);
+        else
+            f->cells[i] = lend_bytes(&lists[i], f->lent[i], *at);
+    }
+    for (int i = 0; i < slices; at += f->length[i++]) f->slice[i] = at;
+    for (int i = 0; i < wides; at += 8 * f->wides[i++]) {
+        make_room(&wide[i], 8 * f->wides[i] + 1);
+        memcpy(wide[i].bytes, at, 8 * f->wides[i]);
+        f->wide[i] = (const u64 *)wide[i].bytes;
+    }
+    return at;
+}
+
+/* Answers the case at `at`, and returns where the next one stands. */
 static const u8 *answer(const u8 *at) {
     struct frame f;
-    int call = at[0], numbers = at[1], slices = at[2], lent = at[3], bytes = call == 9;
-    if (numbers > MOST || slices > MOST || lent > MOST) fail("server: a malformed case\n", 25);
-    at += 4;
-    for (int i = 0; i < numbers; i++, at += 8) f.number[i] = number_at(at, 8);
-    for (int i = 0; i < slices; i++, at += 4) f.length[i] = number_at(at, 4);
-    for (int i = 0; i < lent; i++, at += 4) {
-        f.lent[i] = number_at(at, 4);
-        if (bytes)
-            f.cells[i] = lend_bytes(&lists[i], f.lent[i]);
-        else
-            f.words[i] = lend_words(&lists[i], f.lent[i]);
-    }
-    for (int i = 0; i < slices; i++) {
-        f.slice[i] = at;
-        at += f.length[i];
-    }
+    const u8 *kinds;
+    int call = at[0], lent = at[4];
+    at = read_case(at, &f, &kinds);
     static struct buffer outs;
     u64 words = 0, *out = lend_words(&outs, 4);
     u64 number = make_call(call, &f, out, &words);
@@ -195,9 +245,13 @@ static const u8 *answer(const u8 *at) {
     put(&number, 8);
     put(out, 8 * words);
     for (int i = 0; i < lent; i++) {
-        if (bytes) check_bytes(f.cells[i], f.lent[i]);
-        else check_words(f.words[i], f.lent[i]);
-        put(bytes ? (const void *)f.cells[i] : (const void *)f.words[i], f.lent[i] * (bytes ? 1 : 8));
+        if (kinds[i] == WORDS) {
+            check_words(f.words[i], f.lent[i]);
+            put(f.words[i], 8 * f.lent[i]);
+        } else {
+            check_bytes(f.cells[i], f.lent[i]);
+            put(f.cells[i], f.lent[i]);
+        }
     }
     return at;
 }

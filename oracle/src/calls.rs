@@ -2,6 +2,8 @@
 //! line here, a case in server/server.c, and a file of cases.
 
 pub mod entry;
+pub mod freeblock;
+pub mod page;
 pub mod scan;
 pub mod statement;
 pub mod value;
@@ -22,6 +24,8 @@ pub struct Call {
     pub name: &'static str,
     pub numbers: usize,
     pub slices: usize,
+    /// Slices of words.
+    pub words: usize,
     /// The words of `out`.
     pub out: usize,
     pub lists: &'static [Cell],
@@ -39,8 +43,15 @@ pub const ATTEMPT: u8 = 7;
 pub const SCAN: u8 = 8;
 pub const STATEMENT: u8 = 9;
 pub const SEARCH: u8 = 10;
+pub const PAGE_DATA: u8 = 11;
+pub const LEAVES: u8 = 12;
+pub const RECOVER: u8 = 13;
+pub const RECOVER_PAGE: u8 = 14;
+pub const RECOVER_SLICE: u8 = 15;
 
-const ROWS_AND_COLUMNS: &[Cell] = &[Cell::Word, Cell::Word];
+const ROWS_AND_COLUMNS: &[Cell] = &[Cell::Word, Cell::Entry];
+const WALK_AND_LEAVES: &[Cell] = &[Cell::Flag, Cell::Word, Cell::Word];
+const WALK_AND_ROWS: &[Cell] = &[Cell::Flag, Cell::Word, Cell::Word, Cell::Entry];
 
 /// The call with the number n stands at n - 1.
 pub const CALLS: &[Call] = &[
@@ -54,6 +65,14 @@ pub const CALLS: &[Call] = &[
     call("scan_region", (2, 2, 3), ROWS_AND_COLUMNS, scan::scan, scan::given_scan),
     call("from_create_sql", (0, 1, 1), &[Cell::Byte], statement::statement, statement::given_statement),
     call("boyer_moore_search", (0, 2, 1), &[Cell::Word], statement::search, statement::given_search),
+    call("get_page_data", (2, 1, 3), &[], page::data, page::given_data),
+    call("collect_leaf_pages", (2, 1, 1), WALK_AND_LEAVES, page::leaves, page::given_leaves),
+    Call {
+        words: 2,
+        ..call("recover_freeblocks", (1, 2, 1), WALK_AND_ROWS, freeblock::tables, freeblock::given_tables)
+    },
+    call("recover_page_freeblocks", (2, 2, 1), ROWS_AND_COLUMNS, freeblock::page, freeblock::given_page),
+    call("recover_slice_freeblocks", (2, 2, 1), ROWS_AND_COLUMNS, freeblock::slice, freeblock::given_slice),
 ];
 
 const fn call(
@@ -63,7 +82,7 @@ const fn call(
     answer: fn(&Limits, &Case) -> Answer,
     given: fn(&Case, &Answer) -> Given,
 ) -> Call {
-    Call { name, numbers, slices, out, lists, answer, given }
+    Call { name, numbers, slices, words: 0, out, lists, answer, given }
 }
 
 pub fn of(case: &Case) -> &'static Call {

@@ -6,6 +6,8 @@ pub struct Case {
     pub call: u8,
     pub numbers: Vec<u64>,
     pub slices: Vec<Vec<u8>>,
+    /// Slices of words.
+    pub words: Vec<Vec<u64>>,
     /// How many cells each lent list has.
     pub lists: Vec<usize>,
 }
@@ -29,18 +31,36 @@ pub fn byte_pattern(i: usize) -> u64 {
     200 + (i % 50) as u64
 }
 
+/// The same for page flags: none is clear, and some are set as a walk might set them.
+pub fn flag_pattern(i: usize) -> u64 {
+    1 + (i % 3) as u64
+}
+
 /// The cells of a lent list.
 #[derive(Clone, Copy, Debug, PartialEq, Eq)]
 pub enum Cell {
     Word,
+    /// A word of a column entry.
+    Entry,
     Byte,
+    Flag,
 }
 
 impl Cell {
     pub fn pattern(self, i: usize) -> u64 {
         match self {
-            Cell::Word => word_pattern(i),
+            Cell::Word | Cell::Entry => word_pattern(i),
             Cell::Byte => byte_pattern(i),
+            Cell::Flag => flag_pattern(i),
+        }
+    }
+
+    /// What the server calls it.
+    pub fn code(self) -> u8 {
+        match self {
+            Cell::Word | Cell::Entry => 0,
+            Cell::Byte => 1,
+            Cell::Flag => 2,
         }
     }
 }
@@ -51,29 +71,40 @@ impl Case {
             call,
             numbers: numbers.to_vec(),
             slices: slices.iter().map(|s| s.to_vec()).collect(),
+            words: Vec::new(),
             lists: lists.to_vec(),
         }
     }
 
-    /// The case as the server has it: four counts, the numbers, the lengths, the bytes.
-    pub fn frame(&self, to: &mut Vec<u8>) {
-        let counts = [self.numbers.len(), self.slices.len(), self.lists.len()];
+    pub fn with_words(self, words: &[&[u64]]) -> Case {
+        Case { words: words.iter().map(|w| w.to_vec()).collect(), ..self }
+    }
+
+    /// The case as the server has it: its counts, the numbers, the lengths, what the lists are, the bytes, the words.
+    pub fn frame(&self, cells: &[Cell], to: &mut Vec<u8>) {
+        let counts = [self.numbers.len(), self.slices.len(), self.words.len(), self.lists.len()];
         to.push(self.call);
         to.extend(counts.iter().map(|&n| n as u8));
         for n in &self.numbers {
             to.extend(n.to_le_bytes());
         }
-        for length in self.slices.iter().map(Vec::len).chain(self.lists.iter().copied()) {
+        let slices = self.slices.iter().map(Vec::len).chain(self.words.iter().map(Vec::len));
+        for length in slices.chain(self.lists.iter().copied()) {
             to.extend((length as u32).to_le_bytes());
         }
+        to.extend(cells.iter().map(|c| c.code()));
         for slice in &self.slices {
             to.extend(slice);
+        }
+        for word in self.words.iter().flatten() {
+            to.extend(word.to_le_bytes());
         }
     }
 
     /// How much there is of it; cutting down goes on while this falls.
     pub fn size(&self) -> usize {
-        self.slices.iter().map(Vec::len).sum::<usize>() + self.lists.iter().sum::<usize>()
+        let slices = self.slices.iter().map(Vec::len).chain(self.words.iter().map(Vec::len));
+        slices.chain(self.lists.iter().copied()).sum()
     }
 }
 

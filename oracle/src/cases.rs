@@ -1,16 +1,22 @@
 //! The cases: fixed ones for every boundary of the rules, short inputs exhaustively, and random ones.
 
 pub mod bytes;
+pub mod chains;
+pub mod databases;
 pub mod entries;
 pub mod large;
 pub mod limits;
+pub mod numbers;
 pub mod records;
 pub mod regions;
 pub mod rooms;
 pub mod search;
 pub mod statements;
+pub mod tables;
+pub mod telling;
 pub mod values;
 pub mod varints;
+pub mod walks;
 
 use crate::random::Random;
 use crate::runner::Sink;
@@ -38,13 +44,30 @@ const GROUPS: [(usize, Group); 8] = [
     (7, search::all),
 ];
 
+/// The same for the calls on pages, whose random cases come on top.
+const PAGE_GROUPS: [(usize, Group); 4] = [(1, numbers::all), (30, chains::all), (8, walks::all), (8, tables::all)];
+
+/// The calls on values, regions and statements.
 pub fn all(sink: &mut dyn Sink, plan: &Plan) {
-    for (i, (share, group)) in GROUPS.iter().enumerate() {
-        // Each group has its own stream, so that one more case in one does not change the others.
-        let mut random = Random::new(plan.seed.wrapping_add((i as u64) << 32));
-        group(sink, &mut random, plan.random / 100 * share);
-    }
+    groups(sink, plan, &GROUPS, 0);
     if plan.large {
         large::all(sink, &mut Random::new(plan.seed), plan.long);
+    }
+}
+
+/// The calls on pages.
+pub fn pages(sink: &mut dyn Sink, plan: &Plan) {
+    groups(sink, plan, &PAGE_GROUPS, GROUPS.len());
+    if plan.large {
+        large::databases(sink, plan.long);
+    }
+}
+
+/// Each group has its own stream, so that one more case in one does not change the others.
+fn groups(sink: &mut dyn Sink, plan: &Plan, groups: &[(usize, Group)], streams_before: usize) {
+    for (i, (share, group)) in groups.iter().enumerate() {
+        let stream = (streams_before + i) as u64;
+        let mut random = Random::new(plan.seed.wrapping_add(stream << 32));
+        group(sink, &mut random, plan.random / 100 * share);
     }
 }

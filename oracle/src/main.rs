@@ -77,7 +77,9 @@ fn one_case(runner: &mut Runner, line: &str) -> bool {
     let (answer, asked) = compare::expected(&runner.limits, &case);
     println!("rules: number {}, out {:?}, written {:?}", answer.number, answer.out, answer.lists);
     println!("Rust: {asked:?}");
-    println!("ours: {:?}", runner.ask(&case));
+    if runner.has(&case) {
+        println!("ours: {:?}", runner.ask(&case));
+    }
     let why = runner.differs(&case);
     println!("{}", why.as_deref().unwrap_or("no difference"));
     why.is_none()
@@ -88,7 +90,7 @@ fn compare(mut runner: Runner, options: &Options) -> bool {
     println!("oracle: seed {}, {} random cases", options.seed, options.cases);
     let missing = runner.missing();
     if !missing.is_empty() {
-        println!("NOT COMPARED, since the archive does not have it: {}", missing.join(", "));
+        println!("WITH THE RUST ALONE, since the archive does not have it: {}", missing.join(", "));
     }
     match runner.panics() {
         Ok((all, ours)) => {
@@ -101,6 +103,7 @@ fn compare(mut runner: Runner, options: &Options) -> bool {
     }
     let plan = cases::Plan { seed: options.seed, random: options.cases, large: true, long: options.long };
     cases::all(&mut runner, &plan);
+    cases::pages(&mut runner, &plan);
     runner.finish();
     runner.tally.print();
     let seconds = begun.elapsed().as_secs_f64();

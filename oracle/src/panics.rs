@@ -1,8 +1,9 @@
 //! Where the given Rust panics: a fixed list. Each case here must make it panic, with our side answering by the rules;
 //! a panic anywhere else is a difference.
 
-use crate::calls::{DECODE, STATEMENT};
+use crate::calls::{DECODE, RECOVER_SLICE, STATEMENT};
 use crate::case::Case;
+use crate::cases::chains::LAST_HEAD;
 use crate::compare::{against_ours, expected, Asked};
 use crate::rules::limits::Limits;
 use crate::server::Server;
@@ -30,6 +31,12 @@ fn statements() -> Vec<Case> {
     texts.iter().map(|t| lent(t)).collect()
 }
 
+/// A b-tree header so far off that the Rust's sum of its place and its length passes the last place of all.
+pub fn of_pages() -> Vec<Case> {
+    let lent = |head: u64| Case::new(RECOVER_SLICE, &[head, 0], &[&[2; 16], &[0]], &[8, 4]);
+    (LAST_HEAD + 1..=u64::MAX).map(lent).collect()
+}
+
 pub fn list() -> Vec<Case> {
     let mut all = decoding();
     all.extend(statements());
@@ -38,7 +45,7 @@ pub fn list() -> Vec<Case> {
 
 /// Checks the list. Answers how many cases it has and how many of them our side answered, or what is wrong.
 pub fn check(limits: &Limits, server: &mut Server, there: &[bool]) -> Result<(usize, usize), String> {
-    let cases = list();
+    let cases = [list(), of_pages()].concat();
     let mut answered = 0;
     for case in &cases {
         let (answer, asked) = expected(limits, case);

@@ -2,13 +2,13 @@
 
 use crate::calls::{self, Given};
 use crate::case::{Answer, Case};
-use crate::cases::{self, limits, regions, Plan};
+use crate::cases::{self, limits, regions, telling, Plan};
 use crate::compare::{against_the_rust, expected, Asked};
 use crate::panics;
 use crate::rules::limits::Limits;
 use crate::runner::Sink;
 use crate::text;
-use std::collections::HashMap;
+use std::collections::{HashMap, HashSet};
 use std::{fs, io, path::Path};
 
 /// Slices and cells of a recorded case, and bytes of the whole file, at most.
@@ -16,8 +16,8 @@ const LARGEST_CASE: usize = 1200;
 const LARGEST_FILE: usize = 2_000_000;
 
 /// Cases of one kind: the first few, and then ever fewer of the many.
-const FIRST: usize = 24;
-const GROWTH: f64 = 1.12;
+const FIRST: usize = 16;
+const GROWTH: f64 = 1.25;
 
 struct Recorder {
     file: Vec<u8>,
@@ -26,6 +26,8 @@ struct Recorder {
     limits: Limits,
     /// By call, number and rows: how many came, and the next one to take.
     kinds: HashMap<(u8, u64, u64), (usize, f64)>,
+    /// As the server would have them, so that none comes twice.
+    taken: HashSet<Vec<u8>>,
     keep_all: bool,
     differs: Option<String>,
 }
@@ -55,6 +57,11 @@ impl Recorder {
     }
 
     fn take(&mut self, case: &Case) {
+        let mut frame = Vec::new();
+        case.frame(calls::of(case).lists, &mut frame);
+        if !self.taken.insert(frame) {
+            return;
+        }
         let (answer, asked) = expected(&self.limits, case);
         if let Some(why) = against_the_rust(&asked).filter(|_| asked != Asked::Panicked) {
             self.differs = Some(format!("{why}: {}", text::line(case)));
@@ -101,6 +108,7 @@ pub fn record(folder: &str, seed: u64) -> io::Result<bool> {
         with_the_rust: 0,
         limits: Limits::of_the_rules(),
         kinds: HashMap::new(),
+        taken: HashSet::new(),
         keep_all: true,
         differs: None,
     };
@@ -108,6 +116,7 @@ pub fn record(folder: &str, seed: u64) -> io::Result<bool> {
         recorder.put(case);
     }
     regions::bench_cases(&mut recorder);
+    telling::all(&mut recorder);
     limits::to_be_recorded(&mut recorder);
     recorder.keep_all = false;
     let plan = Plan { seed, random: 200_000, large: false, long: false };

@@ -2,7 +2,10 @@
 //! from the proved code, and nothing is fast.
 
 pub mod attempt;
+pub mod freeblock;
 pub mod limits;
+pub mod page;
 pub mod statement;
 pub mod value;
 pub mod varint;
+pub mod walk;

@@ -1,4 +1,5 @@
-//! Runs cases through all three sides in batches and stops at the first difference, which it cuts down.
+//! Runs cases through all three sides in batches and stops at the first difference, which it cuts down. A call that the
+//! archive does not have is held against the Rust alone.
 
 use crate::calls;
 use crate::case::Case;
@@ -48,7 +49,7 @@ pub struct Runner {
 
 impl Sink for Runner {
     fn put(&mut self, case: Case) {
-        if self.difference.is_some() || !self.there[case.call as usize - 1] {
+        if self.difference.is_some() {
             return;
         }
         self.size += case.size();
@@ -78,19 +79,27 @@ impl Runner {
         }
     }
 
+    /// Whether our side is asked: the archive must have the call.
+    pub fn has(&self, case: &Case) -> bool {
+        self.there[case.call as usize - 1]
+    }
+
     /// The server works on the batch while this side works out what is due.
     fn first_difference(&mut self, batch: &[Case]) -> Option<(Case, String)> {
-        let sent = self.server.send(batch);
+        let sent = self.server.send(batch.iter().filter(|c| self.there[c.call as usize - 1]));
         let due: Vec<_> = batch.iter().map(|c| expected(&self.limits, c)).collect();
         if sent.is_err() {
             return self.one_by_one(batch);
         }
         for (case, (answer, asked)) in batch.iter().zip(&due) {
-            let Ok(ours) = self.server.receive(case) else {
-                return self.one_by_one(batch);
-            };
             let rust = against_the_rust(asked).filter(|_| self.sides != Sides::OursOnly);
-            let differs = against_ours(case, answer, &ours).filter(|_| self.sides != Sides::RustOnly);
+            let mut differs = None;
+            if self.has(case) {
+                let Ok(ours) = self.server.receive(case) else {
+                    return self.one_by_one(batch);
+                };
+                differs = against_ours(case, answer, &ours).filter(|_| self.sides != Sides::RustOnly);
+            }
             if let Some(why) = rust.or(differs) {
                 self.restart();
                 return Some((case.clone(), why));
@@ -125,7 +134,7 @@ impl Runner {
         if self.sides != Sides::OursOnly && rust.is_some() {
             return rust;
         }
-        if self.sides == Sides::RustOnly {
+        if self.sides == Sides::RustOnly || !self.has(case) {
             return None;
         }
         match self.server.ask(case) {

@@ -37,10 +37,10 @@ impl Server {
         Ok(())
     }
 
-    pub fn send(&mut self, cases: &[Case]) -> io::Result<()> {
+    pub fn send<'a>(&mut self, cases: impl IntoIterator<Item = &'a Case>) -> io::Result<()> {
         let mut batch = vec![0; 4];
         for case in cases {
-            case.frame(&mut batch);
+            case.frame(calls::of(case).lists, &mut batch);
         }
         let length = u32::try_from(batch.len() - 4).map_err(io::Error::other)?;
         batch[..4].copy_from_slice(&length.to_le_bytes());
@@ -54,8 +54,8 @@ impl Server {
         let mut lists = Vec::with_capacity(case.lists.len());
         for (&length, &cell) in case.lists.iter().zip(call.lists) {
             lists.push(match cell {
-                Cell::Word => self.words(length)?,
-                Cell::Byte => self.bytes(length)?.into_iter().map(u64::from).collect(),
+                Cell::Word | Cell::Entry => self.words(length)?,
+                Cell::Byte | Cell::Flag => self.bytes(length)?.into_iter().map(u64::from).collect(),
             });
         }
         Ok(Left { number: head[0], out: head[1..].to_vec(), lists })
@@ -64,7 +64,7 @@ impl Server {
     /// Whether the archive has each call; call n stands at n - 1.
     pub fn calls_there(&mut self) -> io::Result<Vec<bool>> {
         // Call 0, with nothing lent: the answer is a number and a word of bits.
-        self.to.write_all(&[4, 0, 0, 0, 0, 0, 0, 0])?;
+        self.to.write_all(&[5, 0, 0, 0, 0, 0, 0, 0, 0])?;
         self.to.flush()?;
         let bits = self.words(2)?[1];
         Ok((1..=calls::CALLS.len()).map(|n| bits >> n & 1 == 1).collect())
@@ -72,7 +72,7 @@ impl Server {
 
     /// One case by itself.
     pub fn ask(&mut self, case: &Case) -> io::Result<Left> {
-        self.send(std::slice::from_ref(case))?;
+        self.send([case])?;
         self.receive(case)
     }
 

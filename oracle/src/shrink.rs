@@ -9,6 +9,9 @@ const EACH_TRY: usize = 5_000;
 /// Only slices below this have their bytes made plainer one by one.
 const SHORT: usize = 2000;
 
+/// Parts of at least so many bytes are made 0 at once.
+const LEAST_BLANK: usize = 8;
+
 struct Shrink<D> {
     best: Case,
     differs: D,
@@ -31,6 +34,9 @@ impl<D: FnMut(&Case) -> bool> Shrink<D> {
             let cells = self.best.lists[l] as u64;
             self.lower(cells, |case, n| case.lists[l] = n as usize);
         }
+        for table in (0..self.best.words.first().map_or(0, Vec::len)).rev() {
+            self.try_with(|case| drop_table(case, table));
+        }
         for n in 0..self.best.numbers.len() {
             let number = self.best.numbers[n];
             self.lower(number, |case, value| case.numbers[n] = value);
@@ -39,7 +45,14 @@ impl<D: FnMut(&Case) -> bool> Shrink<D> {
         for s in (0..self.best.slices.len()).rev() {
             self.shorten(s);
         }
+        for w in 0..self.best.words.len() {
+            for i in 0..self.best.words[w].len() {
+                let word = self.best.words[w][i];
+                self.lower(word, |case, value| case.words[w][i] = value);
+            }
+        }
         for s in 0..self.best.slices.len() {
+            self.blank(s);
             self.make_plain(s);
         }
     }
@@ -78,6 +91,18 @@ impl<D: FnMut(&Case) -> bool> Shrink<D> {
         }
     }
 
+    /// Makes parts of a slice 0: halves first, from the end. What stands behind them keeps its place.
+    fn blank(&mut self, s: usize) {
+        let length = self.best.slices[s].len();
+        let mut size = length / 2;
+        while size >= LEAST_BLANK {
+            for start in (0..length).step_by(size).rev() {
+                self.try_with(|case| case.slices[s][start..(start + size).min(length)].fill(0));
+            }
+            size /= 2;
+        }
+    }
+
     /// The lowest of some lower values that still differs; each is half as far off as the one before.
     fn lower(&mut self, value: u64, set: impl Fn(&mut Case, u64)) {
         let mut gap = value;
@@ -98,6 +123,18 @@ impl<D: FnMut(&Case) -> bool> Shrink<D> {
     }
 }
 
+/// A table goes with its root, its count and its hints.
+fn drop_table(case: &mut Case, table: usize) {
+    let hints = |counts: &[u64]| counts.iter().fold(0, |sum: u64, &count| sum.saturating_add(count)) as usize;
+    let counts = &case.words[1];
+    if table < counts.len() && hints(counts) == case.slices[1].len() {
+        case.slices[1].drain(hints(&counts[..table])..hints(&counts[..=table]));
+        case.words.iter_mut().for_each(|w| {
+            w.remove(table);
+        });
+    }
+}
+
 #[cfg(test)]
 mod tests {
     use super::*;
@@ -107,6 +144,15 @@ mod tests {
         let case = Case::new(8, &[77, 5], &[&[9; 40], &[1, 2]], &[100, 7]);
         let small = shrink(case, |c| c.slices[0].len() >= 13 && c.lists[0] >= 3);
         assert_eq!(small, Case::new(8, &[0, 0], &[&[0; 13], &[]], &[3, 0]));
+    }
+
+    #[test]
+    fn a_table_goes_as_a_whole() {
+        let case = Case::new(13, &[512], &[&[], &[1, 2, 2, 3]], &[0, 0, 0, 0]).with_words(&[&[7, 8, 9], &[1, 2, 1]]);
+        let fits = |c: &Case| c.words[1].iter().sum::<u64>() == c.slices[1].len() as u64;
+        let small = shrink(case, |c| fits(c) && c.slices[1].contains(&2));
+        assert_eq!(small.words, [[0], [2]]);
+        assert_eq!(small.slices[1], [0, 2]);
     }
 
     #[test]

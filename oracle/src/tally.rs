@@ -1,7 +1,7 @@
 //! What was compared, in numbers.
 
 use crate::calls::{Given, CALLS, READ_ENTRY, VIEW_ENTRY};
-use crate::case::{Answer, Case};
+use crate::case::{Answer, Case, Cell};
 use crate::compare::Asked;
 use std::collections::BTreeMap;
 
@@ -11,7 +11,7 @@ const STATES: usize = 4;
 struct PerCall {
     cases: u64,
     with_the_rust: u64,
-    /// Rows, hints or places written.
+    /// Rows, leaves, hints or places written.
     written: u64,
     numbers: BTreeMap<u64, u64>,
 }
@@ -49,10 +49,9 @@ impl Tally {
         if case.call == READ_ENTRY {
             self.values[answer.out[0] as usize] += 1;
         }
-        if let Some(columns) = answer.lists.get(1) {
-            for entry in columns.chunks(4) {
-                self.states_written[entry[0] as usize] += 1;
-            }
+        let lists = answer.lists.iter().zip(CALLS[case.call as usize - 1].lists);
+        for entry in lists.filter(|l| *l.1 == Cell::Entry).flat_map(|l| l.0.chunks(4)) {
+            self.states_written[entry[0] as usize] += 1;
         }
     }
 
@@ -61,10 +60,10 @@ impl Tally {
     }
 
     pub fn print(&self) {
-        println!("{:<20} {:>10} {:>12} {:>10}  refusals", "call", "cases", "with Rust", "written");
+        println!("{:<25} {:>10} {:>12} {:>10}  refusals", "call", "cases", "with Rust", "written");
         for (call, per) in CALLS.iter().zip(&self.calls) {
             println!(
-                "{:<20} {:>10} {:>12} {:>10}  {}",
+                "{:<25} {:>10} {:>12} {:>10}  {}",
                 call.name,
                 per.cases,
                 per.with_the_rust,
@@ -77,7 +76,7 @@ impl Tally {
             *all.entry(*number).or_default() += count;
         }
         let asked: u64 = self.calls.iter().map(|c| c.with_the_rust).sum();
-        println!("{:<20} {:>10} {:>12} {:>10}  {}", "all", self.total(), asked, "", numbered(&all));
+        println!("{:<25} {:>10} {:>12} {:>10}  {}", "all", self.total(), asked, "", numbered(&all));
         println!("column states written by a call (0 to 3): {:?}", self.states_written);
         println!("column states read by a call (0 to 3, above): {:?}", self.states_read);
         println!("values read (none, NULL, integer, real, text, blob): {:?}", self.values);

@@ -1,5 +1,6 @@
 //! A case as one line, to be printed and given back: `scan_region n=0,0 s=0301172a68,0002 l=8,8`. Bytes are in
-//! hexadecimal; a run of equal bytes is written once with its length, as `(00x65530)`.
+//! hexadecimal; a run of equal bytes is written once with its length, as `(00x65530)`. Slices of words, where a call
+//! has them, are written `w=2,3/1x2`, the second of them with two words that are 1.
 
 use crate::calls::CALLS;
 use crate::case::Case;
@@ -9,11 +10,18 @@ const SHORTEST_RUN: usize = 8;
 pub fn line(case: &Case) -> String {
     let call = &CALLS[case.call as usize - 1];
     let slices: Vec<String> = case.slices.iter().map(|s| hex(s)).collect();
-    format!("{} n={} s={} l={}", call.name, joined(&case.numbers), slices.join(","), joined(&case.lists))
+    let words: Vec<String> = case.words.iter().map(|w| runs(w)).collect();
+    let words = if words.is_empty() { String::new() } else { format!(" w={}", words.join("/")) };
+    format!("{} n={} s={}{words} l={}", call.name, joined(&case.numbers), slices.join(","), joined(&case.lists))
 }
 
 fn joined<T: ToString>(values: &[T]) -> String {
     values.iter().map(T::to_string).collect::<Vec<_>>().join(",")
+}
+
+fn runs(words: &[u64]) -> String {
+    let run = |run: &[u64]| if run.len() == 1 { run[0].to_string() } else { format!("{}x{}", run[0], run.len()) };
+    words.chunk_by(|a, b| a == b).map(run).collect::<Vec<_>>().join(",")
 }
 
 fn hex(bytes: &[u8]) -> String {
@@ -38,18 +46,28 @@ pub fn parse(line: &str) -> Option<Case> {
         match key {
             "n" => case.numbers = numbers(value)?,
             "s" => case.slices = slices(value, CALLS[at].slices)?,
+            "w" => case.words = value.split('/').map(words_of).collect::<Option<_>>()?,
             "l" => case.lists = numbers(value)?.iter().map(|&n| n as usize).collect(),
             _ => return None,
         }
     }
     let call = &CALLS[at];
-    let shape = (case.numbers.len(), case.slices.len(), case.lists.len());
-    (shape == (call.numbers, call.slices, call.lists.len())).then_some(case)
+    let shape = (case.numbers.len(), case.slices.len(), case.words.len(), case.lists.len());
+    (shape == (call.numbers, call.slices, call.words, call.lists.len())).then_some(case)
 }
 
 fn numbers(text: &str) -> Option<Vec<u64>> {
     let parts = text.split(',').filter(|p| !p.is_empty());
     parts.map(|p| p.parse().ok()).collect()
+}
+
+fn words_of(text: &str) -> Option<Vec<u64>> {
+    let mut words = Vec::new();
+    for run in text.split(',').filter(|p| !p.is_empty()) {
+        let (word, count) = run.split_once('x').unwrap_or((run, "1"));
+        words.resize(words.len() + count.parse::<usize>().ok()?, word.parse().ok()?);
+    }
+    Some(words)
 }
 
 fn slices(text: &str, count: usize) -> Option<Vec<Vec<u8>>> {
@@ -88,6 +106,8 @@ mod tests {
         let case = Case::new(8, &[5, u64::MAX], &[&region, &[]], &[8, 0]);
         assert_eq!(parse(&line(&case)), Some(case));
         let case = Case::new(2, &[7], &[], &[]);
+        assert_eq!(parse(&line(&case)), Some(case));
+        let case = Case::new(13, &[512], &[&[], &[2]], &[1, 1, 8, 4]).with_words(&[&[2, 3, 3, 3], &[]]);
         assert_eq!(parse(&line(&case)), Some(case));
         assert_eq!(parse("scan_region n=1 s=00 l="), None);
     }

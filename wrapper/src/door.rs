@@ -100,6 +100,28 @@ mod c {
             places_len: usize,
             out: *mut [u64; 1],
         ) -> u64;
+
+        pub fn phs_get_page_data(
+            db: *const u8,
+            len: usize,
+            page_size: u64,
+            page: u64,
+            out: *mut [u64; 3],
+        ) -> u64;
+
+        pub fn phs_collect_leaf_pages(
+            db: *const u8,
+            len: usize,
+            page_size: u64,
+            root: u64,
+            flags: *mut u8,
+            flags_len: usize,
+            stack: *mut u64,
+            stack_len: usize,
+            leaves: *mut u64,
+            leaves_len: usize,
+            out: *mut [u64; 1],
+        ) -> u64;
     }
 }
 
@@ -224,6 +246,35 @@ pub fn boyer_moore_search(haystack: &[u8], pattern: &[u8], places: &mut [u64]) -
             pattern.len(),
             places.as_mut_ptr(),
             places.len(),
+            out,
+        )
+    })
+}
+
+pub fn get_page_data(db: &[u8], page_size: u64, page: u64) -> Answer<3> {
+    answer(|out| unsafe { c::phs_get_page_data(db.as_ptr(), db.len(), page_size, page, out) })
+}
+
+pub fn collect_leaf_pages(
+    db: &[u8],
+    page_size: u64,
+    root: u64,
+    flags: &mut [u8],
+    stack: &mut [u64],
+    leaves: &mut [u64],
+) -> Answer<1> {
+    answer(|out| unsafe {
+        c::phs_collect_leaf_pages(
+            db.as_ptr(),
+            db.len(),
+            page_size,
+            root,
+            flags.as_mut_ptr(),
+            flags.len(),
+            stack.as_mut_ptr(),
+            stack.len(),
+            leaves.as_mut_ptr(),
+            leaves.len(),
             out,
         )
     })

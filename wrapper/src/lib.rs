@@ -21,6 +21,7 @@
 mod door;
 mod hint;
 mod limits;
+mod pages;
 mod refusal;
 mod rows;
 mod search;
@@ -28,6 +29,7 @@ mod values;
 
 pub use hint::{Hint, UnknownHint};
 pub use limits::{LARGEST_BASE, LARGEST_REGION, LARGEST_STATEMENT, MOST_COLUMNS};
+pub use pages::{leaf_pages, page, Page};
 pub use refusal::Refusal;
 pub use rows::{scan, try_parse_record, Mode, Record, Row, Rows, Scan, Source};
 pub use search::search;

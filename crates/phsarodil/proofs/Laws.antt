@@ -6,7 +6,7 @@ use mathlib.Core.Bool.{Bool, true, false, cond}
 use mathlib.Core.List.{List, [], _∷_}
 use lib.Dec.{eqb}
 use lib.ListN.{length}
-use Rattle.phsarodil.specs.Door.{varintWords, lengthWords, decodedWords, entryWords, viewWords, onceWords, scanWords}
+use Rattle.phsarodil.specs.Door.{varintWords, lengthWords, decodedWords, entryWords, viewWords}
 use Rattle.record.specs.declared.entry.EntryRead.{EntryRead}
 use Rattle.record.specs.declared.entry.EntryRead.the-variants.{Of as Reads, Refused as Bad}
 use Rattle.record.specs.declared.record.Decoded.{Decoded}
@@ -15,8 +15,6 @@ use Rattle.record.specs.declared.record.Length.{Length}
 use Rattle.record.specs.declared.record.Length.the-variants.{Bytes, Reserved}
 use Rattle.record.specs.declared.varint.Read.{Read}
 use Rattle.record.specs.declared.varint.Read.the-variants.{Number, Nothing as Short}
-use Rattle.scan.specs.declared.schema_sig.Attempted.{Attempted}
-use Rattle.scan.specs.declared.schema_sig.Scanned.{Scanned}
 
 pub varint-three : (r : Read) → length (varintWords r) ≡ 3
 varint-three (Number v n) = refl
@@ -40,9 +38,3 @@ two-either-way false x y = refl
 
 pub view-two : (start : ℕ) (shown : List ℕ) → length (viewWords start shown) ≡ 2
 view-two start shown = two-either-way (eqb (length shown) 0) start (length shown)
-
-pub once-three : (a : Attempted) → length (onceWords a) ≡ 3
-once-three a = refl
-
-pub scan-three : (a : Scanned) → length (scanWords a) ≡ 3
-scan-three a = refl

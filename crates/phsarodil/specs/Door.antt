@@ -6,8 +6,6 @@ use mathlib.Core.List.{List, [], _∷_}
 use lib.Dec.{eqb}
 use lib.IntN.{ℤ, pos, negsuc}
 use lib.ListN.{length}
-use Rattle.attempt.specs.Hints.{compatibleWordOf}
-use Rattle.attempt.specs.declared.schema_sig.Compatible.{Compatible}
 use Rattle.record.specs.Value.{bigEndian, startOf, lengthOf}
 use Rattle.record.specs.declared.entry.Entry.{Entry}
 use Rattle.record.specs.declared.entry.EntryRead.{EntryRead}
@@ -20,10 +18,9 @@ use Rattle.record.specs.declared.record.Value.{Value}
 use Rattle.record.specs.declared.record.Value.the-variants.{Null, Int, Real, Text, Blob}
 use Rattle.record.specs.declared.varint.Read.{Read}
 use Rattle.record.specs.declared.varint.Read.the-variants.{Number, Nothing as Short}
-use Rattle.scan.specs.Once.{onceWrittenOf}
-use Rattle.scan.specs.Scan.{writtenOf, placeOf, readOf}
-use Rattle.scan.specs.declared.schema_sig.Attempted.{Attempted}
-use Rattle.scan.specs.declared.schema_sig.Scanned.{Scanned}
+use Rattle.page.specs.declared.btree.Paged.{Paged}
+use Rattle.page.specs.declared.btree.Paged.the-variants.{At, Refused}
+use Rattle.scan.specs.Scan.{scanWritten, scanPlace, scanCount}
 
 -- phs_read_varint: found, value, bytes taken
 abbrev pub varintWords : Read → List ℕ
@@ -76,16 +73,14 @@ entryWords s at Bad = 0 ∷ 0 ∷ 0 ∷ 0 ∷ []
 abbrev pub viewWords : ℕ → List ℕ → List ℕ
 viewWords start shown = cond (eqb (length shown) 0) (0 ∷ 0 ∷ []) (start ∷ length shown ∷ [])
 
--- ---- hints and rows
-
--- phs_is_compatible: whether the type suits the hint
-abbrev pub suitsWords : Compatible → List ℕ
-suitsWords a = compatibleWordOf a ∷ []
-
--- phs_try_parse_record: rows written; its place and its count are 0
-abbrev pub onceWords : Attempted → List ℕ
-onceWords a = onceWrittenOf a ∷ 0 ∷ 0 ∷ []
+-- ---- rows and pages
 
 -- phs_scan_region: rows written, place, header bytes read
-abbrev pub scanWords : Scanned → List ℕ
-scanWords a = writtenOf a ∷ placeOf a ∷ readOf a ∷ []
+abbrev pub scanWords : List ℕ → List ℕ → ℕ → ℕ → ℕ → ℕ → List ℕ
+scanWords s hints base start rows cols =
+    scanWritten s hints base start rows cols ∷ scanPlace s hints base start rows cols ∷ scanCount s hints base start rows cols ∷ []
+
+-- phs_get_page_data: where the page starts, its length, and where its b-tree header stands in it
+abbrev pub pagedWords : Paged → List ℕ
+pagedWords (At start len head) = start ∷ len ∷ head ∷ []
+pagedWords (Refused r) = 0 ∷ 0 ∷ 0 ∷ []

@@ -3,16 +3,17 @@ use attempt::schema_sig::is_compatible;
 use scan::schema_sig::scan_region;
 use scan::schema_sig::try_parse_record;
 ghost use mathlib.Core.Path.{_≡_};
+ghost use mathlib.Core.List.{[], _∷_};
 ghost use lib.ListN.{length};
-ghost use Rattle.attempt.specs.Hints.{compatible, compatibleNumberOf};
-ghost use Rattle.phsarodil.specs.Door.{suitsWords, onceWords, scanWords};
-ghost use Rattle.scan.specs.Once.{onceAnswer, onceRows, onceCols, onceNumberOf};
-ghost use Rattle.scan.specs.Scan.{scanAnswer, scanRows, scanCols, numberOf};
+ghost use Rattle.attempt.specs.Hints.{compatibleNumber, compatibleWord};
+ghost use Rattle.phsarodil.specs.Door.{scanWords};
+ghost use Rattle.scan.specs.Once.{onceRows, onceCols, onceNumber, onceWritten};
+ghost use Rattle.scan.specs.Scan.{scanRows, scanCols, scanNumber};
 
 #[no_mangle]
 pub extern "C" fn phs_is_compatible(hint: u8, kind: u64, out: &mut [u64; 1]) -> u64
-    ensures number { λ r. ⌜ r ≡ compatibleNumberOf (compatible hint kind) ⌝ }
-    ensures out { λ _. ⌜ now (out .exit) ≡ suitsWords (compatible hint kind) ⌝ }
+    ensures number { λ r. ⌜ r ≡ compatibleNumber hint ⌝ }
+    ensures out { λ _. ⌜ now (out .exit) ≡ compatibleWord hint kind ∷ [] ⌝ }
 {
     let answer = is_compatible(hint, kind);
     *out = [answer.word()];
@@ -29,8 +30,8 @@ pub extern "C" fn phs_try_parse_record(
     cols: &mut [u64],
     out: &mut [u64; 3],
 ) -> u64
-    ensures number { λ r. ⌜ r ≡ onceNumberOf (onceAnswer (now (region .entry)) (now (hints .entry)) base offset (length (now (rows .entry))) (length (now (cols .entry)))) ⌝ }
-    ensures out { λ _. ⌜ now (out .exit) ≡ onceWords (onceAnswer (now (region .entry)) (now (hints .entry)) base offset (length (now (rows .entry))) (length (now (cols .entry)))) ⌝ }
+    ensures number { λ r. ⌜ r ≡ onceNumber (now (region .entry)) (now (hints .entry)) base offset (length (now (rows .entry))) (length (now (cols .entry))) ⌝ }
+    ensures out { λ _. ⌜ now (out .exit) ≡ onceWritten (now (region .entry)) (now (hints .entry)) base offset (length (now (rows .entry))) (length (now (cols .entry))) ∷ 0 ∷ 0 ∷ [] ⌝ }
     ensures rows { λ _. ⌜ now (rows .exit) ≡ onceRows (now (region .entry)) (now (hints .entry)) base offset (now (rows .entry)) (now (cols .entry)) ⌝ }
     ensures cols { λ _. ⌜ now (cols .exit) ≡ onceCols (now (region .entry)) (now (hints .entry)) base offset (now (rows .entry)) (now (cols .entry)) ⌝ }
 {
@@ -49,8 +50,8 @@ pub extern "C" fn phs_scan_region(
     cols: &mut [u64],
     out: &mut [u64; 3],
 ) -> u64
-    ensures number { λ r. ⌜ r ≡ numberOf (scanAnswer (now (region .entry)) (now (hints .entry)) base start (length (now (rows .entry))) (length (now (cols .entry)))) ⌝ }
-    ensures out { λ _. ⌜ now (out .exit) ≡ scanWords (scanAnswer (now (region .entry)) (now (hints .entry)) base start (length (now (rows .entry))) (length (now (cols .entry)))) ⌝ }
+    ensures number { λ r. ⌜ r ≡ scanNumber (now (region .entry)) (now (hints .entry)) base start (length (now (rows .entry))) (length (now (cols .entry))) ⌝ }
+    ensures out { λ _. ⌜ now (out .exit) ≡ scanWords (now (region .entry)) (now (hints .entry)) base start (length (now (rows .entry))) (length (now (cols .entry))) ⌝ }
     ensures rows { λ _. ⌜ now (rows .exit) ≡ scanRows (now (region .entry)) (now (hints .entry)) base start (now (rows .entry)) (now (cols .entry)) ⌝ }
     ensures cols { λ _. ⌜ now (cols .exit) ≡ scanCols (now (region .entry)) (now (hints .entry)) base start (now (rows .entry)) (now (cols .entry)) ⌝ }
 {

@@ -1,39 +1,38 @@
 -- What other crates rest on: they cite these laws and unfold no definition of this one.
 -- Assumes nothing.
-use Prim.Native.Nat.{ℕ, zero, suc, _+_, _-_, _*_, _/_, _%_, _^_, _<_, _≤_}
+use Prim.Native.Nat.{ℕ, zero, suc, _+_, _-_, _<_, _≤_}
 use mathlib.Core.Path.{_≡_, refl, sym, ap, _∙_}
-use mathlib.Core.Bool.{Bool, true, false, cond, _||_, or-true}
+use mathlib.Core.Bool.{true, false, _||_, or-true}
 use mathlib.Core.Logic.{⊎-elim, by-cases}
 use native.Mathlib.Decide.{ℕ-discrete}
-use mathlib.Core.List.{List, [], _∷_}
+use mathlib.Core.List.{List}
 use native.Mathlib.Nat.{eq-or-lt-of-le}
 use native.Mathlib.Omega.{arith}
-use lib.Dec.{lit<, ltb, eqb}
+use lib.Dec.{ltb}
 use lib.IntN.{ℤ, pos, negsuc, _-ℤ_}
 use lib.ListN.{length, getD}
 use lib.Signed.{ltZ}
 use mir.Syntax.{w64}
 use mir.Val.{SFits, toZ, ofZ}
 use mir.Facts.{toZ-ofZ}
-use borrow.Author.Tests.{lt-ltb, le-ltb, le-leb, lt-leb, eq-eqb, ne-eqb, leb-true, ltb-true}
+use borrow.Author.Tests.{lt-ltb, le-ltb, eq-eqb, ne-eqb, ltb-true}
 use Rattle.record.specs.Entry.{bodyState, unusedState, unlike, badEntry, readEntry, entryRefusal}
 use Rattle.record.specs.Places.{placesFrom, stopOf, varintPlaces, AgreeAt}
-use Rattle.record.specs.Value.{bodyLength, bodyFits, valueOf, decodeAt}
+use Rattle.record.specs.Value.{bodyLength, valueOf, decodeAt}
 use Rattle.record.specs.Varint.{varintFrom, varintAt}
 use Rattle.record.specs.declared.entry.Entry.{Entry}
-use Rattle.record.specs.declared.entry.EntryRead.{EntryRead}
 use Rattle.record.specs.declared.entry.EntryRead.the-variants.{Of, Refused}
-use Rattle.record.specs.declared.record.Decoded.the-variants.{Of as Got, Nothing}
+use Rattle.record.specs.declared.record.Decoded.the-variants.{Of as Got}
 use Rattle.record.specs.declared.record.Length.{Length}
 use Rattle.record.specs.declared.record.Length.the-variants.{Bytes, Reserved}
 use Rattle.record.specs.declared.record.Value.{Value as Cell}
-use Rattle.record.specs.declared.record.Value.the-variants.{Null, Int, Real, Text, Blob}
+use Rattle.record.specs.declared.record.Value.the-variants.{Null}
 use Rattle.record.specs.declared.varint.Cursor.{Cursor}
 use Rattle.record.specs.declared.varint.Varint.{Varint}
 use Rattle.record.specs.declared.varint.Varint.the-variants.{Value, Short}
-use Rattle.record.proofs.Numbers.{by-order, at-most, one-more}
-use Rattle.record.proofs.Values.{small-length, eight-most, fits-by-place, fits-here, fits-inside, fits-not, decode-is, decode-out, decode-none, decoded, undecoded}
-use Rattle.record.proofs.Varints.{at-end, at-ninth, at-last, at-more, grown, over}
+use Rattle.record.proofs.Numbers.{by-order}
+use Rattle.record.proofs.Values.{fits-inside, decoded}
+use Rattle.record.proofs.Varints.{at-end, at-ninth, at-last, at-more, over}
 
 -- ---- where a varint lies
 
@@ -92,24 +91,9 @@ varint-lies s at v c e =
     let y : stopOf s (varintAt s at) ≡ c .at = ap (stopOf s) e in
     record { past = z .whole v c e; nine = omega (arith, z .near); inside = omega (arith, z .inside) }
 
--- THE LAW: of bytes, its value is below 2 ^ 64
-pub varint-small : (s : List ℕ) → ((i : ℕ) → getD s i 0 < 256) → (at v : ℕ) (c : Cursor) → varintAt s at ≡ Value v c → v < 2 ^ 64
-unfolding varintAt
-varint-small s bytes at v c e =
-    over s (λ a w k x. (n y : ℕ) (d : Cursor) → n + k ≡ 8 → w < 2 ^ (7 * n) → x ≡ Value y d → y < 2 ^ 64)
-    (λ a w k out n y d m lt f. never f)
-    (λ a w h n y d m lt f.
-    let z : w * 256 + getD s a 0 ≡ y = cc in
-    omega (arith, bytes a, at-most 7 8 {n = n} {v = w} (omega arith) lt))
-    (λ a w k h low n y d m lt f.
-    let z : w * 128 + getD s a 0 ≡ y = cc in
-    omega (arith, at-most 7 7 {n = n} {v = w} (omega arith) lt))
-    (λ a w k h high x z n y d m lt f. z (n + 1) y d (omega arith) (one-more 7 n w _ lt (omega arith)) f)
-    at 0 8 0 v c refl (lit< tt) e
-
 -- ---- the bytes that reading a varint looks at
 
-pub agree-at : (x y : List ℕ) (at n : ℕ) → AgreeAt x y (placesFrom at n) → (p : ℕ) → at ≤ p → p < at + n → getD x p 0 ≡ getD y p 0
+agree-at : (x y : List ℕ) (at n : ℕ) → AgreeAt x y (placesFrom at n) → (p : ℕ) → at ≤ p → p < at + n → getD x p 0 ≡ getD y p 0
 agree-at x y at zero a p lo hi = absurd (omega arith)
 agree-at x y at (suc n) a p lo hi =
     ⊎-elim
@@ -168,60 +152,9 @@ pub places-count : (s : List ℕ) (at : ℕ) → length (varintPlaces s at) ≡ 
 unfolding varintPlaces
 places-count s at = places-length at _
 
--- ---- bodies and values
+-- ---- values
 
--- THE LAW: a body is shorter than 2 ^ 63 bytes
-pub body-small : (t n : ℕ) → t < 2 ^ 64 → bodyLength t ≡ Bytes n → n < 2 ^ 63
-unfolding bodyLength
-body-small t n h e =
-    by-order t 10 (λ lt. omega (arith, small-length t n lt e, eight-most t))
-    (λ ge.
-    by-order t 12
-    (λ lt. let z : Reserved ≡ Bytes n = simp (le-ltb t 10 ge, lt-ltb t 12 lt) at e in clash z)
-    (λ big. halves (eqb (t % 2) 0) (simp (le-ltb t 10 ge, le-ltb t 12 big) at e)))
-  where
-    clash : {C : Type 0} → Reserved ≡ Bytes n → C
-    clash z = let q : _≡_ {A = ℕ} 0 1 = cc in absurd (omega arith)
-
-    halves : (b : Bool) → cond b (Bytes ((t - 12) / 2)) (Bytes ((t - 13) / 2)) ≡ Bytes n → n < 2 ^ 63
-    halves true z = let q : (t - 12) / 2 ≡ n = cc in omega arith
-    halves false z = let q : (t - 13) / 2 ≡ n = cc in omega arith
-
--- THE LAW: a body that lies in the slice is decoded, and takes its length
-pub decodes : (t : ℕ) (s : List ℕ) (at n : ℕ) → bodyLength t ≡ Bytes n → at + n ≤ length s → decodeAt t s at ≡ Got (valueOf t s at n) n
-decodes t s at n l h = decode-is t s at n l (fits-here t n s at h)
-
--- the bytes of a text or a blob lie in the slice
-abbrev pub Inside : List ℕ → Cell → Type 0
-Inside s Null = Unit
-Inside s (Int z) = Unit
-Inside s (Real x) = Unit
-Inside s (Text at n) = at + n ≤ length s
-Inside s (Blob at n) = at + n ≤ length s
-
-either : {A : Type 0} (P : A → Type 0) (b : Bool) {x y : A} → P x → P y → P (cond b x y)
-either P true p q = p
-either P false p q = q
-
-value-inside : (t : ℕ) (s : List ℕ) (at n : ℕ) → (10 ≤ t → at + n ≤ length s) → Inside s (valueOf t s at n)
-unfolding valueOf
-value-inside t s at n h =
-    let In = Inside s in
-    by-order t 10
-    (λ lt. simp (lt-ltb t 10 lt) (either In (eqb t 0) tt (either In (ltb t 7) tt (either In (eqb t 7) tt tt))))
-    (λ ge.
-    either In (eqb t 0) tt
-    (either In (ltb t 7) tt (either In (eqb t 7) tt (either In (ltb t 10) tt (either In (eqb (t % 2) 0) (h ge) (h ge))))))
-
--- THE LAW: a decoded value's bytes lie in the slice
-pub decoded-inside : (t : ℕ) (s : List ℕ) (at : ℕ) (v : Cell) (n : ℕ) → decodeAt t s at ≡ Got v n → Inside s v
-decoded-inside t s at v n e =
-    let d = decoded t s at v n e in
-    rw (d .2)
-    (value-inside t s at n λ ge.
-    leb-true (at + n) (length s) (sym (fits-by-place t n s at (λ z. omega arith) (λ z. omega arith) (λ z. omega arith)) ∙ d .1))
-
--- THE LAW: and what starts in the slice ends in it
+-- THE LAW: what is decoded and starts in the slice ends in it
 pub decoded-ends : (t : ℕ) (s : List ℕ) (at : ℕ) (v : Cell) (n : ℕ) → at ≤ length s → decodeAt t s at ≡ Got v n → at + n ≤ length s
 decoded-ends t s at v n h e = let d = decoded t s at v n e in fits-inside t n s at (d .0) (d .1) h
 
@@ -277,27 +210,32 @@ module _ (e : Entry) (s : List ℕ) where
         let d = decoded (e .kind) s (e .start) v n there in
         bad-body body (λ m l q. let z : Bytes m ≡ Bytes n = cc in absurd (ne (cc)))
 
-  -- THE LAW: an entry's bytes lie in the slice
-  pub entry-inside : (v : Cell) → readEntry e s ≡ Of v → Inside s v
-  unfolding readEntry
-  entry-inside v r =
-      by-order unusedState (e .state) (λ big. refused (entry-refused (bad-state big) .0))
+  -- THE LAW: an entry that was read stands for NULL, or for a body that lies in the slice
+  pub entry-cases : (P : Cell → Type 0) → P Null →
+      (bodyLength (e .kind) ≡ Bytes (e .len) → e .start + e .len ≤ length s → P (valueOf (e .kind) s (e .start) (e .len))) →
+      (v : Cell) → readEntry e s ≡ Of v → P v
+  entry-cases P null body v r =
+      by-order unusedState (e .state) (λ big. refused (bad-state big))
       (λ hi.
       by-cases (ℕ-discrete (e .state) bodyState)
-      (λ body.
-      by-order (length s) (e .start + e .len)
-      (λ out. refused (entry-refused (bad-body body (λ n l q. omega arith)) .0))
-      (λ h. there h (badEntry e s) (simp body at r)))
-      (λ other. let z : v ≡ Null = cc (entry-null other hi .0) in rw z tt))
+      (λ there. by-length there (bodyLength (e .kind)) refl)
+      (λ other. let z : v ≡ Null = cc (entry-null other hi .0) in rw z null))
     where
-      refused : readEntry e s ≡ Refused → Inside s v
-      refused q = let z : _≡_ {A = ℕ} 0 1 = cc in absurd (omega arith)
+      refused : badEntry e s ≡ true → P v
+      refused b = let z : _≡_ {A = ℕ} 0 1 = cc (entry-refused b .0) in absurd (omega arith)
 
-      there : e .start + e .len ≤ length s → (b : Bool) → cond b Refused (Of (valueOf (e .kind) s (e .start) (e .len))) ≡ Of v → Inside s v
-      there h true q = let z : _≡_ {A = ℕ} 0 1 = cc in absurd (omega arith)
-      there h false q =
-          let z : v ≡ valueOf (e .kind) s (e .start) (e .len) = cc in
-          rw z (value-inside (e .kind) s (e .start) (e .len) (λ _. h))
+      by-length : e .state ≡ bodyState → (l : Length) → bodyLength (e .kind) ≡ l → P v
+      by-length there Reserved l = refused (bad-body there (λ n k q. let z : _≡_ {A = ℕ} 0 1 = cc in absurd (omega arith)))
+      by-length there (Bytes n) l =
+          by-cases (ℕ-discrete (e .len) n)
+          (λ q.
+          by-order (length s) (e .start + e .len)
+          (λ out. refused (bad-body there (λ m k w. omega arith)))
+          (λ h.
+          let like : bodyLength (e .kind) ≡ Bytes (e .len) = cc in
+          let z : v ≡ valueOf (e .kind) s (e .start) (e .len) = cc (entry-body there like h .0) in
+          rw z (body like h)))
+          (λ ne. refused (bad-body there (λ m k q. let z : Bytes m ≡ Bytes n = cc in absurd (ne (cc)))))
 
 -- ---- signed numbers of 64 bits, as the machine keeps them
 

@@ -1,7 +1,8 @@
--- Numbers made of groups of bits, over the group's width, and two's complement.
+-- Going by cases; numbers made of groups of bits, over the group's width; and two's complement.
 -- Assumes nothing.
 use Prim.Native.Nat.{ℕ, zero, suc, _+_, _-_, _*_, _^_, _<_, _≤_}
 use mathlib.Core.Path.{_≡_, refl, ap}
+use mathlib.Core.Bool.{Bool, true, false}
 use mathlib.Core.Logic.{by-cases}
 use native.Mathlib.Decide.{decLt}
 use native.Mathlib.Nat.{lt-of-lt-of-le, mul-add, mul-one, add-mul, one-mul, mul-le-mul-left, mul-le-mul-right, zero-add}
@@ -14,6 +15,11 @@ use Rattle.record.specs.Value.{twosComplement}
 -- a case for a below b, and one for b at most a
 pub by-order : {C : Type 0} (a b : ℕ) → (a < b → C) → (b ≤ a → C) → C
 by-order a b below above = by-cases (decLt a b) below (λ h. above (omega arith))
+
+-- and one for each answer of a test
+pub by-test : {C : Type 0} (b : Bool) → (b ≡ true → C) → (b ≡ false → C) → C
+by-test true f g = f refl
+by-test false f g = g refl
 
 -- n groups of w bits are no more than m of them
 pub at-most : (w m : ℕ) {n v : ℕ} → n ≤ m → v < 2 ^ (w * n) → v < 2 ^ (w * m)

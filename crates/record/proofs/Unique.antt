@@ -4,6 +4,8 @@ use mathlib.Core.Path.{_≡_, sym, _∙_}
 use denote.Ref.{now}
 use Rattle.record.proofs.entry.Entry.read.Reads as read
 use Rattle.record.proofs.entry.Entry.view.Reads as view
+use Rattle.record.proofs.record.Value.len.Reads as value-len
+use Rattle.record.proofs.record.Value.start.Reads as value-start
 use Rattle.record.proofs.record.body_length.Reads as body-length
 use Rattle.record.proofs.record.decode_serial_type.Reads as decode-serial-type
 use Rattle.record.proofs.varint.Cursor.header_length.Reads as header-length
@@ -36,6 +38,12 @@ body-length-fixed k a x y s t p q = p ∙ sym q
 
 pub decode-serial-type-fixed : Fixes decode-serial-type.Post
 decode-serial-type-fixed k a x y s t p q = p ∙ sym q
+
+pub value-start-fixed : Fixes value-start.Post
+value-start-fixed k a x y s t p q = p ∙ sym q
+
+pub value-len-fixed : Fixes value-len.Post
+value-len-fixed k a x y s t p q = p ∙ sym q
 
 pub read-fixed : Fixes read.Post
 read-fixed k a x y s t p q = p .0 ∙ sym (q .0)

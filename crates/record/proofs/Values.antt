@@ -1,19 +1,22 @@
 -- The cases of the definitions on values, each from facts on the numbers.
 -- Assumes nothing.
-use Prim.Native.Nat.{ℕ, zero, suc, zero-le, _+_, _≤_, _<_}
+use Prim.Native.Nat.{ℕ, zero, suc, zero-le, _+_, _%_, _≤_, _<_}
 use mathlib.Core.Path.{_≡_, refl, sym, ap, _∙_}
-use mathlib.Core.Bool.{Bool, true, false, _||_, or-true}
+use mathlib.Core.Bool.{true, false, or-true}
 use mathlib.Core.List.{List, [], _∷_}
-use mathlib.Core.Logic.{⊎-elim}
 use native.Mathlib.Omega.{arith}
-use lib.Dec.{T, leb, eqb, leb→le, lit<}
+use lib.Dec.{T, leb, ltb, eqb, leb→le, lit<}
+use lib.Ieee.{binary64, ofBits}
+use lib.IntN.{ℤ}
 use lib.ListN.{length, getD}
-use borrow.Author.Tests.{lt-ltb, le-leb, ne-eqb, leb-true, leb-false, eqb-true}
-use Rattle.record.specs.Value.{smallLengths, bodyLength, bodyFits, valueOf, decodeAt, decodeAs}
+use borrow.Author.Tests.{lt-ltb, le-leb, ne-eqb, leb-true, eqb-true, ltb-false}
+use Rattle.record.specs.Value.{smallLengths, bodyLength, bodyFits, bigEndian, valueOf, decodeAt}
 use Rattle.record.specs.declared.record.Decoded.the-variants.{Of, Nothing}
 use Rattle.record.specs.declared.record.Length.{Length}
 use Rattle.record.specs.declared.record.Length.the-variants.{Bytes, Reserved}
 use Rattle.record.specs.declared.record.Value.{Value}
+use Rattle.record.specs.declared.record.Value.the-variants.{Null, Int, Real, Text, Blob}
+use Rattle.record.proofs.Numbers.{by-order, by-test}
 
 -- types below 10 are as long as the table says, which is at most 8
 pub small-length : (t n : ℕ) → t < 10 → bodyLength t ≡ Bytes n → n ≡ getD smallLengths t 0
@@ -47,14 +50,11 @@ module _ (t n : ℕ) (s : List ℕ) (at : ℕ) where
   pub fits-inside : bodyLength t ≡ Bytes n → bodyFits t n s at ≡ true → at ≤ length s → at + n ≤ length s
   unfolding bodyFits
   fits-inside l f h =
-      or-cases (eqb t 0) _ (constant 0 (lit< tt) refl)
-      (or-cases (eqb t 8) _ (constant 8 (lit< tt) refl) (or-cases (eqb t 9) _ (constant 9 (lit< tt) refl) (leb-true (at + n) (length s))))
-      f
+      by-test (eqb t 0) (constant 0 (lit< tt) refl) λ no0.
+      by-test (eqb t 8) (constant 8 (lit< tt) refl) λ no8.
+      by-test (eqb t 9) (constant 9 (lit< tt) refl) λ no9.
+      leb-true (at + n) (length s) (rw (no0, no8, no9) at f)
     where
-      or-cases : {C : Type 0} (a b : Bool) → (a ≡ true → C) → (b ≡ true → C) → (a || b) ≡ true → C
-      or-cases true b l r e = l refl
-      or-cases false b l r e = r e
-
       constant : (k : ℕ) → k < 10 → getD smallLengths k 0 ≡ 0 → eqb t k ≡ true → at + n ≤ length s
       constant k lt z e =
           let q : t ≡ k = eqb-true t k e in
@@ -62,12 +62,22 @@ module _ (t n : ℕ) (s : List ℕ) (at : ℕ) where
           omega arith
 
   pub fits-not : bodyFits t n s at ≡ false → length s < at + n
-  unfolding bodyFits
-  fits-not f = leb-false (at + n) (length s) (right (eqb t 9) _ (right (eqb t 8) _ (right (eqb t 0) _ f)))
-    where
-      right : (a b : Bool) → (a || b) ≡ false → b ≡ false
-      right true b e = let z : _≡_ {A = ℕ} 0 1 = cc in absurd (omega arith)
-      right false b e = e
+  fits-not f =
+      by-order (length s) (at + n) (λ out. out) (λ inside. let z : _≡_ {A = ℕ} 0 1 = cc (fits-here inside) in absurd (omega arith))
+
+-- ---- `valueOf`
+-- THE LAW: what holds of each kind of value holds of the value of a type
+pub value-cases : (P : Value → Type 0) (t : ℕ) (s : List ℕ) (at n : ℕ) → P Null → ((z : ℤ) → P (Int z)) →
+    (t ≡ 7 → P (Real (ofBits binary64 (bigEndian s at n)))) → (10 ≤ t → P (Blob at n)) → (10 ≤ t → P (Text at n)) → P (valueOf t s at n)
+unfolding valueOf
+value-cases P t s at n null int real blob text =
+    by-test (eqb t 0) (λ h. rw h null) λ h. rw h
+    (by-test (ltb t 7) (λ h. rw h (int _)) λ h. rw h
+    (by-test (eqb t 7) (λ h. rw h (real (eqb-true t 7 h))) λ h. rw h
+    (by-test (ltb t 10) (λ h. rw h (int _)) λ big.
+    rw big
+    (let ge = ltb-false t 10 big in
+    by-test (eqb (t % 2) 0) (λ h. rw h (blob ge)) (λ h. rw h (text ge))))))
 
 -- ---- `decodeAt`
 module _ (t : ℕ) (s : List ℕ) (at : ℕ) where
@@ -85,11 +95,10 @@ module _ (t : ℕ) (s : List ℕ) (at : ℕ) where
 
   decoded-as : (l : Length) → bodyLength t ≡ l → (v : Value) (n : ℕ) → decodeAt t s at ≡ Of v n → (bodyLength t ≡ Bytes n) × (bodyFits t n s at ≡ true) × (v ≡ valueOf t s at n)
   decoded-as Reserved l v n d = let z : _≡_ {A = ℕ} 0 1 = cc (decode-none l) in absurd (omega arith)
-  decoded-as (Bytes m) l v n d = go (bodyFits t m s at) refl
-    where
-      go : (b : Bool) → bodyFits t m s at ≡ b → (bodyLength t ≡ Bytes n) × (bodyFits t n s at ≡ true) × (v ≡ valueOf t s at n)
-      go true f = let z : Of (valueOf t s at m) m ≡ Of v n = sym (decode-is m l f) ∙ d in (cc, cc, cc)
-      go false f = let z : _≡_ {A = ℕ} 0 1 = cc (decode-out m l f) in absurd (omega arith)
+  decoded-as (Bytes m) l v n d =
+      by-test (bodyFits t m s at)
+      (λ f. let z : Of (valueOf t s at m) m ≡ Of v n = sym (decode-is m l f) ∙ d in (cc, cc, cc))
+      (λ f. let z : _≡_ {A = ℕ} 0 1 = cc (decode-out m l f) in absurd (omega arith))
 
   -- what stands behind a value that was decoded
   pub decoded : (v : Value) (n : ℕ) → decodeAt t s at ≡ Of v n → (bodyLength t ≡ Bytes n) × (bodyFits t n s at ≡ true) × (v ≡ valueOf t s at n)
@@ -97,8 +106,7 @@ module _ (t : ℕ) (s : List ℕ) (at : ℕ) where
 
   -- and behind none
   pub undecoded : (n : ℕ) → decodeAt t s at ≡ Nothing → bodyLength t ≡ Bytes n → length s < at + n
-  undecoded n d l = go (bodyFits t n s at) refl
-    where
-      go : (b : Bool) → bodyFits t n s at ≡ b → length s < at + n
-      go true f = let z : _≡_ {A = ℕ} 0 1 = cc (decode-is n l f) in absurd (omega arith)
-      go false f = fits-not t n s at f
+  undecoded n d l =
+      by-test (bodyFits t n s at)
+      (λ f. let z : _≡_ {A = ℕ} 0 1 = cc (decode-is n l f) in absurd (omega arith))
+      (fits-not t n s at)

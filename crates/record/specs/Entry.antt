@@ -4,15 +4,15 @@ use Prim.Native.Nat.{ℕ, _+_}
 use mathlib.Core.Bool.{Bool, true, cond, not, _&&_, _||_}
 use mathlib.Core.List.{List, []}
 use lib.ListN.{length, take, drop}
-use lib.Dec.{ltb, leb, eqb}
-use Rattle.record.specs.Value.{bodyLength, valueOf}
+use lib.Dec.{ltb, eqb}
+use Rattle.record.specs.Value.{bodyLength, valueOf, startOf, lengthOf}
 use Rattle.record.specs.declared.entry.Entry.{Entry}
 use Rattle.record.specs.declared.entry.EntryRead.{EntryRead}
 use Rattle.record.specs.declared.entry.EntryRead.the-variants.{Of, Refused}
 use Rattle.record.specs.declared.record.Length.{Length}
 use Rattle.record.specs.declared.record.Length.the-variants.{Bytes, Reserved}
 use Rattle.record.specs.declared.record.Value.{Value}
-use Rattle.record.specs.declared.record.Value.the-variants.{Null, Int, Real, Text, Blob}
+use Rattle.record.specs.declared.record.Value.the-variants.{Null}
 
 -- Rule 3.1, states: the body is there
 abbrev pub bodyState : ℕ
@@ -47,21 +47,21 @@ readEntry e s =
     cond (badEntry e s) Refused
     (cond (eqb (e .state) bodyState) (Of (valueOf (e .kind) s (e .start) (e .len))) (Of Null))
 
--- the refusal's number; 0 stands for none
+-- the number of that refusal
+abbrev pub badNumber : ℕ
+badNumber = 2
+
+-- the number of what was read; 0 stands for none
 abbrev pub refusalOf : EntryRead → ℕ
 refusalOf (Of v) = 0
-refusalOf Refused = 2
+refusalOf Refused = badNumber
 
 unfoldable pub entryRefusal : Entry → List ℕ → ℕ
-entryRefusal e s = cond (badEntry e s) 2 0
+entryRefusal e s = cond (badEntry e s) badNumber 0
 
 -- Rule 3.4: text and blob show their bytes, and nothing else shows any
 abbrev pub valueBytes : List ℕ → Value → List ℕ
-valueBytes s Null = []
-valueBytes s (Int z) = []
-valueBytes s (Real x) = []
-valueBytes s (Text start n) = take n (drop start s)
-valueBytes s (Blob start n) = take n (drop start s)
+valueBytes s v = take (lengthOf v) (drop (startOf v) s)
 
 abbrev pub shown : List ℕ → EntryRead → List ℕ
 shown s (Of v) = valueBytes s v

@@ -3,14 +3,8 @@
 use Prim.Native.Nat.{ℕ, _+_, _≤_}
 use mathlib.Core.List.{List}
 use lib.ListN.{length}
-use Rattle.record.specs.Value.{startOf, lengthOf}
-use Rattle.record.specs.declared.entry.Span.{Span}
 use Rattle.record.specs.declared.record.Value.{Value}
 use Rattle.record.specs.declared.record.Value.the-variants.{Null, Int, Real, Text, Blob}
-
--- the two numbers in the code's own struct
-abbrev pub spanOf : Value → Span
-spanOf v = record { start = startOf v; len = lengthOf v }
 
 -- a real has its eight bytes
 abbrev pub BodyThere : List ℕ → ℕ → Value → Type 0

@@ -4,7 +4,6 @@ use crate::record::Value;
 use crate::record::decode_serial_type;
 ghost use mathlib.Core.Path.{_≡_};
 ghost use Rattle.record.specs.Entry.{readEntry, refusalOf, entryRefusal, entryBytes};
-ghost use Rattle.record.specs.Inner.{spanOf};
 
 // What a state says of its entry: the body is there,
 pub const BODY: u64 = 0;
@@ -60,27 +59,8 @@ impl Entry {
         let EntryRead::Of(value) = self.read(bytes) else {
             return &bytes[..0];
         };
-        let span = span_of(value);
-        let start = span.start;
-        let end = start + span.len;
+        let start = value.start();
+        let end = start + value.len();
         &bytes[start..end]
-    }
-}
-
-struct Span {
-    start: usize,
-    len: usize,
-}
-
-// Nothing but text and blob has bytes to show.
-fn span_of(value: Value) -> Span
-    ensures { λ r. ⌜ r ≡ spanOf value ⌝ }
-{
-    match value {
-        Value::Text { start, len } => Span { start, len },
-        Value::Blob { start, len } => Span { start, len },
-        Value::Null => Span { start: 0, len: 0 },
-        Value::Int(_) => Span { start: 0, len: 0 },
-        Value::Real(_) => Span { start: 0, len: 0 },
     }
 }

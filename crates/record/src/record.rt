@@ -5,7 +5,7 @@ ghost use mathlib.Core.Bool.{true};
 ghost use Prim.Native.Nat.{_+_, _*_, _^_, _≤_, _<_};
 ghost use lib.ListN.{length, getD};
 ghost use lib.Ieee.{binary64, ofBits};
-ghost use Rattle.record.specs.Value.{smallLengths, bodyLength, bodyFits, bigEndian, twosComplement, valueOf, decodeAt};
+ghost use Rattle.record.specs.Value.{smallLengths, bodyLength, bodyFits, bigEndian, twosComplement, valueOf, decodeAt, startOf, lengthOf};
 ghost use Rattle.record.specs.declared.record.Length.the-variants.{Bytes};
 
 pub enum Length {
@@ -20,6 +20,35 @@ pub enum Value {
     Real(f64),
     Text { start: usize, len: usize },
     Blob { start: usize, len: usize },
+}
+
+// Nothing but a text or a blob has bytes to show.
+impl Value {
+    // Where they start in the slice.
+    pub fn start(self) -> usize
+        ensures { λ r. ⌜ r ≡ startOf self ⌝ }
+    {
+        match self {
+            Value::Text { start, .. } => start,
+            Value::Blob { start, .. } => start,
+            Value::Null => 0,
+            Value::Int(_) => 0,
+            Value::Real(_) => 0,
+        }
+    }
+
+    // How many there are.
+    pub fn len(self) -> usize
+        ensures { λ r. ⌜ r ≡ lengthOf self ⌝ }
+    {
+        match self {
+            Value::Text { len, .. } => len,
+            Value::Blob { len, .. } => len,
+            Value::Null => 0,
+            Value::Int(_) => 0,
+            Value::Real(_) => 0,
+        }
+    }
 }
 
 pub enum Decoded {

@@ -4,7 +4,7 @@ use Prim.Native.Nat.{ℕ, _+_, _*_, _%_}
 use mathlib.Core.Bool.{Bool, _&&_}
 use mathlib.Core.List.{List, [], _∷_}
 use lib.ListN.{length}
-use Rattle.phsarodil.specs.Door.{varintWords, lengthWords, decodedWords, entryOf, entryWords, viewWords, suitsWords, onceWords, scanWords}
+use Rattle.phsarodil.specs.Door.{varintWords, lengthWords, decodedWords, entryOf, entryWords, viewWords, scanWords}
 use Rattle.record.specs.Entry.{readEntry, refusalOf, entryBytes}
 use Rattle.record.specs.Value.{bodyLength, decodeAt}
 use Rattle.record.specs.Varint.{readVarint}
@@ -12,9 +12,9 @@ use Rattle.record.specs.declared.entry.Entry.{Entry}
 use Rattle.recording.specs.Recording.{sizeAt, number, slice, secondSlice, cellsAt, freshWord, freshByte, holds, answered}
 use Rattle.replay.specs.declared.lists.Attempts.{Attempts}
 use Rattle.replay.specs.declared.lists.Attempts.the-variants.{One, All}
-use Rattle.attempt.specs.Hints.{compatible, compatibleNumberOf}
-use Rattle.scan.specs.Once.{onceAnswer, onceRows, onceCols, onceNumberOf}
-use Rattle.scan.specs.Scan.{scanAnswer, scanRows, scanCols, numberOf}
+use Rattle.attempt.specs.Hints.{compatibleNumber, compatibleWord}
+use Rattle.scan.specs.Once.{onceRows, onceCols, onceNumber, onceWritten}
+use Rattle.scan.specs.Scan.{scanRows, scanCols, scanNumber}
 use Rattle.search.specs.Search.{searchNumber, searchWritten, searchPlaces}
 use Rattle.statement.specs.Statement.{statementNumber, statementWritten, statementHints}
 
@@ -40,9 +40,7 @@ viewAgrees h b = answered h 0 (viewWords (number 2 h) (entryBytes (givenEntry h)
 
 -- a hint is a byte
 abbrev pub suitsAgrees : List ℕ → Bool
-suitsAgrees h =
-    let answer = compatible (number 0 h % 256) (number 1 h) in
-    answered h (compatibleNumberOf answer) (suitsWords answer)
+suitsAgrees h = answered h (compatibleNumber (number 0 h % 256)) (compatibleWord (number 0 h % 256) (number 1 h) ∷ [])
 
 -- ---- calls that write lists: cells lent at 64 and 72, cells written at 80 and 88
 
@@ -54,12 +52,12 @@ secondHolds h b l = holds freshWord l b (cellsAt h + 8 * sizeAt h 80) (sizeAt h 
 
 -- one attempt, or all of a region
 abbrev pub attemptsNumber : Attempts → List ℕ → List ℕ → ℕ → ℕ → List ℕ → List ℕ → ℕ
-attemptsNumber One s hints base at rows cols = onceNumberOf (onceAnswer s hints base at (length rows) (length cols))
-attemptsNumber All s hints base at rows cols = numberOf (scanAnswer s hints base at (length rows) (length cols))
+attemptsNumber One s hints base at rows cols = onceNumber s hints base at (length rows) (length cols)
+attemptsNumber All s hints base at rows cols = scanNumber s hints base at (length rows) (length cols)
 
 abbrev pub attemptsWords : Attempts → List ℕ → List ℕ → ℕ → ℕ → List ℕ → List ℕ → List ℕ
-attemptsWords One s hints base at rows cols = onceWords (onceAnswer s hints base at (length rows) (length cols))
-attemptsWords All s hints base at rows cols = scanWords (scanAnswer s hints base at (length rows) (length cols))
+attemptsWords One s hints base at rows cols = onceWritten s hints base at (length rows) (length cols) ∷ 0 ∷ 0 ∷ []
+attemptsWords All s hints base at rows cols = scanWords s hints base at (length rows) (length cols)
 
 abbrev pub attemptsRows : Attempts → List ℕ → List ℕ → ℕ → ℕ → List ℕ → List ℕ → List ℕ
 attemptsRows One = onceRows

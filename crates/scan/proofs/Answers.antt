@@ -21,14 +21,14 @@ use Rattle.sheet.specs.declared.refusal.Checked.the-variants.{Passed, Refused a
 use Rattle.sheet.specs.declared.refusal.Refusal.{Refusal}
 
 module _ (len rows read : ℕ) where
-  pub end-is : (t : Run) → let a = endOf len rows read t in
+  end-is : (t : Run) → let a = endOf len rows read t in
       (numberOf a ≡ runNumber t) × (writtenOf a ≡ rows) × (placeOf a ≡ runPlace len t) × (readOf a ≡ read)
   end-is through = (refl, refl, refl, refl)
   end-is (noRoom o) = (refl, refl, refl, refl)
   end-is (missed o t) = end-is t
   end-is (found o x t) = end-is t
 
-pub scan-numbers : (s : List ℕ) (c : Checked) (t : Run) → let a = after Refused c (answerOf s t) in
+scan-numbers : (s : List ℕ) (c : Checked) (t : Run) → let a = after Refused c (answerOf s t) in
     (numberOf a ≡ after refusalNumber c (runNumber t)) × (writtenOf a ≡ afterOr0 c (rowCount t))
     × (placeOf a ≡ afterOr0 c (runPlace (length s) t)) × (readOf a ≡ afterOr0 c (length (finishedPlaces s t)))
 scan-numbers s Passed t = end-is (length s) (rowCount t) (length (finishedPlaces s t)) t

@@ -10,9 +10,9 @@ use denote.Triple.Clauses.{AtExit}
 use borrow.Fn.Kinds.{Dens, resT, endedOf}
 use lib.ListN.{length}
 use Rattle.attempt.specs.Places.{mostPlaces}
-use Rattle.scan.specs.Scan.{finishedPlaces, triedOffsets, numberOf, writtenOf, placeOf, readOf, scanCount}
+use Rattle.scan.specs.Scan.{finishedPlaces, triedOffsets, numberOf, writtenOf, placeOf, readOf}
 use Rattle.scan.specs.Sheet.{Sheet, sheetOf, Asked, asked, askedChecked, askedRun, askedSheet, askedCount, Alike}
-use Rattle.scan.proofs.Leaving.{sheet-left}
+use Rattle.scan.proofs.Leaving.{sheet-left, count-left}
 use Rattle.scan.proofs.SameRun.{same-sheet, finished-few}
 use Rattle.sheet.specs.declared.refusal.Checked.the-variants.{Passed}
 use Rattle.scan.proofs.schema_sig.scan_region.Kinds as kinds
@@ -28,11 +28,13 @@ module _ (k : Lfts 4) where
 
   pub sheet-is : (a : Dens k kinds.ps) (x : resT kinds.r k .Denot) (s : AtExit (endedOf 4 kinds.ps kinds.r) k) → scan-region.Post k a x s
       → (sheet a x s ≡ askedSheet (question a)) × (readOf x ≡ askedCount (question a))
-  unfolding scanCount askedCount
-  sheet-is a x s p = (
-    rw (p .0, p .1 .0, p .1 .1 .0) (sheet-left (now (a .0)) (now (a .1 .0)) (a .1 .1 .0) (a .1 .1 .1 .0) (now (a .1 .1 .1 .1 .0)) (now (a .1 .1 .1 .1 .1 .0))),
-    p .1 .1 .1 .1 .1 .1,
-  )
+  sheet-is a x s p =
+      let rows = now (a .1 .1 .1 .1 .0) in
+      let cols = now (a .1 .1 .1 .1 .1 .0) in
+      let n = p .1 .1 .1 in (
+        rw (n .0, n .1 .0, n .1 .1 .0, p .1 .0, p .1 .1 .0) (sheet-left (now (a .0)) (now (a .1 .0)) (a .1 .1 .0) (a .1 .1 .1 .0) rows cols),
+        n .1 .1 .1 ∙ count-left (now (a .0)) (now (a .1 .0)) (a .1 .1 .0) (a .1 .1 .1 .0) rows cols,
+      )
 
   pub gives-away : (a b : Dens k kinds.ps) → Alike (question a) (question b) → (x y : resT kinds.r k .Denot) (s t : AtExit (endedOf 4 kinds.ps kinds.r) k)
       → scan-region.Post k a x s → scan-region.Post k b y t → (sheet a x s ≡ sheet b y t) × (readOf x ≡ readOf y)

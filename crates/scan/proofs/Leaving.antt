@@ -6,16 +6,14 @@ use mathlib.Core.List.{List, [], _++_}
 use native.Mathlib.Nat.{zero-mul}
 use lib.ListN.{length, take, drop}
 use lib.Seq.{take-append-seam}
-use Rattle.scan.specs.Scan.{Run, rowsOf, rowCount, entriesOf, answerOf, runNumber, runPlace, finishedPlaces, endOf, scanChecked, scanRun, scanAnswer, scanRows, scanCols, numberOf, writtenOf, placeOf, readOf}
+use Rattle.scan.specs.Scan.{Run, rowsOf, rowCount, entriesOf, runNumber, runPlace, scanChecked, scanRun, scanRows, scanCols, scanNumber, scanWritten, scanPlace, scanCount}
 use Rattle.scan.specs.Sheet.{Sheet, runSheet, emptySheet, asked, askedSheet, askedCount, sheetOf}
-use Rattle.scan.specs.declared.schema_sig.Scanned.the-variants.{Refused}
-use Rattle.scan.proofs.Answers.{end-is, scan-numbers}
 use Rattle.scan.proofs.RunValues.{run-reads}
 use Rattle.scan.proofs.Running.{rows-count}
 use Rattle.sheet.proofs.Laws.{rows-words-length}
 use Rattle.sheet.specs.Columns.{roomOf}
 use Rattle.sheet.specs.Limits.{wordsPerRow, wordsPerEntry}
-use Rattle.sheet.specs.Refusal.{after, afterOrKept}
+use Rattle.sheet.specs.Refusal.{refusalNumber, after, afterOr0, afterOrKept}
 use Rattle.sheet.specs.Sheet.{overlay, rowsWords}
 use Rattle.sheet.specs.declared.refusal.Checked.{Checked}
 use Rattle.sheet.specs.declared.refusal.Checked.the-variants.{Passed, Refused as Held}
@@ -29,27 +27,25 @@ module _ (s hints : List ℕ) (base start : ℕ) (rows cols : List ℕ) where
   t = scanRun s hints start (length rows) (length cols)
 
   -- THE LAW
-  pub sheet-left : let a = scanAnswer s hints base start (length rows) (length cols) in
-      sheetOf (length hints) (numberOf a) (writtenOf a) (placeOf a) (scanRows s hints base start rows cols) (scanCols s hints base start rows cols)
+  pub sheet-left :
+      sheetOf (length hints) (scanNumber s hints base start (length rows) (length cols)) (scanWritten s hints base start (length rows) (length cols))
+      (scanPlace s hints base start (length rows) (length cols)) (scanRows s hints base start rows cols) (scanCols s hints base start rows cols)
       ≡ askedSheet (asked s hints base start rows cols)
-  unfolding scanAnswer scanRows scanCols askedSheet
+  unfolding scanNumber scanWritten scanPlace scanRows scanCols askedSheet
   sheet-left = go (scanChecked s hints base)
     where
-      go : (c : Checked) → let a = after Refused c (answerOf s t) in
-          sheetOf (length hints) (numberOf a) (writtenOf a) (placeOf a) (afterOrKept c (overlay (rowsWords (rowsOf base (length hints) t)) rows) rows) (afterOrKept c (overlay (entriesOf t) cols) cols)
+      go : (c : Checked) →
+          sheetOf (length hints) (after refusalNumber c (runNumber t)) (afterOr0 c (rowCount t)) (afterOr0 c (runPlace (length s) t))
+          (afterOrKept c (overlay (rowsWords (rowsOf base (length hints) t)) rows) rows) (afterOrKept c (overlay (entriesOf t) cols) cols)
           ≡ after emptySheet c (runSheet (length s) base (length hints) t)
       go Passed =
-          let n = end-is (length s) (rowCount t) (length (finishedPlaces s t)) t in
           rw (
-            n .0,
-            n .1,
-            n .2,
             front (rowCount t * wordsPerRow) (rowsWords (rowsOf base (length hints) t)) rows (rows-words-length (rowsOf base (length hints) t) ∙ ap (λ (k : ℕ). k * wordsPerRow) (rows-count base (length hints) t)),
             front (rowCount t * (wordsPerEntry * length hints)) (entriesOf t) cols (run-reads s hints (length s) (roomOf (length rows) (length cols) (length hints)) start 0 .words),
           )
       go (Held r) = rw (zero-mul (wordsPerEntry * length hints))
 
   -- THE LAW: and the count is theirs
-  pub count-left : readOf (scanAnswer s hints base start (length rows) (length cols)) ≡ askedCount (asked s hints base start rows cols)
-  unfolding scanAnswer askedCount
-  count-left = scan-numbers s (scanChecked s hints base) t .3
+  pub count-left : scanCount s hints base start (length rows) (length cols) ≡ askedCount (asked s hints base start rows cols)
+  unfolding scanCount askedCount
+  count-left = refl

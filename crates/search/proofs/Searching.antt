@@ -9,18 +9,19 @@ use native.Mathlib.Decide.{ℕ-discrete, le-ind}
 use native.Mathlib.Numerals.{add-one}
 use native.Mathlib.Omega.{arith}
 use borrow.Author.Tests.{eq-eqb, eqb-true, le-leb, lt-leb}
-use lib.Dec.{eqb}
+use lib.Dec.{eqb, ltb}
 use lib.ListN.{length, getD, drop, set, replicate, length-append, length-drop, getD-replicate}
 use lib.Seq.{sets, length-sets, set-out, getD-set-same, getD-set-other, getD-drop, take-all, take-at}
-use Rattle.sheet.specs.Filled.{filledNumber, filledWritten, writtenAfter, filledAnswer, laid}
+use Rattle.sheet.specs.Filled.{filledNumber, filledWritten, filledBy, writtenAfter, laid}
+use Rattle.sheet.specs.Refusal.{after}
 use Rattle.sheet.specs.Sheet.{overlay}
 use Rattle.sheet.specs.declared.filled.Filled.{Filled}
-use Rattle.sheet.specs.declared.filled.Filled.the-variants.{Done, Full}
+use Rattle.sheet.specs.declared.filled.Filled.the-variants.{Done, Full, Refused}
 use Rattle.sheet.specs.declared.refusal.Checked.the-variants.{Passed, Refused as Stopped}
 use Rattle.sheet.specs.declared.refusal.Refusal.the-variants.{TooLarge}
 use Rattle.sheet.proofs.Laws.{overlay-length, overlay-more, Numbers, filled-numbers}
 use Rattle.search.specs.Inner.{Entered}
-use Rattle.search.specs.Search.{matches, standsAt, placeAt, placesBelow, placesOf, tooLarge, crowded, searchNumber, searchWritten, searchAnswer, searchPlaces}
+use Rattle.search.specs.Search.{matches, standsAt, placeAt, placesBelow, placesOf, tooLarge, searchNumber, searchWritten, searchAnswer, searchPlaces}
 
 -- ---- a match, byte by byte
 matches-fits : (p s : List ℕ) → matches p s ≡ true → length p ≤ length s
@@ -189,7 +190,7 @@ module _ {haystack pattern old places : List ℕ} {at n : ℕ} (s : Seen haystac
 
   -- no place follows
   pub seen-all : placesOf haystack pattern ≡ placesBelow haystack pattern at →
-      (Done n ≡ filledAnswer Passed (placesOf haystack pattern) (length old)) × (places ≡ laid (placesOf haystack pattern) old)
+      (Done n ≡ filledBy (length (placesOf haystack pattern)) (length old)) × (places ≡ laid (placesOf haystack pattern) old)
   seen-all e =
       let found = placesBelow haystack pattern at in
       let fits : length found ≤ length old = omega arith in
@@ -213,7 +214,7 @@ module _ {haystack pattern old places : List ℕ} {at n : ℕ} (s : Seen haystac
 
     -- there was one place too many
     pub seen-full : 0 < length pattern → at < length haystack → length old < count →
-        (Full (length list) ≡ filledAnswer Passed (placesOf haystack pattern) (length old)) × (list ≡ laid (placesOf haystack pattern) old)
+        (Full (length list) ≡ filledBy (length (placesOf haystack pattern)) (length old)) × (list ≡ laid (placesOf haystack pattern) old)
     seen-full some inside over =
         let found = placesBelow haystack pattern at in
         let here = placeAt haystack pattern at in
@@ -235,11 +236,11 @@ unfolding searchAnswer searchNumber searchWritten
 numbers haystack pattern room = go (tooLarge haystack)
   where
     go : (large : Bool) →
-        let number : ℕ = cond large 3 (cond (crowded haystack pattern room) 9 0) in
-        Numbers (filledAnswer (cond large (Stopped TooLarge) Passed) (placesOf haystack pattern) room) number
+        let number : ℕ = cond large 3 (cond (ltb room (length (placesOf haystack pattern))) 9 0) in
+        Numbers (after Refused (cond large (Stopped TooLarge) Passed) (filledBy (length (placesOf haystack pattern)) room)) number
         (writtenAfter number (length (placesOf haystack pattern)) room)
     go true = (refl, refl)
-    go false = filled-numbers (placesOf haystack pattern) room
+    go false = filled-numbers (length (placesOf haystack pattern)) room
 
 pub answers : (haystack pattern old : List ℕ) {r : Filled} {list : List ℕ} →
     (r ≡ searchAnswer haystack pattern (length old)) × (list ≡ searchPlaces haystack pattern old) →

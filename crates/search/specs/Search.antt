@@ -5,10 +5,11 @@ use mathlib.Core.Bool.{Bool, true, false, cond, _&&_}
 use mathlib.Core.List.{List, [], _∷_, _++_}
 use lib.Dec.{eqb, ltb}
 use lib.ListN.{length, drop}
-use Rattle.sheet.specs.Filled.{writtenAfter, filledAnswer, filledList}
+use Rattle.sheet.specs.Filled.{filledBy, writtenAfter, laid}
 use Rattle.sheet.specs.Limits.{largestRegion}
-use Rattle.sheet.specs.Refusal.{Check, firstHeld}
+use Rattle.sheet.specs.Refusal.{Check, firstHeld, after, afterOrKept}
 use Rattle.sheet.specs.declared.filled.Filled.{Filled}
+use Rattle.sheet.specs.declared.filled.Filled.the-variants.{Refused}
 use Rattle.sheet.specs.declared.refusal.Refusal.the-variants.{TooLarge}
 
 -- ---- places
@@ -43,13 +44,9 @@ placesOf haystack (p ∷ pattern) = placesBelow haystack (p ∷ pattern) (length
 abbrev pub tooLarge : List ℕ → Bool
 tooLarge haystack = ltb largestRegion (length haystack)
 
--- there are more places than the list has cells
-abbrev pub crowded : List ℕ → List ℕ → ℕ → Bool
-crowded haystack pattern room = ltb room (length (placesOf haystack pattern))
-
 -- Rule 1.1: the number that the call answers with; 0 stands for none
 unfoldable pub searchNumber : List ℕ → List ℕ → ℕ → ℕ
-searchNumber haystack pattern room = cond (tooLarge haystack) 3 (cond (crowded haystack pattern room) 9 0)
+searchNumber haystack pattern room = cond (tooLarge haystack) 3 (cond (ltb room (length (placesOf haystack pattern))) 9 0)
 
 -- and how many places it says are written
 unfoldable pub searchWritten : List ℕ → List ℕ → ℕ → ℕ
@@ -61,8 +58,8 @@ searchChecks haystack = record { refusal = TooLarge; holds = tooLarge haystack }
 
 -- what a search answers, with so many cells lent
 unfoldable pub searchAnswer : List ℕ → List ℕ → ℕ → Filled
-searchAnswer haystack pattern room = filledAnswer (firstHeld (searchChecks haystack)) (placesOf haystack pattern) room
+searchAnswer haystack pattern room = after Refused (firstHeld (searchChecks haystack)) (filledBy (length (placesOf haystack pattern)) room)
 
 -- what it leaves in the list, by what the list held
 unfoldable pub searchPlaces : List ℕ → List ℕ → List ℕ → List ℕ
-searchPlaces haystack pattern old = filledList (firstHeld (searchChecks haystack)) (placesOf haystack pattern) old
+searchPlaces haystack pattern old = afterOrKept (firstHeld (searchChecks haystack)) (laid (placesOf haystack pattern) old) old

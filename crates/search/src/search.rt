@@ -7,8 +7,7 @@ ghost use Prim.Native.Nat.{_+_, _-_, _≤_, _<_};
 ghost use lib.ListN.{length};
 ghost use lib.Seq.{sets};
 ghost use Rattle.search.specs.Inner.{Entered};
-ghost use Rattle.sheet.specs.Filled.{filledNumber, filledWritten, filledAnswer, laid};
-ghost use Rattle.sheet.specs.declared.refusal.Checked.the-variants.{Passed};
+ghost use Rattle.sheet.specs.Filled.{filledNumber, filledWritten, filledBy, laid};
 ghost use Rattle.search.specs.Search.{standsAt, placeAt, placesOf, searchNumber, searchWritten, searchAnswer, searchPlaces};
 
 // For each byte that a window may end with: how far on the pattern holds it there, too.
@@ -61,7 +60,7 @@ fn visit(haystack: &[u8], pattern: &[u8], at: usize, places: &mut [u64], n: usiz
 
 fn slide(haystack: &[u8], pattern: &[u8], places: &mut [u64]) -> Filled
     requires { ⌜ 0 < length (now pattern) ⌝ }
-    ensures { λ r. ⌜ r ≡ filledAnswer Passed (placesOf (now (haystack .entry)) (now (pattern .entry))) (length (now (places .entry))) ⌝ }
+    ensures { λ r. ⌜ r ≡ filledBy (length (placesOf (now (haystack .entry)) (now (pattern .entry)))) (length (now (places .entry))) ⌝ }
     ensures { λ _. ⌜ now (places .exit) ≡ laid (placesOf (now (haystack .entry)) (now (pattern .entry))) (now (places .entry)) ⌝ }
 {
     let table = shifts(pattern);

@@ -1,18 +1,19 @@
 -- What other crates rest on: they cite these laws and unfold no definition of this one.
 -- Assumes nothing.
 use Prim.Native.Nat.{ℕ, zero, suc, _+_, _*_, _/_, _≤_, _<_, min}
-use mathlib.Core.Path.{_≡_, refl, sym, _∙_}
+use mathlib.Core.Path.{_≡_, refl, _∙_}
 use mathlib.Core.Bool.{Bool, true, false, cond, and-eq-true-iff}
-use mathlib.Core.List.{List, [], _∷_, _++_, append-nil, append-assoc}
+use mathlib.Core.List.{List, [], _∷_, _++_}
 use native.Mathlib.Nat.{add-zero, add-suc, suc-add, suc-mul, min-le-left, min-le-right, min-eq-left, min-eq-right, le-of-lt, le-trans, le-div-iff-mul-le}
+use native.Mathlib.Numerals.{add-one}
 use native.Mathlib.Omega.{arith}
 use borrow.Author.Tests.{leb-true, ne-eqb, le-leb, lt-leb, le-ltb, lt-ltb}
 use lib.Dec.{leb, ltb, eqb, lit≤}
-use lib.ListN.{length, set, getD, length-append, length-drop}
-use lib.Seq.{sets, sets-eq, take-append-seam, drop-append-add, drop-drop}
+use lib.ListN.{length, drop, set, getD, length-append, length-drop}
+use lib.Seq.{sets, sets-eq, take-append-seam, drop-append-add, drop-cons, drop-drop}
 use Rattle.record.proofs.Numbers.{by-order}
 use Rattle.sheet.specs.Columns.{columnWords, unusedWords, roomOf}
-use Rattle.sheet.specs.Filled.{filledNumber, filledWritten, writtenAfter, filledAnswer}
+use Rattle.sheet.specs.Filled.{filledNumber, filledWritten, filledBy, writtenAfter}
 use Rattle.sheet.specs.Limits.{mostColumns, wordsPerRow, wordsPerEntry, highestHint, countFits, hintsKnown}
 use Rattle.sheet.specs.Refusal.{refusalNumber, Check, firstHeld}
 use Rattle.sheet.specs.Row.{rowWords}
@@ -26,7 +27,7 @@ use Rattle.sheet.specs.declared.refusal.Refusal.the-variants.{ColumnCoun
 use Rattle.sheet.specs.declared.row.Row.{Row}
 
 -- ---- refusals and hints
--- THE LAW: refusals are numbered from 1 to 9, so 0 is free to say that there is none
+-- THE LAW: refusals are numbered from 1 to 9, which is why 0 can stand for none
 pub number-range : (r : Refusal) → (1 ≤ refusalNumber r) × (refusalNumber r ≤ 9)
 number-range ColumnCount = (lit≤ tt, lit≤ tt)
 number-range Malformed = (lit≤ tt, lit≤ tt)
@@ -92,19 +93,12 @@ pub rows-words-length : (rs : List Row) → length (rowsWords rs) ≡ length rs 
 rows-words-length [] = refl
 rows-words-length (r ∷ rs) = simp (length-append, row-words-length, rows-words-length rs) (omega arith)
 
-pub rows-words-snoc : (rs : List Row) (r : Row) → rowsWords (rs ++ (r ∷ [])) ≡ rowsWords rs ++ rowWords r
-rows-words-snoc [] r = append-nil (rowWords r)
-rows-words-snoc (q ∷ rs) r = rw (rows-words-snoc rs r) (sym (append-assoc (rowWords q) (rowsWords rs) (rowWords r)))
-
 -- ---- writing
 module _ {A : Type 0} where
   -- THE LAW: words written behind others are written with them
   pub sets-append : (l : List A) (at : ℕ) (vs us : List A) → sets (sets l at vs) (at + length vs) us ≡ sets l at (vs ++ us)
   sets-append l at [] us = rw add-zero
   sets-append l at (v ∷ vs) us = rw (add-suc, ← suc-add) (sets-append (set l at v) (suc at) vs us)
-
-  pub overlay-nil : (old : List A) → overlay [] old ≡ old
-  overlay-nil old = refl
 
   pub overlay-length : (ws old : List A) → length ws ≤ length old → length (overlay ws old) ≡ length old
   overlay-length ws old h = simp (length-append, length-drop) (omega arith)
@@ -115,24 +109,19 @@ module _ {A : Type 0} where
       let l = overlay-length ws old (omega arith) in
       sets-eq vs (overlay ws old) (length ws) (omega arith) ∙ simp (take-append-seam, drop-append-add, drop-drop, length-append)
 
--- THE LAW: so a row that is written behind others is one of the rows
-pub overlay-row : (rs : List Row) (r : Row) (old : List ℕ) → length rs * wordsPerRow + wordsPerRow ≤ length old →
-    sets (overlay (rowsWords rs) old) (length rs * wordsPerRow) (rowWords r) ≡ overlay (rowsWords (rs ++ (r ∷ []))) old
-overlay-row rs r old h =
-    rw (← rows-words-length rs, rows-words-snoc rs r)
-    (overlay-more (rowsWords rs) (rowWords r) old (omega (arith, rows-words-length rs, row-words-length r)))
+-- THE LAW: a value is written, and then those behind it: that is to write all from there on
+pub sets-next : (l : List ℕ) (at : ℕ) (vs : List ℕ) (i : ℕ) → i < length vs →
+    sets (set l (at + i) (getD vs i 0)) (at + (i + 1)) (drop (i + 1) vs) ≡ sets l (at + i) (drop i vs)
+sets-next l at vs i h = rw (add-one, add-suc, drop-cons vs i 0)
 
 -- ---- what fills one list
 -- an answer's number, and how many things it says are written
 abbrev pub Numbers : Filled → ℕ → ℕ → Type 0
 Numbers answer number written = (filledNumber answer ≡ number) × (filledWritten answer ≡ written)
 
--- THE LAW: past the checks it is 9 where there are more things than cells, and as many are written as fit
-pub filled-numbers : {A : Type 0} (things : List A) (room : ℕ) →
-    let number : ℕ = cond (ltb room (length things)) 9 0 in
-    Numbers (filledAnswer Passed things room) number (writtenAfter number (length things) room)
-filled-numbers things room =
-    let n = length things in
+-- THE LAW: it is 9 where there are more things than cells, and as many are written as fit
+pub filled-numbers : (n room : ℕ) → let number : ℕ = cond (ltb room n) 9 0 in Numbers (filledBy n room) number (writtenAfter number n room)
+filled-numbers n room =
     by-order room n
     (λ more. simp (lt-leb n room more, lt-ltb room n more, min-eq-right (le-of-lt more)) (refl, refl))
     (λ fit. simp (le-leb n room fit, le-ltb room n fit, min-eq-left fit) (refl, refl))

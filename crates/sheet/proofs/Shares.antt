@@ -1,4 +1,5 @@
 -- A share, where some column is suited, lies above 0 and is at most 1: it is the fraction s / c, rounded once, and rounding keeps the order.
+-- No crate cites it yet: request K11 asks it of a scan's rows.
 -- Assumes nothing.
 use mathlib.Core.Path.{_≡_, _∙_}
 use mathlib.Core.Bool.{true, false}
@@ -14,6 +15,7 @@ use lib.Ieee.Order.{round-mono}
 use lib.Ieee.Positive.{num, den, positive, den-pos, positive-of-value, value→cross, between}
 use lib.Ieee.Scale.{round-same}
 use Rattle.sheet.specs.Confidence.{share}
+use Rattle.sheet.specs.Limits.{mostColumns}
 
 -- 1
 abbrev pub one : Float
@@ -39,7 +41,7 @@ quotient f x y s c S C v w =
     div-is f x y (positive-of-value x s 1 v S) (positive-of-value y c 1 w C)
     ∙ round-same f false (num x * den y) (num y * den x) s c d C (rw (p, q) (simp (mul-assoc, mul-comm, mul-left-comm)))
 
-module _ (s c : ℕ) (some : 0 < s) (within : s ≤ c) (few : c ≤ 126) where
+module _ (s c : ℕ) (some : 0 < s) (within : s ≤ c) (few : c ≤ mostColumns) where
   share-is : share s c ≡ round binary32 false s c
   unfolding share ofInt
   share-is =
@@ -50,9 +52,9 @@ module _ (s c : ℕ) (some : 0 < s) (within : s ≤ c) (few : c ≤ 126) where
   unfolding ofBits round
   share-most = rw share-is (round-mono binary32 s c 1 1 (omega arith) (omega arith) (omega arith))
 
-  -- 1 / 126 is the smallest share
+  -- one of the most columns is the smallest share
   pub share-above : T (positive (share s c))
   unfolding ofBits round
   share-above =
-      between (round binary32 false 1 126) (share s c) one tt tt
-      (rw share-is (round-mono binary32 1 126 s c (omega arith) (omega arith) (omega arith))) share-most
+      between (round binary32 false 1 mostColumns) (share s c) one tt tt
+      (rw share-is (round-mono binary32 1 mostColumns s c (omega arith) (omega arith) (omega arith))) share-most

@@ -1,6 +1,6 @@
 -- A contract fixes its answer: any two results that it allows for the same arguments are equal. `Post` is the function's own postcondition.
 -- Assumes nothing.
-use mathlib.Core.Path.{_≡_, sym, _∙_}
+use mathlib.Core.Path.{sym, _∙_}
 use Rattle.record.proofs.Unique.{Fixes}
 use Rattle.sheet.proofs.columns.room.Reads as room
 use Rattle.sheet.proofs.columns.words.Reads as column-words

@@ -1,4 +1,5 @@
-// What the sheet is made of: rows and column entries as words of lent lists, confidences, and the refusals.
+// What the sheet is made of: rows and column entries as words of lent lists, confidences, hints, and the answers with their refusals.
+// What only pages give, `Freelist` to `CarvedUnalloc`, the three modes, `freed`, `rebuilt`, `percent` and `put_unused`, waits for their crates.
 pub mod columns;
 pub mod confidence;
 pub mod filled;
@@ -7,7 +8,7 @@ pub mod inner;
 pub mod refusal;
 pub mod row;
 
-// The numbers that the paper fixes; no other place knows them.
+// The numbers that the paper fixes.
 pub const MOST_COLUMNS: usize = 126;
 
 pub const WORDS_PER_ROW: usize = 8;

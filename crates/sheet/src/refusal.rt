@@ -6,7 +6,7 @@ ghost use mathlib.Core.Path.{_≡_};
 ghost use Rattle.sheet.specs.Refusal.{refusalNumber};
 
 pub enum Refusal {
-    // No columns, or more than 126: as lent, or as a statement gives them.
+    // No columns, or more than there may be: as lent, or as a statement gives them.
     ColumnCount,
     // An unknown hint code, table lists that do not belong together, or an entry that names no value.
     Malformed,

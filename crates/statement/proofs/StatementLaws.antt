@@ -6,15 +6,16 @@ use mathlib.Core.Bool.{Bool, true, false, cond, not}
 use mathlib.Core.List.{List, [], _++_, append-nil, append-assoc}
 use native.Mathlib.Omega.{arith}
 use borrow.Author.Tests.{lt-ltb, le-ltb, le-leb, lt-leb}
+use lib.Dec.{ltb}
 use lib.ListN.{length, take, drop, length-append}
 use lib.Seq.{sets, take-all, take-at}
-use Rattle.statement.specs.Statement.{largestStatement, opening, closing, between, pieceHints, allHints, hintsOf, tooLarge, unlisted, miscounted, crowded, statementNumber, statementWritten, statementChecks, statementAnswer, statementHints}
+use Rattle.statement.specs.Statement.{largestStatement, opening, closing, between, pieceHints, allHints, hintsOf, tooLarge, unlisted, miscounted, statementNumber, statementWritten, statementChecks, statementAnswer, statementHints}
 use Rattle.statement.specs.Inner.{Kept, PieceEnds, piecesFrom}
 use Rattle.statement.specs.Words.{trim, isNot, has, behindFirst, beforeLast, pieces}
 use Rattle.statement.proofs.WordsLaws.{behind-has, kept-has, kept-before, pieces-none}
-use Rattle.sheet.specs.Filled.{filledNumber, filledWritten, writtenAfter, filledAnswer, laid}
+use Rattle.sheet.specs.Filled.{filledNumber, filledWritten, filledBy, writtenAfter, laid}
 use Rattle.sheet.specs.Limits.{countFits}
-use Rattle.sheet.specs.Refusal.{firstHeld}
+use Rattle.sheet.specs.Refusal.{firstHeld, after}
 use Rattle.sheet.specs.Sheet.{overlay}
 use Rattle.sheet.specs.declared.filled.Filled.{Filled}
 use Rattle.sheet.specs.declared.filled.Filled.the-variants.{Done, Full, Refused}
@@ -78,12 +79,12 @@ numbers s room = go (tooLarge s) (unlisted s) (miscounted s)
   where
     go : (a b c : Bool) →
         let checked = cond a (Stopped TooLarge) (cond b (Stopped NoColumnList) (cond c (Stopped ColumnCount) Passed)) in
-        let number : ℕ = cond a 3 (cond b 7 (cond c 1 (cond (crowded s room) 9 0))) in
-        Numbers (filledAnswer checked (hintsOf s) room) number (writtenAfter number (length (hintsOf s)) room)
+        let number : ℕ = cond a 3 (cond b 7 (cond c 1 (cond (ltb room (length (hintsOf s))) 9 0))) in
+        Numbers (after Refused checked (filledBy (length (hintsOf s)) room)) number (writtenAfter number (length (hintsOf s)) room)
     go true b c = (refl, refl)
     go false true c = (refl, refl)
     go false false true = (refl, refl)
-    go false false false = filled-numbers (hintsOf s) room
+    go false false false = filled-numbers (length (hintsOf s)) room
 
 abbrev Answers : List ℕ → List ℕ → Filled → List ℕ → Type 0
 Answers s old r hints =

@@ -10,13 +10,9 @@ use borrow.Author.Tests.{ne-eqb, lt-ltb, le-ltb, le-leb, lt-leb, leb-true, leb-f
 use lib.Dec.{leb, ltb, eqb, leb·suc-suc}
 use lib.ListN.{length, take, drop, getD, length-drop, length-reverse}
 use lib.Seq.{drop-cons, drop-length, take-suc, take-all, take-length, length-take-le, drop-drop}
+use Rattle.record.proofs.Numbers.{by-test}
 use Rattle.statement.specs.Inner.{Kept, PieceEnds, piecesFrom}
 use Rattle.statement.specs.Words.{takeWhile, dropWhile, isNot, has, behindFirst, beforeLast, comma, pieces, raise, startsWith, holds}
-
--- by what a test comes to
-by-test : {P : Type 0} (t : Bool) → (t ≡ true → P) → (t ≡ false → P) → P
-by-test true f g = f refl
-by-test false f g = g refl
 
 -- ---- a byte, and what stands behind or before it
 from-at : (s : List ℕ) (i : ℕ) → i < length s → drop i s ≡ getD s i 0 ∷ drop (i + 1) s

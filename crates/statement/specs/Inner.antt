@@ -2,11 +2,11 @@
 -- Assumes nothing.
 use Prim.Native.Nat.{ℕ, _+_, _-_, _≤_}
 use mathlib.Core.Path.{_≡_}
-use mathlib.Core.Bool.{Bool, false, cond, _||_}
+use mathlib.Core.Bool.{Bool, cond, _||_}
 use mathlib.Core.List.{List, [], _∷_}
 use lib.Dec.{leb}
 use lib.ListN.{length, take, drop}
-use Rattle.statement.specs.Words.{isBlank, inWord, isNot, dropWhileEnd, pieces, startsWith, equals}
+use Rattle.statement.specs.Words.{isBlank, inWord, isNot, dropWhileEnd, pieces, startsWith, equals, oneOf}
 use Rattle.statement.specs.declared.statement.Given.{Given}
 use Rattle.statement.specs.declared.statement.Given.the-variants.{Hint, Nothing}
 use Rattle.statement.specs.declared.statement.Match.{Match}
@@ -30,14 +30,9 @@ abbrev pub matches : Match → List ℕ → List ℕ → Bool
 matches Start = startsWith
 matches Whole = equals
 
--- whether one of the words matches s
-unfoldable pub matchesOne : Match → List (List ℕ) → List ℕ → Bool
-matchesOne how [] s = false
-matchesOne how (w ∷ ws) s = matches how w s || matchesOne how ws s
-
 -- whether s starts with one of the first keywords, or is one of the others; commas part both
 abbrev pub startsOrIs : List ℕ → List ℕ → List ℕ → Bool
-startsOrIs starts names s = matchesOne Start (pieces starts) s || matchesOne Whole (pieces names) s
+startsOrIs starts names s = oneOf startsWith (pieces starts) s || oneOf equals (pieces names) s
 
 -- the pieces from `at` on; behind the last there are none
 unfoldable pub piecesFrom : List ℕ → ℕ → List (List ℕ)

@@ -7,10 +7,11 @@ use mathlib.Core.List.{List, [], _∷_, _++_}
 use lib.Dec.{ltb, eqb}
 use lib.ListN.{length}
 use Rattle.statement.specs.Words.{bytes, trim, has, behindFirst, beforeLast, pieces, secondWord, holds, startsWithOne, equalsOne}
-use Rattle.sheet.specs.Filled.{writtenAfter, filledAnswer, filledList}
+use Rattle.sheet.specs.Filled.{filledBy, writtenAfter, laid}
 use Rattle.sheet.specs.Limits.{integerHint, realHint, textHint, blobHint, anyHint, countFits}
-use Rattle.sheet.specs.Refusal.{Check, firstHeld}
+use Rattle.sheet.specs.Refusal.{Check, firstHeld, after, afterOrKept}
 use Rattle.sheet.specs.declared.filled.Filled.{Filled}
+use Rattle.sheet.specs.declared.filled.Filled.the-variants.{Refused}
 use Rattle.sheet.specs.declared.refusal.Refusal.the-variants.{ColumnCount, TooLarge, NoColumnList}
 
 -- the most bytes that a statement may have
@@ -88,17 +89,13 @@ tooLarge s = ltb largestStatement (length s)
 abbrev pub unlisted : List ℕ → Bool
 unlisted s = not (has opening s) || not (has closing (behindFirst opening s))
 
--- there is no hint, or more than there may be,
+-- or there is no hint, or more than there may be
 abbrev pub miscounted : List ℕ → Bool
 miscounted s = not (countFits (length (hintsOf s)))
 
--- or there are more than the list has cells
-abbrev pub crowded : List ℕ → ℕ → Bool
-crowded s room = ltb room (length (hintsOf s))
-
 -- Rule 6.6: the number that the call answers with; 0 stands for none
 unfoldable pub statementNumber : List ℕ → ℕ → ℕ
-statementNumber s room = cond (tooLarge s) 3 (cond (unlisted s) 7 (cond (miscounted s) 1 (cond (crowded s room) 9 0)))
+statementNumber s room = cond (tooLarge s) 3 (cond (unlisted s) 7 (cond (miscounted s) 1 (cond (ltb room (length (hintsOf s))) 9 0)))
 
 -- and how many hints it says are written
 unfoldable pub statementWritten : List ℕ → ℕ → ℕ
@@ -114,8 +111,8 @@ statementChecks s =
 
 -- what the call returns, by the statement and how many cells are lent
 unfoldable pub statementAnswer : List ℕ → ℕ → Filled
-statementAnswer s room = filledAnswer (firstHeld (statementChecks s)) (hintsOf s) room
+statementAnswer s room = after Refused (firstHeld (statementChecks s)) (filledBy (length (hintsOf s)) room)
 
 -- Rule 6.5: what the call leaves in the list, by the statement and what the list held
 unfoldable pub statementHints : List ℕ → List ℕ → List ℕ
-statementHints s old = filledList (firstHeld (statementChecks s)) (hintsOf s) old
+statementHints s old = afterOrKept (firstHeld (statementChecks s)) (laid (hintsOf s) old) old

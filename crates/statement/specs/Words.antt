@@ -4,7 +4,7 @@ use Prim.Native.Char.{code}
 use Prim.Native.Nat.{ℕ, _-_}
 use Prim.Native.String.{String, [] as end, _∷_ as _then_}
 use mathlib.Core.Bool.{Bool, true, false, cond, not, _&&_, _||_}
-use mathlib.Core.List.{List, [], _∷_, reverse}
+use mathlib.Core.List.{List, [], _∷_, map, reverse}
 use lib.Dec.{leb, eqb}
 use lib.ListN.{length, drop}
 
@@ -97,12 +97,15 @@ unfoldable pub holds : List ℕ → List ℕ → Bool
 holds w [] = startsWith w []
 holds w (b ∷ s) = startsWith w (b ∷ s) || holds w s
 
+-- whether one of the words stands to s as the test asks
+unfoldable pub oneOf : (List ℕ → List ℕ → Bool) → List (List ℕ) → List ℕ → Bool
+oneOf test [] s = false
+oneOf test (w ∷ ws) s = test w s || oneOf test ws s
+
 -- whether s, raised, starts with one of the keywords
-unfoldable pub startsWithOne : List String → List ℕ → Bool
-startsWithOne [] s = false
-startsWithOne (k ∷ ks) s = startsWith (bytes k) s || startsWithOne ks s
+abbrev pub startsWithOne : List String → List ℕ → Bool
+startsWithOne keywords s = oneOf startsWith (map bytes keywords) s
 
 -- whether s, raised, is one of the keywords
-unfoldable pub equalsOne : List String → List ℕ → Bool
-equalsOne [] s = false
-equalsOne (k ∷ ks) s = equals (bytes k) s || equalsOne ks s
+abbrev pub equalsOne : List String → List ℕ → Bool
+equalsOne keywords s = oneOf equals (map bytes keywords) s

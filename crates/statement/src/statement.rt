@@ -13,8 +13,8 @@ ghost use lib.ListN.{length};
 ghost use lib.Seq.{sets};
 ghost use Rattle.sheet.specs.Filled.{filledNumber, filledWritten, laid};
 ghost use Rattle.statement.specs.Statement.{closing, hintOf, isRowId, isSkipped, pieceHints, allHints, statementNumber, statementWritten, statementAnswer, statementHints};
-ghost use Rattle.statement.specs.Inner.{inRun, Kept, matches, matchesOne, startsOrIs, PieceEnds, givenHints};
-ghost use Rattle.statement.specs.Words.{isBlank, isNot, raise, takeWhile, dropWhile, trim, behindFirst, pieces, firstWord, secondWord, startsWith, equals, holds};
+ghost use Rattle.statement.specs.Inner.{inRun, Kept, matches, startsOrIs, PieceEnds, givenHints};
+ghost use Rattle.statement.specs.Words.{isBlank, isNot, raise, takeWhile, dropWhile, trim, behindFirst, pieces, firstWord, secondWord, startsWith, equals, holds, oneOf};
 
 // In bytes.
 pub const LARGEST_STATEMENT: usize = 65_536;
@@ -205,7 +205,7 @@ fn piece_end(s: &[u8], at: usize) -> usize
 
 // Whether one of the keywords, which commas part, matches.
 fn one_of(s: &[u8], keywords: &[u8], how: Match) -> bool
-    ensures { λ r. ⌜ r ≡ matchesOne how (pieces (now (keywords .entry))) (now (s .entry)) ⌝ }
+    ensures { λ r. ⌜ r ≡ oneOf (matches how) (pieces (now (keywords .entry))) (now (s .entry)) ⌝ }
 {
     let mut at = 0;
     while at <= keywords.len() {

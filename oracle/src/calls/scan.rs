@@ -6,7 +6,7 @@ use crate::case::{Answer, Case};
 use crate::rules::attempt::{self, Found};
 use crate::rules::limits::{room, Limits, WORDS_PER_ENTRY, WORDS_PER_ROW};
 use crate::rules::value::{body_length, decode};
-use given::record::decode_serial_type;
+use given::record::{decode_serial_type, SqlValue};
 use given::schema_sig::{CarvedCandidate, SchemaSignature};
 use given::varint::read_varint;
 
@@ -37,12 +37,19 @@ fn write_row(answer: &mut Answer, base: u64, o: usize, columns: usize, found: &F
     let confidence = found.suited as f32 / columns as f32;
     let row = [base + o as u64, found.consumed, 0, 0, 0, 0, u64::from(confidence.to_bits()), 0];
     answer.lists[0].extend(row);
-    let mut start = o as u64 + found.header;
+    answer.lists[1].extend(entries(o as u64, found));
+}
+
+/// The entries of a row that begins at `at` in the lent slice.
+pub fn entries(at: u64, found: &Found) -> Vec<u64> {
+    let mut start = at + found.header;
+    let mut words = Vec::new();
     for &kind in &found.kinds {
         let length = body_length(kind).unwrap_or(0);
-        answer.lists[1].extend([0, kind, start, length]);
+        words.extend([0, kind, start, length]);
         start += length;
     }
+    words
 }
 
 pub fn attempt(limits: &Limits, case: &Case) -> Answer {
@@ -141,29 +148,26 @@ fn same_row(p: &Parts, start: usize, rust: &CarvedCandidate, answer: &Answer, i:
     ];
     let width = WORDS_PER_ENTRY * p.hints.len();
     let group = &answer.lists[1][i * width..][..width];
-    all([
-        held("row", &expected[..], row),
-        held("columns", rust.values.len(), p.hints.len()),
-        same_columns(p, at, rust, group),
-    ])
+    all([held("row", &expected[..], row), same_columns(p.region, at, &rust.values, rust.bytes_consumed, group)])
 }
 
-fn same_columns(p: &Parts, at: usize, rust: &CarvedCandidate, group: &[u64]) -> Given {
-    let Some((header, kinds)) = header(&p.region[at..]) else {
+/// The entries of a row that begins at `at`, against the Rust's values and the types that its reader sees there.
+pub fn same_columns(region: &[u8], at: usize, values: &[SqlValue], consumed: usize, group: &[u64]) -> Given {
+    let Some((header, kinds)) = header(&region[at..]) else {
         return Given::Differs("the Rust's reader sees no header where the Rust has a row".into());
     };
     let mut start = at + header;
-    for ((entry, value), kind) in group.chunks(WORDS_PER_ENTRY).zip(&rust.values).zip(kinds) {
-        let taken = decode_serial_type(kind, p.region, start).map_or(0, |v| v.1);
-        let read = decode(entry[1], p.region, entry[2]).unwrap_or_default();
+    for ((entry, value), kind) in group.chunks(WORDS_PER_ENTRY).zip(values).zip(kinds) {
+        let taken = decode_serial_type(kind, region, start).map_or(0, |v| v.1);
+        let read = decode(entry[1], region, entry[2]).unwrap_or_default();
         let same =
-            all([held("entry", &[0, kind, start as u64, taken as u64][..], entry), same_value(value, &read, p.region)]);
+            all([held("entry", &[0, kind, start as u64, taken as u64][..], entry), same_value(value, &read, region)]);
         if same != Given::Agrees {
             return same;
         }
         start += taken;
     }
-    held("end of the bodies", rust.bytes_consumed, start - at)
+    all([held("columns", values.len(), group.len() / WORDS_PER_ENTRY), held("end of the bodies", consumed, start - at)])
 }
 
 /// A header's length and types, by the Rust's varints.

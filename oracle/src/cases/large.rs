@@ -1,8 +1,10 @@
 //! Slices of the largest size and one more.
 
+use super::databases::Database;
 use super::limits::refusals;
 use super::regions::{attempt, lists, scan};
-use crate::calls::{SCAN, SEARCH, STATEMENT};
+use super::{chains, tables};
+use crate::calls::{LEAVES, PAGE_DATA, RECOVER, RECOVER_PAGE, RECOVER_SLICE, SCAN, SEARCH, STATEMENT};
 use crate::case::Case;
 use crate::random::Random;
 use crate::runner::Sink;
@@ -63,6 +65,64 @@ fn refusals_of_size(sink: &mut dyn Sink) {
     }
     attempt(sink, &region, &[6], 0);
     attempt(sink, &region, &[5], 0);
+}
+
+pub fn databases(sink: &mut dyn Sink, long: bool) {
+    for length in LARGEST - 1..=LARGEST + 1 {
+        database(sink, 65_536, length);
+        slices(sink, length);
+    }
+    database(sink, 512, LARGEST);
+    let db = Database { size: 512, bytes: vec![0; LARGEST + 1] };
+    refusals_of_length(sink, &db.bytes);
+    if long {
+        chains::refusals(sink, &db.bytes);
+        tables::refusals(sink, &db);
+    }
+}
+
+/// The last whole page is a leaf with a row, and page 1 leads to it and to as many others as it can.
+pub fn database(sink: &mut dyn Sink, size: usize, length: usize) {
+    let pages = length / size;
+    let mut db = Database::new(size, pages);
+    db.leaf(pages, &[vec![2, 8]]);
+    let children: Vec<u32> = (2..=pages as u32).collect();
+    db.interior(1, pages as u32, &children);
+    db.bytes.resize(length, 0xFF);
+    let (bytes, size, last) = (&db.bytes, size as u64, pages as u64);
+    for page in [last, last + 1] {
+        sink.put(Case::new(PAGE_DATA, &[size, page], &[bytes], &[]));
+    }
+    sink.put(Case::new(RECOVER_PAGE, &[size, last], &[bytes, &[0]], &lists(1, 1)));
+    for flags in [pages - 1, pages] {
+        sink.put(Case::new(LEAVES, &[size, 1], &[bytes], &[flags, pages, 2]));
+        let lent = Case::new(RECOVER, &[size], &[bytes, &[0, 0, 0]], &[flags, pages, 16, 16]);
+        sink.put(lent.with_words(&[&[1, last], &[1, 2]]));
+    }
+}
+
+/// Refusal 3 of each call on pages, with each that comes before it and each that comes behind.
+fn refusals_of_length(sink: &mut dyn Sink, bytes: &[u8]) {
+    for size in [512, 0] {
+        sink.put(Case::new(PAGE_DATA, &[size, 0], &[bytes], &[]));
+        sink.put(Case::new(LEAVES, &[size, 1], &[bytes], &[0, 0, 0]));
+        sink.put(Case::new(RECOVER, &[size], &[bytes, &[]], &[0, 0, 0, 0]).with_words(&[&[], &[]]));
+    }
+    for hints in [&[][..], &[6], &[0]] {
+        sink.put(Case::new(RECOVER_PAGE, &[0, 0], &[bytes, hints], &[0, 0]));
+        sink.put(Case::new(RECOVER_SLICE, &[0, 1 << 60], &[bytes, hints], &[0, 0]));
+        let lent = Case::new(RECOVER, &[0], &[bytes, hints], &[0, 0, 0, 0]);
+        sink.put(lent.with_words(&[&[1], &[hints.len() as u64]]));
+    }
+}
+
+/// A block at the last place that a link can name, on a slice of any length.
+pub fn slices(sink: &mut dyn Sink, length: usize) {
+    let mut page = vec![0; length];
+    page[1..3].copy_from_slice(&[0xFF, 0xFF]);
+    page[65_535..65_541].copy_from_slice(&[0, 8, 0, 6, 2, 8]);
+    sink.put(Case::new(RECOVER_SLICE, &[0, 1 << 48], &[&page, &[0]], &lists(1, 1)));
+    sink.put(Case::new(RECOVER_SLICE, &[length as u64 - 4, 0], &[&page, &[0]], &lists(1, 1)));
 }
 
 /// Long statements: with columns, with none, and without brackets.

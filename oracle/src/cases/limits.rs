@@ -50,7 +50,7 @@ fn filled(columns: usize, bytes: usize, kind: u64) -> Option<Vec<u8>> {
 }
 
 /// A header of just h bytes that says so in `wide` bytes, with so many types.
-fn exact(h: usize, wide: usize, columns: usize, kind: u64) -> Option<Vec<u8>> {
+pub fn exact(h: usize, wide: usize, columns: usize, kind: u64) -> Option<Vec<u8>> {
     if width(h as u64) > wide {
         return None;
     }
@@ -148,7 +148,7 @@ fn consumed(sink: &mut dyn Sink) {
 }
 
 /// The header of a row of so many bytes: a short column, and a long one that takes what is left.
-fn long_row(total: usize, first: u64, wide: usize, last_is_text: bool) -> Vec<u8> {
+pub fn long_row(total: usize, first: u64, wide: usize, last_is_text: bool) -> Vec<u8> {
     const LONG_TYPE: usize = 3;
     let length = wide + 1 + LONG_TYPE;
     let body = total - length - body_length(first).unwrap_or(0) as usize;

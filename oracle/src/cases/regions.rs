@@ -58,8 +58,8 @@ const TAIL: [u8; 26] = [
     0x00, 0x00, 0x02, 0x00, 0x80, 0x80, 0x00,
 ];
 
-/// The header in one byte and in two, with a tail.
-fn with_tail(types: &[u8], tail: usize, wide: usize) -> Vec<u8> {
+/// A header of these types whose length takes so many bytes, with a tail.
+pub fn with_tail(types: &[u8], tail: usize, wide: usize) -> Vec<u8> {
     let mut region = varint((types.len() + wide) as u64, wide);
     region.extend(types);
     region.extend(&TAIL[..tail]);

@@ -12,3 +12,13 @@ pub enum EvidenceSource {
     CarvedIntraPage { confidence_pct: u8 },
     CarvedUnalloc { confidence_pct: u8 },
 }
+
+/// Stands in for a type that the recovery's context holds and no file in use looks into.
+pub mod header {
+    pub struct DbHeader;
+}
+
+/// As above.
+pub mod pragma {
+    pub struct PragmaInfo;
+}

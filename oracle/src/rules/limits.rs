@@ -12,6 +12,20 @@ pub struct Limits {
     pub consumed: u64,
     /// How many bytes of a varint may ask for more.
     pub more_bytes: usize,
+    pub tables: usize,
+    pub least_page: u64,
+    pub most_page: u64,
+    /// Where the b-tree header stands on page 1.
+    pub first_header: usize,
+    pub leaf: u8,
+    pub interior: u8,
+    pub leaf_header: usize,
+    pub interior_header: usize,
+    pub least_block: usize,
+    /// How many places of a free block may begin a row.
+    pub starts: usize,
+    /// What confidence is multiplied with in a free block.
+    pub freed: f32,
 }
 
 pub const WORDS_PER_ROW: usize = 8;
@@ -29,6 +43,17 @@ impl Limits {
             most_header: 512,
             consumed: 65_536,
             more_bytes: 8,
+            tables: 1024,
+            least_page: 512,
+            most_page: 65_536,
+            first_header: 100,
+            leaf: 0x0D,
+            interior: 0x05,
+            leaf_header: 8,
+            interior_header: 12,
+            least_block: 4,
+            starts: 20,
+            freed: 0.6,
         }
     }
 
@@ -40,6 +65,11 @@ impl Limits {
             (3, region.len() > self.region),
             (4, base > self.base),
         ])
+    }
+
+    /// Whether the pages of a database may have so many bytes.
+    pub fn page_size(&self, size: u64) -> bool {
+        size.is_power_of_two() && (self.least_page..=self.most_page).contains(&size)
     }
 }
 

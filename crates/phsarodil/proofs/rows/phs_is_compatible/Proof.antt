@@ -1,5 +1,6 @@
 -- `phs_is_compatible` meets its contract: number and word are those of the answer.
 -- Assumes nothing.
+use mathlib.Core.Path.{_∙_}
 use borrow.Author.Needs.{needs}
 use Rattle.phsarodil.proofs.rows.phs_is_compatible.Statement.{statement}
 use Rattle.phsarodil.proofs.rows.phs_is_compatible.Tie as tie
@@ -15,8 +16,8 @@ number-requires c κs = search needs
 
 returns : tie.Need-returns
 returns c =
-    let s = c .before .before .before .is-compatible .ensures .0 in
-    (rw (← s) (c .number .ensures), rw (← s, c .before .before .word .ensures))
+    let s = c .before .before .before .is-compatible .ensures in
+    (c .number .ensures ∙ s .1 .0, rw (c .before .before .word .ensures, s .1 .1))
 
 pub phs-is-compatible-spec : {M : Type 1} → statement M
 phs-is-compatible-spec = tie.close (tie.spec is-compatible-requires word-requires number-requires returns)

@@ -31,7 +31,8 @@ returns c =
     let w = c .before .before .before .before .written .ensures in
     let p = c .before .before .before .place .ensures in
     let r = c .before .before .read .ensures in
-    (rw (← s .0) (c .number .ensures), (rw (← s .0, w, p, r), (s .1 .0, s .1 .1 .0)))
+    let n = s .1 .1 .1 in
+    (rw (← n .0) (c .number .ensures), (rw (w, p, r, n .1 .0, n .1 .1 .0, n .1 .1 .1), (s .1 .0, s .1 .1 .0)))
 
 pub phs-scan-region-spec : {M : Type 1} → statement M
 phs-scan-region-spec =

@@ -22,7 +22,8 @@ same-length-2 c = search needs
 returns : tie.Need-returns
 returns c =
     let s = c .before .before .before .before .before .before .before .try-parse-record .ensures in
-    (rw (← s .0) (c .number .ensures), (rw (← s .0, c .before .before .written .ensures), (s .1 .0, s .1 .1 .0)))
+    let n = s .1 .1 .1 in
+    (rw (← n .0) (c .number .ensures), (rw (c .before .before .written .ensures, n .1), (s .1 .0, s .1 .1 .0)))
 
 pub phs-try-parse-record-spec : {M : Type 1} → statement M
 phs-try-parse-record-spec =

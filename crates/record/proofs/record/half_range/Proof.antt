@@ -1,6 +1,5 @@
 -- `record::record::half_range` meets its contract: at each arm's number the power computes.
 -- Assumes nothing.
-use Prim.Native.Nat.{_≤_}
 use mathlib.Core.Path.{_≡_}
 use native.Mathlib.Omega.{arith}
 use Rattle.record.proofs.record.half_range.Statement.{statement}

@@ -1,6 +1,6 @@
 -- `record::varint::read_varint` meets its contract: a whole varint ends behind its offset.
 -- Assumes nothing.
-use mathlib.Core.Path.{_≡_, sym, _∙_}
+use mathlib.Core.Path.{sym, _∙_}
 use native.Mathlib.Omega.{arith}
 use borrow.Author.Needs.{needs}
 use Rattle.record.specs.Varint.{readVarint}

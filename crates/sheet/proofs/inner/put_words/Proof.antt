@@ -1,14 +1,13 @@
 -- `sheet::inner::put_words` meets its contract. The loop's invariant: the words from i on, written to what the list has become, give what all of them give.
 -- Assumes nothing.
-use Prim.Native.Nat.{ℕ, _+_, _-_, _≤_, _<_}
+use Prim.Native.Nat.{_+_, _-_, _≤_}
 use mathlib.Core.Path.{_≡_, refl, _∙_}
-use mathlib.Core.List.{List}
-use native.Mathlib.Nat.{add-zero, add-suc}
-use native.Mathlib.Numerals.{add-one}
+use native.Mathlib.Nat.{add-zero}
 use native.Mathlib.Omega.{arith}
 use borrow.Author.Needs.{needs}
-use lib.ListN.{length, drop, getD, set, length-set}
-use lib.Seq.{sets, drop-cons, drop-length}
+use lib.ListN.{length, drop, length-set}
+use lib.Seq.{sets, drop-length}
+use Rattle.sheet.proofs.Laws.{sets-next}
 use Rattle.sheet.proofs.inner.put_words.Statement.{statement}
 use Rattle.sheet.proofs.inner.put_words.Tie as tie
 
@@ -18,11 +17,6 @@ Inv-loop list₀ at words i₀ list i =
 
 abbrev μ-loop : tie.MeasureT-loop
 μ-loop list₀ at words i₀ list i = length words - i
-
--- one word, and then those behind it
-one-more : (list : List ℕ) (at : ℕ) (words : List ℕ) (i : ℕ) → i < length words →
-    sets (set list (at + i) (getD words i 0)) (at + (i + 1)) (drop (i + 1) words) ≡ sets list (at + i) (drop i words)
-one-more list at words i h = rw (add-one, add-suc, drop-cons words i 0)
 
 loop-holds : tie.Need-loop-holds Inv-loop μ-loop
 loop-holds c = (search needs, refl, rw add-zero)
@@ -51,7 +45,7 @@ loop-less c = search needs
 loop-again : tie.Need-loop-again Inv-loop μ-loop
 loop-again c =
     let l = c .before .before .loop in
-    (omega arith, simp length-set (l .inv .1), one-more _ _ _ _ (c .before .loop-test .taken) ∙ l .inv .2)
+    (omega arith, simp length-set (l .inv .1), sets-next _ _ _ _ (c .before .loop-test .taken) ∙ l .inv .2)
 
 same-length : tie.Need-same-length Inv-loop μ-loop
 same-length c = c .before .loop .inv .1

@@ -25,7 +25,15 @@ mode-word-requires c κs = search needs
 
 returns : tie.Need-returns
 unfolding rowWords
-returns c = cc
+returns c =
+    rw (
+      c .mode-word .ensures,
+      c .before .source-code .ensures,
+      c .before .before .id-bits .ensures,
+      c .before .before .before .presence-of .ensures,
+      c .before .before .before .before .float-bits .ensures,
+      c .before .before .before .before .before .source-percent .ensures,
+    )
 
 pub words-spec : {M : Type 1} → statement M
 words-spec =

@@ -4,8 +4,7 @@ use mathlib.Core.Path.{sym, _∙_}
 use borrow.Author.Tests.{eq-eqb, ne-eqb}
 use borrow.Author.Needs.{needs}
 use Rattle.statement.specs.Statement.{isConstraint, isSkipped}
-use Rattle.statement.specs.Inner.{matchesOne}
-use Rattle.statement.specs.Words.{pieces, startsWithOne}
+use Rattle.statement.specs.Words.{pieces}
 use Rattle.statement.proofs.statement.is_skipped.Statement.{statement}
 use Rattle.statement.proofs.statement.is_skipped.Tie as tie
 
@@ -27,7 +26,7 @@ one-of-requires : tie.Need-one-of-requires
 one-of-requires c κs = search needs
 
 returns-3 : tie.Need-returns-3
-unfolding isSkipped isConstraint matchesOne pieces startsWithOne
+unfolding isSkipped isConstraint pieces
 returns-3 c =
     simp (
       ne-eqb _ _ (c .before .before .before .before .if1 .left),

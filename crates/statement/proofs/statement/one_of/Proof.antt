@@ -5,14 +5,14 @@ use mathlib.Core.Path.{_≡_, sym, _∙_}
 use mathlib.Core.Bool.{_||_}
 use borrow.Author.Needs.{needs}
 use lib.ListN.{length}
-use Rattle.statement.specs.Inner.{matchesOne, piecesFrom}
-use Rattle.statement.specs.Words.{pieces}
+use Rattle.statement.specs.Inner.{matches, piecesFrom}
+use Rattle.statement.specs.Words.{pieces, oneOf}
 use Rattle.statement.proofs.WordsLaws.{pieces-start, pieces-none}
 use Rattle.statement.proofs.statement.one_of.Statement.{statement}
 use Rattle.statement.proofs.statement.one_of.Tie as tie
 
 abbrev Inv-loop : tie.InvT-loop
-Inv-loop s keywords how at₀ at = matchesOne how (pieces keywords) s ≡ matchesOne how (piecesFrom keywords at) s
+Inv-loop s keywords how at₀ at = oneOf (matches how) (pieces keywords) s ≡ oneOf (matches how) (piecesFrom keywords at) s
 
 abbrev μ-loop : tie.MeasureT-loop
 μ-loop s keywords how at₀ at = length keywords + 1 - at
@@ -21,9 +21,9 @@ abbrev μ-loop : tie.MeasureT-loop
 tested : (c : tie.After-matched Inv-loop μ-loop) →
     let a = c .before .before .before .before .before .before .before .args in
     let k = a .keywords .now in
-    matchesOne (a .how) (pieces k) (a .s .now)
-    ≡ (c .matched .result || matchesOne (a .how) (piecesFrom k (c .before .before .piece-end .result + 1)) (a .s .now))
-unfolding matchesOne
+    oneOf (matches (a .how)) (pieces k) (a .s .now)
+    ≡ (c .matched .result || oneOf (matches (a .how)) (piecesFrom k (c .before .before .piece-end .result + 1)) (a .s .now))
+unfolding oneOf
 tested c = c .before .before .before .before .loop .inv ∙ rw (c .before .before .piece-end .ensures .next, c .matched .ensures)
 
 loop-holds : tie.Need-loop-holds Inv-loop μ-loop
@@ -57,7 +57,7 @@ loop-again : tie.Need-loop-again Inv-loop μ-loop
 loop-again c = tested (c .before) ∙ simp (c .if1 .left)
 
 returns-2 : tie.Need-returns-2 Inv-loop μ-loop
-unfolding matchesOne
+unfolding oneOf
 returns-2 c = sym (c .before .loop .inv ∙ rw (pieces-none _ _ (c .loop-test .left)))
 
 pub one-of-spec : {M : Type 1} → statement M

@@ -7,32 +7,31 @@ use mathlib.Core.List.{List}
 use borrow.Author.Needs.{needs}
 use Rattle.sheet.specs.Limits.{realHint, textHint, blobHint, anyHint}
 use Rattle.statement.specs.Statement.{isInteger, isText, isReal, isBlob, hintOf}
-use Rattle.statement.specs.Inner.{matchesOne}
-use Rattle.statement.specs.Words.{pieces, startsWithOne, equalsOne}
+use Rattle.statement.specs.Words.{pieces}
 use Rattle.statement.proofs.statement.sql_type_to_hint.Statement.{statement}
 use Rattle.statement.proofs.statement.sql_type_to_hint.Tie as tie
 
 -- what each call tests
 integer : (c : tie.After-starts-or-is) → isInteger (c .before .before .before .before .args .word .now) ≡ c .starts-or-is .result
-unfolding isInteger startsWithOne equalsOne matchesOne pieces
+unfolding isInteger pieces
 integer c = sym (c .starts-or-is .ensures)
 
 text : (c : tie.After-starts-or-is2) →
     let w = c .before .before .before .before .before .before .before .before .args .word .now in
     isText w ≡ c .starts-or-is2 .result
-unfolding isText startsWithOne equalsOne matchesOne pieces
+unfolding isText pieces
 text c = sym (c .starts-or-is2 .ensures)
 
 real : (c : tie.After-one-of) →
     let w = c .before .before .before .before .before .before .before .before .before .before .before .args .word .now in
     isReal w ≡ c .one-of .result
-unfolding isReal startsWithOne matchesOne pieces
+unfolding isReal pieces
 real c = sym (c .one-of .ensures)
 
 blob : (c : tie.After-starts-or-is3) →
     let w = c .before .before .before .before .before .before .before .before .before .before .before .before .before .before .before .args .word .now in
     isBlob w ≡ c .starts-or-is3 .result
-unfolding isBlob startsWithOne equalsOne matchesOne pieces
+unfolding isBlob pieces
 blob c = sym (c .starts-or-is3 .ensures)
 
 -- what is left to decide

@@ -1,17 +1,13 @@
 -- `Entry::read` meets its contract: each way out is a law of entries.
 -- Assumes nothing.
-use Prim.Native.Nat.{ℕ, _+_, _≤_}
-use mathlib.Core.Path.{_≡_, sym, _∙_, ap}
+use Prim.Native.Nat.{ℕ}
+use mathlib.Core.Path.{_≡_, sym, _∙_}
 use native.Mathlib.Omega.{arith}
-use lib.ListN.{length}
 use denote.Ref.{now}
 use borrow.Author.Needs.{needs}
-use Rattle.record.specs.Entry.{readEntry, refusalOf, entryRefusal}
 use Rattle.record.specs.Value.{decodeAt}
 use Rattle.record.specs.declared.entry.EntryRead.{EntryRead}
-use Rattle.record.specs.declared.entry.EntryRead.the-variants.{Of, Refused}
 use Rattle.record.specs.declared.record.Decoded.the-variants.{Of as Got}
-use Rattle.record.specs.declared.record.Value.{Value}
 use Rattle.record.proofs.Laws.{entry-refused, entry-null, entry-decoded, bad-state, bad-body, bad-length}
 use Rattle.record.proofs.Values.{undecoded}
 use Rattle.record.proofs.entry.Entry.read.Statement.{statement}

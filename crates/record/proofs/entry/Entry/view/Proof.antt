@@ -1,34 +1,16 @@
 -- `Entry::view` meets its contract: the bytes of a value that was read lie in the slice.
 -- Assumes nothing.
-use Prim.Native.Nat.{ℕ, zero-le, _+_, _-_, _≤_}
-use mathlib.Core.Path.{_≡_, refl, sym, _∙_}
-use mathlib.Core.List.{List}
+use Prim.Native.Nat.{_+_, _-_, _≤_}
+use mathlib.Core.Path.{_≡_, sym, _∙_}
 use native.Mathlib.Omega.{arith}
-use lib.ListN.{length, take, drop}
+use lib.ListN.{length}
 use denote.Ref.{now}
 use borrow.Author.Needs.{needs}
-use Rattle.record.specs.Entry.{readEntry, valueBytes, entryBytes}
-use Rattle.record.specs.Inner.{spanOf}
+use Rattle.record.specs.Entry.{readEntry, entryBytes}
 use Rattle.record.specs.declared.entry.EntryRead.the-variants.{Of}
-use Rattle.record.specs.declared.record.Value.{Value}
-use Rattle.record.specs.declared.record.Value.the-variants.{Null, Int, Real, Text, Blob}
-use Rattle.record.proofs.Laws.{Inside, entry-inside}
+use Rattle.record.proofs.Bodies.{entry-inside}
 use Rattle.record.proofs.entry.Entry.view.Statement.{statement}
 use Rattle.record.proofs.entry.Entry.view.Tie as tie
-
-span-inside : (s : List ℕ) (v : Value) → Inside s v → spanOf v .start + spanOf v .len ≤ length s
-span-inside s Null i = zero-le
-span-inside s (Int z) i = zero-le
-span-inside s (Real x) i = zero-le
-span-inside s (Text at n) i = i
-span-inside s (Blob at n) i = i
-
-span-bytes : (s : List ℕ) (v : Value) → take (spanOf v .len) (drop (spanOf v .start) s) ≡ valueBytes s v
-span-bytes s Null = refl
-span-bytes s (Int z) = refl
-span-bytes s (Real x) = refl
-span-bytes s (Text at n) = refl
-span-bytes s (Blob at n) = refl
 
 -- the value that was read
 got : (c : tie.After-known-told) →
@@ -36,10 +18,11 @@ got : (c : tie.After-known-told) →
     readEntry (a .self) (now (a .bytes)) ≡ Of (c .before .value .given .0 .0)
 got c = sym (c .before .before .before .read .ensures .0) ∙ c .before .value .given .1
 
-within : (c : tie.After-span-of) → c .span-of .result .start + c .span-of .result .len ≤ length (now (c .before .before .before .before .before .before .args .bytes))
+-- its bytes lie in the slice
+within : (c : tie.After-len) → c .before .start .result + c .len .result ≤ length (now (c .before .before .before .before .before .before .before .args .bytes))
 within c =
-    let s = now (c .before .before .before .before .before .before .args .bytes) in
-    rw (c .span-of .ensures) (span-inside s (c .before .before .value .given .0 .0) (entry-inside _ s _ (got (c .before))))
+    let s = now (c .before .before .before .before .before .before .before .args .bytes) in
+    rw (c .before .start .ensures, c .len .ensures) (entry-inside _ s (c .before .before .before .value .given .0 .0) (got (c .before .before)))
 
 read-requires : tie.Need-read-requires
 read-requires c κs = search needs
@@ -57,11 +40,14 @@ returns : tie.Need-returns
 unfolding entryBytes
 returns c = rw (sym (c .before .before .before .read .ensures .0) ∙ c .before .enum-told .given .1)
 
-span-of-requires : tie.Need-span-of-requires
-span-of-requires c κs = search needs
+start-requires : tie.Need-start-requires
+start-requires c κs = search needs
+
+len-requires : tie.Need-len-requires
+len-requires c κs = search needs
 
 add-end : tie.Need-add-end
-add-end c = omega (arith, within (c .before))
+add-end c = omega (arith, within c)
 
 sub-result : tie.Need-sub-result
 sub-result c = search needs
@@ -70,14 +56,14 @@ part-result-start : tie.Need-part-result-start
 part-result-start c = search needs
 
 part-result-end : tie.Need-part-result-end
-part-result-end c = within (c .before)
+part-result-end c = within c
 
 returns-2 : tie.Need-returns-2
 unfolding entryBytes
 returns-2 c =
-    let o = c .before .before in
-    let e : o .span-of .result .start + o .span-of .result .len - o .span-of .result .start ≡ o .span-of .result .len = omega arith in
-    rw (e, o .span-of .ensures, got (o .before)) (span-bytes _ (o .before .before .value .given .0 .0))
+    let o = c .before in
+    let e : o .before .start .result + o .len .result - o .before .start .result ≡ o .len .result = omega arith in
+    rw (e, o .before .start .ensures, o .len .ensures, got (o .before .before))
 
 pub view-spec : {M : Type 1} → statement M
 view-spec =
@@ -88,7 +74,8 @@ view-spec =
     enum-told
     slice-aggregate-result
     returns
-    span-of-requires
+    start-requires
+    len-requires
     add-end
     sub-result
     part-result-start

@@ -3,10 +3,9 @@
 -- Assumes nothing.
 use Prim.Native.Nat.{ℕ, zero, suc, _+_, _-_, _*_, _≤_, _<_}
 use mathlib.Core.Path.{_≡_, refl, _∙_}
-use mathlib.Core.Bool.{Bool, true, false, not}
 use mathlib.Core.List.{List, [], _∷_}
 use native.Mathlib.Omega.{arith}
-use borrow.Author.Tests.{ltb-false}
+use borrow.Author.Tests.{ltb-false, not-false}
 use lib.ListN.{length, length-take, length-drop}
 use Rattle.attempt.specs.Places.{mostPlaces}
 use Rattle.listing.proofs.Parts.{part-bounded}
@@ -22,15 +21,11 @@ use Rattle.sheet.specs.Refusal.{firstHeld}
 use Rattle.sheet.specs.declared.refusal.Checked.the-variants.{Passed}
 
 -- ---- the input
-double-no : (b : Bool) → not b ≡ false → b ≡ true
-double-no true e = refl
-double-no false e = let z : _≡_ {A = ℕ} 0 1 = cc in absurd (omega arith)
-
 -- THE LAW: what passed the checks has all its hints, and few enough
 pub taken : (s : List ℕ) → firstHeld (inputChecks s) ≡ Passed → Taken s
 taken s e =
     let n = none-holds (inputChecks s) e in
-    let c = count-fits (countOf s) (double-no (countFits (countOf s)) (n .1 .1 .0)) in
+    let c = count-fits (countOf s) (not-false (countFits (countOf s)) (n .1 .1 .0)) in
     let m = ltb-false (length s - countBytes) (countOf s) (n .1 .1 .1 .0) in
     record { small = ltb-false largestInput (length s) (n .0); whole = omega (arith, c .0); few = c .1 }
 

@@ -20,23 +20,32 @@ Inv-loop region hints out₀ rows₀ cols₀ text₀ at₀ count₀ read₀ out 
 abbrev μ-loop : tie.MeasureT-loop
 μ-loop region hints out₀ rows₀ cols₀ text₀ at₀ count₀ read₀ out rows cols text at count read = length region - at
 
-answer : (c : tie.After-list-part Inv-loop μ-loop) →
-    let a = c .before .before .before .before .before .before .before .before .before .before .args in
-    partAnswer (now (a .region)) (now (a .hints)) (c .before .before .before .before .loop .at) ≡ c .list-part .result .found
-answer c = sym (c .list-part .ensures .0)
+-- where the function begins, where a turn does, and where its part is listed
+abbrev Listed : Type 0
+Listed = tie.After-list-part Inv-loop μ-loop
 
-small : (c : tie.After-list-part Inv-loop μ-loop) →
-    Small (length (now (c .before .before .before .before .before .before .before .before .before .before .args .region))) (c .before .before .before .before .loop .at) (c .list-part .result .found)
-small c =
-    let b = c .before .before .before .before .before .before .before .before .before .before in
-    rw (answer c) at (part-small (now (b .args .region)) (now (b .args .hints)) (c .before .before .before .before .loop .at) (b .pre .0) (b .pre .1))
+abbrev start : Listed → tie.Start Inv-loop μ-loop
+start p = p .before .before .before .before .before .before .before .before .before .before
+
+abbrev turn : Listed → tie.At-loop Inv-loop μ-loop
+turn p = p .before .before .before .before
+
+answer : (p : Listed) → let a = start p .args in partAnswer (now (a .region)) (now (a .hints)) (turn p .loop .at) ≡ p .list-part .result .found
+answer p = sym (p .list-part .ensures .0)
+
+small : (p : Listed) → Small (length (now (start p .args .region))) (turn p .loop .at) (p .list-part .result .found)
+small p =
+    let s = start p in
+    rw (answer p) at (part-small (now (s .args .region)) (now (s .args .hints)) (turn p .loop .at) (s .pre .0) (s .pre .1))
 
 -- where the next part starts
+abbrev listed : tie.After-known-told Inv-loop μ-loop → Listed
+listed c = c .before .before .before .before .before .before .before
+
 past : (c : tie.After-known-told Inv-loop μ-loop) →
-    let p = c .before .before .before .before .before .before .before in
     let place = c .before .found .given .0 .1 .0 in
-    (p .before .before .before .before .loop .at < place) × (place < length (now (p .before .before .before .before .before .before .before .before .before .before .args .region)))
-past c = small (c .before .before .before .before .before .before .before) .past _ _ _ (c .before .found .given .1)
+    (turn (listed c) .loop .at < place) × (place < length (now (start (listed c) .args .region)))
+past c = small (listed c) .past _ _ _ (c .before .found .given .1)
 
 row-space-requires : tie.Need-row-space-requires Inv-loop μ-loop
 row-space-requires c κs = search needs
@@ -68,7 +77,8 @@ written-requires c κs = search needs
 add-count : tie.Need-add-count Inv-loop μ-loop
 add-count c =
     let p = c .before .before .before in
-    omega (arith, c .written .ensures, small p .rows, p .before .before .before .before .loop .inv .1, p .before .before .before .before .loop .inv .2, p .before .before .before .before .before .before .before .before .before .before .pre)
+    let l = turn p .loop in
+    omega (arith, c .written .ensures, small p .rows, l .inv .1, l .inv .2, start p .pre)
 
 read-requires : tie.Need-read-requires Inv-loop μ-loop
 read-requires c κs = search needs
@@ -76,7 +86,8 @@ read-requires c κs = search needs
 add-read : tie.Need-add-read Inv-loop μ-loop
 add-read c =
     let p = c .before .before .before .before in
-    omega (arith, c .read .ensures, small p .read, p .before .before .before .before .loop .inv .1, p .before .before .before .before .loop .inv .3, p .before .before .before .before .before .before .before .before .before .before .pre)
+    let l = turn p .loop in
+    omega (arith, c .read .ensures, small p .read, l .inv .1, l .inv .3, start p .pre)
 
 enum-known-found : tie.Need-enum-known-found Inv-loop μ-loop
 enum-known-found c = search needs
@@ -84,7 +95,7 @@ enum-known-found c = search needs
 returns : tie.Need-returns Inv-loop μ-loop
 returns c =
     let p = c .before .before .before .before .before in
-    let l = p .before .before .before .before .loop in
+    let l = turn p .loop in
     let none : (n place r : ℕ) → p .list-part .result .found ≡ Full n place r → ⊥ =
     λ n place r e. ⊎-elim (λ z. omega arith) (λ z. omega arith) (rw e at (c .match .keys2)) in
     let t = on-end _ _ _ _ _ _ (l .inv .1) (answer p) none (l .inv .0) in
@@ -95,8 +106,8 @@ loop-less c = let w = past c in omega (arith, w .0, w .1)
 
 loop-again : tie.Need-loop-again Inv-loop μ-loop
 loop-again c =
-    let p = c .before .before .before .before .before .before .before in
-    let l = p .before .before .before .before .loop in
+    let p = listed c in
+    let l = turn p .loop in
     let w = past c in
     let rows = c .before .before .before .before .written .ensures in
     let read = c .before .before .before .read .ensures in (

@@ -3,12 +3,13 @@
 use Prim.Native.Nat.{_*_, _-_, _≤_}
 use mathlib.Core.Path.{_≡_, refl, _∙_}
 use native.Mathlib.Omega.{arith}
+use denote.Ref.{now}
 use lib.ListN.{length}
 use borrow.Author.Needs.{needs}
 use Rattle.listing.proofs.Texts.{put-none, put-more, rows-none, rows-more, one-more, has-room}
 use Rattle.sheet.specs.Limits.{wordsPerEntry}
 use Rattle.listing.specs.Inner.{Put, mostLine}
-use Rattle.listing.specs.Text.{rowsText}
+use Rattle.listing.specs.Text.{lineText, rowsText}
 use Rattle.listing.proofs.inner.put_rows.Statement.{statement}
 use Rattle.listing.proofs.inner.put_rows.Tie as tie
 
@@ -45,7 +46,7 @@ loop-again c =
       search needs,
       p .kept .0 ∙ l .inv .1,
       omega (arith, p .ensures .1, l .inv, one-more (l .n) (mostLine (a .width))),
-      rw rows-more (put-more (l .inv .3) (p .ensures .0)),
+      rw rows-more (put-more {u = lineText (now (a .rows)) (now (a .cols)) (a .width) (l .n)} (l .inv .3) (p .ensures .0)),
     )
 
 same-length : tie.Need-same-length Inv-loop μ-loop

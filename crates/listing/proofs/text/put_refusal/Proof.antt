@@ -27,10 +27,13 @@ put-bytes-requires-2 c κs = search needs
 
 returns : tie.Need-returns
 unfolding refusalLine
-returns c = (
-  put-more (put-more (c .before .before .before .before .before .before .put-bytes .ensures) (rw (c .before .before .before .before .number .ensures) at (c .before .before .before .put-decimal .ensures .0))) (c .put-bytes2 .ensures),
-  counts _ _ (search needs),
-)
+returns c =
+    let digits = c .before .before .before in
+    let number = digits .before in
+    let front = number .before .before in (
+      put-more (put-more (front .put-bytes .ensures) (rw (number .number .ensures) at (digits .put-decimal .ensures .0))) (c .put-bytes2 .ensures),
+      counts _ _ (search needs),
+    )
 
 pub put-refusal-spec : {M : Type 1} → statement M
 put-refusal-spec =

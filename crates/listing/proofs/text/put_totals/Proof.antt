@@ -33,10 +33,14 @@ put-bytes-requires-3 c κs = search needs
 
 returns : tie.Need-returns
 unfolding totalsLine
-returns c = (
-  put-more (put-more (put-more (put-more (c .before .before .before .before .before .before .before .before .before .before .put-bytes .ensures) (c .before .before .before .before .before .before .before .before .put-decimal .ensures .0)) (c .before .before .before .before .before .put-bytes2 .ensures)) (c .before .before .before .put-decimal2 .ensures .0)) (c .put-bytes3 .ensures),
-  counts _ _ (search needs),
-)
+returns c =
+    let read = c .before .before .before in
+    let between = read .before .before in
+    let rows = between .before .before .before in
+    let front = rows .before .before in (
+      put-more (put-more (put-more (put-more (front .put-bytes .ensures) (rows .put-decimal .ensures .0)) (between .put-bytes2 .ensures)) (read .put-decimal2 .ensures .0)) (c .put-bytes3 .ensures),
+      counts _ _ (search needs),
+    )
 
 pub put-totals-spec : {M : Type 1} → statement M
 put-totals-spec =

@@ -24,7 +24,7 @@
  * confidence makes text in types rarer; nothing excludes it. README, "What the sheet gives away", has an example.
  *
  * Not given by any call so far, and declared for those to come:
- *     refusals 5, 6 and 8; sources, modes and states other than 0; a row id, a percent, or the index of a table.
+ *     sources 2 and 3; modes other than 0; states 1 and 2; a row id, or a percent.
  */
 #ifndef PHSARODIL_H
 #define PHSARODIL_H
@@ -49,14 +49,14 @@ uint64_t phs_version(void);
 enum phs_refusal {
     PHS_OK = 0,
     PHS_COLUMN_COUNT = 1,   /* no columns, or more than PHS_MOST_COLUMNS */
-    PHS_MALFORMED = 2,      /* a hint code above 5, or a bad column entry */
-    PHS_TOO_LARGE = 3,      /* more than PHS_LARGEST_REGION bytes, or PHS_LARGEST_STATEMENT */
+    PHS_MALFORMED = 2,      /* a hint code above 5, tables whose lists are unlike, or a bad column entry */
+    PHS_TOO_LARGE = 3,      /* more than PHS_LARGEST_REGION bytes, PHS_LARGEST_STATEMENT or PHS_MOST_TABLES */
     PHS_BASE_TOO_FAR = 4,   /* a base above PHS_LARGEST_BASE */
     PHS_PAGE_SIZE = 5,      /* not a page size of the file format */
     PHS_NO_SUCH_PAGE = 6,   /* page 0, or a page that is not wholly in the database */
     PHS_NO_COLUMN_LIST = 7, /* a statement without a '(', or without a ')' behind it */
     PHS_WALK_SPACE = 8,     /* too few page flags, or a full page stack */
-    PHS_NO_ROOM = 9         /* one row, hint or place more than the lent list takes */
+    PHS_NO_ROOM = 9         /* one row, hint, place or leaf more than the lent list takes */
 };
 
 #define PHS_WORDS_PER_ROW 8
@@ -64,6 +64,7 @@ enum phs_refusal {
 #define PHS_MOST_COLUMNS 126
 #define PHS_LARGEST_REGION 16777216
 #define PHS_LARGEST_STATEMENT 65536
+#define PHS_MOST_TABLES 1024
 #define PHS_LARGEST_BASE UINT64_C(0x1000000000000) /* 2 to the power of 48 */
 
 /* What a column is expected to hold. Every hint takes a NULL. */
@@ -81,7 +82,7 @@ enum phs_tag { PHS_NONE = 0, PHS_NULL = 1, PHS_INTEGER = 2, PHS_REAL = 3, PHS_TE
 
 /* The words of a row. */
 enum phs_row_word {
-    PHS_ROW_OFFSET = 0,     /* of its first byte: the base, plus its place in the region */
+    PHS_ROW_OFFSET = 0,     /* of its first byte: the base, plus its place in the region, page or database */
     PHS_ROW_CONSUMED = 1,   /* its bytes, header and bodies */
     PHS_ROW_HAS_ID = 2,     /* 1 if there is a row id, else 0 */
     PHS_ROW_ID = 3,         /* the row id's bits, two's complement; 0 if there is none */
@@ -221,6 +222,65 @@ uint64_t phs_from_create_sql(const uint8_t *statement, size_t len, uint8_t *hint
  */
 uint64_t phs_boyer_moore_search(const uint8_t *haystack, size_t len, const uint8_t *pattern, size_t pattern_len,
                                 uint64_t *places, size_t places_len, uint64_t out[1]);
+
+/*
+ * A page of a database by its number; pages count from 1.
+ * out: where the page starts in `db`; its length; where its b-tree header stands in it, 100 on page 1, else 0.
+ * Returns PHS_TOO_LARGE, PHS_PAGE_SIZE or PHS_NO_SUCH_PAGE.
+ */
+uint64_t phs_get_page_data(const uint8_t *db, size_t len, uint64_t page_size, uint64_t page, uint64_t out[3]);
+
+/*
+ * The leaves of the table whose root is the page `root`, in the order in which the walk pops them. Of an interior page the
+ * right child is pushed, and then the children of its cells; every one is pushed, also 0, a page that is not there and one
+ * that was pushed before, and the last pushed is popped first. A page is looked at once. Children whose pointers lie past
+ * the page end the list of them, cells past it are skipped; a page of another type than a table's has none.
+ * `flags` has a byte for each whole page, `stack` is the walk's own: both may hold anything before, and all of both is 0
+ * after a call that no other refusal than PHS_WALK_SPACE and PHS_NO_ROOM ends.
+ * out: the leaves written.
+ * Returns PHS_TOO_LARGE or PHS_PAGE_SIZE; PHS_WALK_SPACE for fewer flags than whole pages, with nothing written, or for a
+ * push onto a full stack, with the leaves popped before it; or PHS_NO_ROOM.
+ */
+uint64_t phs_collect_leaf_pages(const uint8_t *db, size_t len, uint64_t page_size, uint64_t root, uint8_t *flags,
+                                size_t flags_len, uint64_t *stack, size_t stack_len, uint64_t *leaves,
+                                size_t leaves_len, uint64_t out[1]);
+
+/*
+ * The rows in the freed blocks of the leaves of tables. Tables are lent as their roots, how many columns each has, and the
+ * hints of all, one table's behind the other's; at most PHS_MOST_TABLES. Tables go in the order lent, and each as in
+ * phs_collect_leaf_pages, with `flags` and `stack` as there; a leaf is carved as soon as it is popped.
+ *
+ * The freed blocks of a page are those of the chain that its header names: it ends at 0, at a place before the header's
+ * end, 8 bytes on, or past the page, at a place that it has been to, and at a size below 4 or past the page. Of a block the
+ * first four bytes are lost to the chain. A row is looked for at the next byte, and then up to 19 bytes on; the first that
+ * is found is the block's. Its confidence is the share of columns that suit, times 0.6; its source is PHS_SOURCE_FREELIST.
+ *
+ * A row's offset and its entries' starts are places in `db`; 4 times the table's index is in PHS_ROW_MODE. A group has as many
+ * entries as the widest table has columns; those behind a narrower row's columns are PHS_UNUSED.
+ * out: the rows written.
+ * Returns PHS_COLUMN_COUNT; PHS_MALFORMED, also where there are not as many counts as roots, or the counts do not add up to
+ * the hints; PHS_TOO_LARGE; PHS_PAGE_SIZE; PHS_WALK_SPACE or PHS_NO_ROOM, with the rows that come first.
+ */
+uint64_t phs_recover_freeblocks(const uint8_t *db, size_t len, uint64_t page_size, const uint64_t *roots, size_t roots_len,
+                                const uint64_t *counts, size_t counts_len, const uint8_t *hints, size_t hints_len,
+                                uint8_t *flags, size_t flags_len, uint64_t *stack, size_t stack_len, uint64_t *rows,
+                                size_t rows_len, uint64_t *cols, size_t cols_len, uint64_t out[1]);
+
+/*
+ * The same of one page by its number, whatever its type.
+ * Returns PHS_COLUMN_COUNT, PHS_MALFORMED, PHS_TOO_LARGE, PHS_PAGE_SIZE, PHS_NO_SUCH_PAGE or PHS_NO_ROOM.
+ */
+uint64_t phs_recover_page_freeblocks(const uint8_t *db, size_t len, uint64_t page_size, uint64_t page, const uint8_t *hints,
+                                     size_t hints_len, uint64_t *rows, size_t rows_len, uint64_t *cols, size_t cols_len,
+                                     uint64_t out[1]);
+
+/*
+ * The same of a page that is lent by itself, with its b-tree header at page[header]; `base` is the offset of its first byte.
+ * Returns PHS_COLUMN_COUNT, PHS_MALFORMED, PHS_TOO_LARGE, PHS_BASE_TOO_FAR or PHS_NO_ROOM.
+ */
+uint64_t phs_recover_slice_freeblocks(const uint8_t *page, size_t len, size_t header, uint64_t base, const uint8_t *hints,
+                                      size_t hints_len, uint64_t *rows, size_t rows_len, uint64_t *cols, size_t cols_len,
+                                      uint64_t out[1]);
 
 #ifdef __cplusplus
 }

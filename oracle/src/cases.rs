@@ -14,6 +14,7 @@ pub mod rooms;
 pub mod search;
 pub mod statements;
 pub mod tables;
+pub mod telling;
 pub mod values;
 pub mod varints;
 pub mod walks;

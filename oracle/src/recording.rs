@@ -2,13 +2,13 @@
 
 use crate::calls::{self, Given};
 use crate::case::{Answer, Case};
-use crate::cases::{self, limits, regions, Plan};
+use crate::cases::{self, limits, regions, telling, Plan};
 use crate::compare::{against_the_rust, expected, Asked};
 use crate::panics;
 use crate::rules::limits::Limits;
 use crate::runner::Sink;
 use crate::text;
-use std::collections::HashMap;
+use std::collections::{HashMap, HashSet};
 use std::{fs, io, path::Path};
 
 /// Slices and cells of a recorded case, and bytes of the whole file, at most.
@@ -16,8 +16,8 @@ const LARGEST_CASE: usize = 1200;
 const LARGEST_FILE: usize = 2_000_000;
 
 /// Cases of one kind: the first few, and then ever fewer of the many.
-const FIRST: usize = 24;
-const GROWTH: f64 = 1.12;
+const FIRST: usize = 8;
+const GROWTH: f64 = 1.3;
 
 struct Recorder {
     file: Vec<u8>,
@@ -26,13 +26,15 @@ struct Recorder {
     limits: Limits,
     /// By call, number and rows: how many came, and the next one to take.
     kinds: HashMap<(u8, u64, u64), (usize, f64)>,
+    /// As the server would have them, so that none comes twice.
+    taken: HashSet<Vec<u8>>,
     keep_all: bool,
     differs: Option<String>,
 }
 
 impl Sink for Recorder {
     fn put(&mut self, case: Case) {
-        if case.size() > LARGEST_CASE || self.file.len() > LARGEST_FILE || self.differs.is_some() {
+        if !fits(&case) || self.file.len() > LARGEST_FILE || self.differs.is_some() {
             return;
         }
         let answer = (calls::of(&case).answer)(&self.limits, &case);
@@ -55,6 +57,11 @@ impl Recorder {
     }
 
     fn take(&mut self, case: &Case) {
+        let mut frame = Vec::new();
+        case.frame(calls::of(case).lists, &mut frame);
+        if !self.taken.insert(frame) {
+            return;
+        }
         let (answer, asked) = expected(&self.limits, case);
         if let Some(why) = against_the_rust(&asked).filter(|_| asked != Asked::Panicked) {
             self.differs = Some(format!("{why}: {}", text::line(case)));
@@ -65,6 +72,11 @@ impl Recorder {
         self.with_the_rust += usize::from(rust);
         put_case(&mut self.file, case, &answer, rust);
     }
+}
+
+/// A head has room for two slices of bytes and two lists: walks take more.
+fn fits(case: &Case) -> bool {
+    case.size() <= LARGEST_CASE && case.words.is_empty() && case.lists.len() <= 2
 }
 
 /// A head of eighteen words, then the bytes of the slices, then the written cells of the lists.
@@ -101,6 +113,7 @@ pub fn record(folder: &str, seed: u64) -> io::Result<bool> {
         with_the_rust: 0,
         limits: Limits::of_the_rules(),
         kinds: HashMap::new(),
+        taken: HashSet::new(),
         keep_all: true,
         differs: None,
     };
@@ -108,10 +121,12 @@ pub fn record(folder: &str, seed: u64) -> io::Result<bool> {
         recorder.put(case);
     }
     regions::bench_cases(&mut recorder);
+    telling::all(&mut recorder);
     limits::to_be_recorded(&mut recorder);
     recorder.keep_all = false;
     let plan = Plan { seed, random: 200_000, large: false, long: false };
     cases::all(&mut recorder, &plan);
+    cases::pages(&mut recorder, &plan);
     if let Some(why) = recorder.differs {
         println!("DIFFERENCE: {why}");
         return Ok(false);

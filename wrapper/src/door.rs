@@ -100,6 +100,77 @@ mod c {
             places_len: usize,
             out: *mut [u64; 1],
         ) -> u64;
+
+        pub fn phs_recover_freeblocks(
+            db: *const u8,
+            len: usize,
+            page_size: u64,
+            roots: *const u64,
+            roots_len: usize,
+            counts: *const u64,
+            counts_len: usize,
+            hints: *const u8,
+            hints_len: usize,
+            flags: *mut u8,
+            flags_len: usize,
+            stack: *mut u64,
+            stack_len: usize,
+            rows: *mut u64,
+            rows_len: usize,
+            cols: *mut u64,
+            cols_len: usize,
+            out: *mut [u64; 1],
+        ) -> u64;
+
+        pub fn phs_recover_page_freeblocks(
+            db: *const u8,
+            len: usize,
+            page_size: u64,
+            page: u64,
+            hints: *const u8,
+            hints_len: usize,
+            rows: *mut u64,
+            rows_len: usize,
+            cols: *mut u64,
+            cols_len: usize,
+            out: *mut [u64; 1],
+        ) -> u64;
+
+        pub fn phs_recover_slice_freeblocks(
+            page: *const u8,
+            len: usize,
+            header: usize,
+            base: u64,
+            hints: *const u8,
+            hints_len: usize,
+            rows: *mut u64,
+            rows_len: usize,
+            cols: *mut u64,
+            cols_len: usize,
+            out: *mut [u64; 1],
+        ) -> u64;
+
+        pub fn phs_get_page_data(
+            db: *const u8,
+            len: usize,
+            page_size: u64,
+            page: u64,
+            out: *mut [u64; 3],
+        ) -> u64;
+
+        pub fn phs_collect_leaf_pages(
+            db: *const u8,
+            len: usize,
+            page_size: u64,
+            root: u64,
+            flags: *mut u8,
+            flags_len: usize,
+            stack: *mut u64,
+            stack_len: usize,
+            leaves: *mut u64,
+            leaves_len: usize,
+            out: *mut [u64; 1],
+        ) -> u64;
     }
 }
 
@@ -224,6 +295,119 @@ pub fn boyer_moore_search(haystack: &[u8], pattern: &[u8], places: &mut [u64]) -
             pattern.len(),
             places.as_mut_ptr(),
             places.len(),
+            out,
+        )
+    })
+}
+
+pub fn get_page_data(db: &[u8], page_size: u64, page: u64) -> Answer<3> {
+    answer(|out| unsafe { c::phs_get_page_data(db.as_ptr(), db.len(), page_size, page, out) })
+}
+
+pub fn collect_leaf_pages(
+    db: &[u8],
+    page_size: u64,
+    root: u64,
+    flags: &mut [u8],
+    stack: &mut [u64],
+    leaves: &mut [u64],
+) -> Answer<1> {
+    answer(|out| unsafe {
+        c::phs_collect_leaf_pages(
+            db.as_ptr(),
+            db.len(),
+            page_size,
+            root,
+            flags.as_mut_ptr(),
+            flags.len(),
+            stack.as_mut_ptr(),
+            stack.len(),
+            leaves.as_mut_ptr(),
+            leaves.len(),
+            out,
+        )
+    })
+}
+
+/// Of tables lent as their roots and counts of columns, and all hints; rows and columns stand side by side, too.
+pub fn recover_freeblocks(
+    db: &[u8],
+    page_size: u64,
+    [roots, counts]: [&[u64]; 2],
+    hints: &[u8],
+    flags: &mut [u8],
+    stack: &mut [u64],
+    [rows, cols]: [&mut [u64]; 2],
+) -> Answer<1> {
+    answer(|out| unsafe {
+        c::phs_recover_freeblocks(
+            db.as_ptr(),
+            db.len(),
+            page_size,
+            roots.as_ptr(),
+            roots.len(),
+            counts.as_ptr(),
+            counts.len(),
+            hints.as_ptr(),
+            hints.len(),
+            flags.as_mut_ptr(),
+            flags.len(),
+            stack.as_mut_ptr(),
+            stack.len(),
+            rows.as_mut_ptr(),
+            rows.len(),
+            cols.as_mut_ptr(),
+            cols.len(),
+            out,
+        )
+    })
+}
+
+pub fn recover_page_freeblocks(
+    db: &[u8],
+    page_size: u64,
+    page: u64,
+    hints: &[u8],
+    rows: &mut [u64],
+    cols: &mut [u64],
+) -> Answer<1> {
+    answer(|out| unsafe {
+        c::phs_recover_page_freeblocks(
+            db.as_ptr(),
+            db.len(),
+            page_size,
+            page,
+            hints.as_ptr(),
+            hints.len(),
+            rows.as_mut_ptr(),
+            rows.len(),
+            cols.as_mut_ptr(),
+            cols.len(),
+            out,
+        )
+    })
+}
+
+pub fn recover_slice_freeblocks(
+    page: &[u8],
+    header: usize,
+    base: u64,
+    hints: &[u8],
+    rows: &mut [u64],
+    cols: &mut [u64],
+) -> Answer<1> {
+    answer(|out| unsafe {
+        c::phs_recover_slice_freeblocks(
+            page.as_ptr(),
+            page.len(),
+            header,
+            base,
+            hints.as_ptr(),
+            hints.len(),
+            rows.as_mut_ptr(),
+            rows.len(),
+            cols.as_mut_ptr(),
+            cols.len(),
             out,
         )
     })

@@ -19,15 +19,21 @@
 
 #[allow(unsafe_code)]
 mod door;
+mod freeblocks;
 mod hint;
 mod limits;
+mod pages;
 mod refusal;
 mod rows;
 mod search;
 mod values;
 
+pub use freeblocks::{
+    recover_freeblocks, recover_page_freeblocks, recover_slice_freeblocks, Table,
+};
 pub use hint::{Hint, UnknownHint};
 pub use limits::{LARGEST_BASE, LARGEST_REGION, LARGEST_STATEMENT, MOST_COLUMNS};
+pub use pages::{leaf_pages, page, Page};
 pub use refusal::Refusal;
 pub use rows::{scan, try_parse_record, Mode, Record, Row, Rows, Scan, Source};
 pub use search::search;

@@ -3,15 +3,15 @@
 use std::error::Error;
 use std::fmt;
 
-/// A refusal; its number is that of the header. The calls of this crate give none of [`Refusal::PageSize`],
-/// [`Refusal::NoSuchPage`] and [`Refusal::WalkSpace`], and go on themselves after [`Refusal::NoRoom`].
+/// A refusal; its number is that of the header. The calls of this crate go on themselves after [`Refusal::WalkSpace`] and
+/// [`Refusal::NoRoom`].
 #[derive(Clone, Copy, Debug, PartialEq, Eq, Hash)]
 pub enum Refusal {
     /// No columns, or more than 126.
     ColumnCount = 1,
     /// An unknown hint code, or a bad column entry.
     Malformed = 2,
-    /// A region or a haystack of more than 16 MiB, or a statement of more than 65,536 bytes.
+    /// A region, a haystack or a database of more than 16 MiB, or a statement of more than 65,536 bytes.
     TooLarge = 3,
     /// A base above 2^48.
     BaseTooFar = 4,

@@ -3,7 +3,8 @@
 use crate::door;
 use crate::{Entry, Hint, Refusal, Value};
 
-/// Where a row was found, with its percent where there is one. The calls of this crate give [`Source::Scan`] alone.
+/// Where a row was found, with its percent where there is one. The calls of this crate give the
+/// first two.
 #[derive(Clone, Copy, Debug, PartialEq, Eq, Hash)]
 pub enum Source {
     /// In a region.
@@ -32,7 +33,7 @@ pub enum Mode {
 /// A row that was found.
 #[derive(Clone, Copy, Debug, PartialEq)]
 pub struct Row {
-    /// The base, plus the row's place in the region.
+    /// Of its first byte: the base, plus the row's place in the region, page or database.
     pub offset: u64,
     /// How many bytes it takes, header and bodies.
     pub consumed: u64,
@@ -98,14 +99,14 @@ impl<'a> Record<'a> {
 
 /// The two lists that are lent to a call.
 #[derive(Debug)]
-struct Lists {
-    rows: Vec<u64>,
-    cols: Vec<u64>,
+pub(crate) struct Lists {
+    pub(crate) rows: Vec<u64>,
+    pub(crate) cols: Vec<u64>,
     columns: usize,
 }
 
 impl Lists {
-    fn new(room: usize, columns: usize) -> Lists {
+    pub(crate) fn new(room: usize, columns: usize) -> Lists {
         Lists {
             rows: vec![0; room * Row::WORDS],
             cols: vec![0; room * columns * Entry::WORDS],
@@ -113,7 +114,7 @@ impl Lists {
         }
     }
 
-    fn record<'a>(&self, i: usize, region: &'a [u8]) -> Record<'a> {
+    pub(crate) fn record<'a>(&self, i: usize, region: &'a [u8]) -> Record<'a> {
         let width = self.columns * Entry::WORDS;
         Record {
             row: Row::of(&self.rows[i * Row::WORDS..][..Row::WORDS]),
@@ -126,7 +127,7 @@ impl Lists {
     }
 }
 
-fn codes(hints: &[Hint]) -> Vec<u8> {
+pub(crate) fn codes(hints: &[Hint]) -> Vec<u8> {
     hints.iter().map(|&hint| hint as u8).collect()
 }
 

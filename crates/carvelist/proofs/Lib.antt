@@ -1,5 +1,1 @@
-mod Cases
-mod Inputs
-mod Parts
-mod Texts
 pub mod Unique

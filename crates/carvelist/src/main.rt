@@ -1,19 +1,18 @@
 // Lists the rows of a region on standard input: one byte says how many hints there are, then come their codes, then the region.
-mod inner;
-mod input;
-mod part;
-mod text;
-
-use input::judge;
 use libc::STDERR_FILENO;
 use libc::STDIN_FILENO;
-use part::Totals;
-use part::col_space;
-use part::list_part;
-use part::read_in;
-use part::row_space;
-use part::rows_in;
-use part::text_space;
+use listing::input::COUNT_BYTES;
+use listing::input::LARGEST_INPUT;
+use listing::input::count_of;
+use listing::input::judge;
+use listing::part::Totals;
+use listing::part::col_space;
+use listing::part::list_part;
+use listing::part::row_space;
+use listing::part::text_space;
+use listing::text::put_heading;
+use listing::text::put_refusal;
+use listing::text::put_totals;
 use scan::schema_sig::Scanned;
 use sheet::refusal::Checked;
 use sheet::refusal::Refusal;
@@ -21,21 +20,20 @@ use streams::Got;
 use streams::Output;
 use streams::read_whole;
 use streams::write_whole;
-use text::put_heading;
-use text::put_refusal;
-use text::put_totals;
 ghost use mathlib.Core.Path.{_≡_};
-ghost use Prim.Native.Nat.{_≤_};
+ghost use Prim.Native.Nat.{_+_, _≤_};
 ghost use lib.ListN.{length};
-ghost use Rattle.carvelist.specs.Input.{largestInput, hintsOf, regionOf, Taken};
-ghost use Rattle.carvelist.specs.Part.{totalsOf, partsOf};
+ghost use Rattle.listing.specs.Input.{largestInput, hintsOf, regionOf, Taken};
+ghost use Rattle.listing.specs.Part.{totalsOf, partsOf};
 ghost use Rattle.sheet.specs.Limits.{mostColumns};
 
-// One byte more than the program takes, which tells a longer input.
-fn input_space() -> [u8; 65_537]
-    ensures { λ r. ⌜ 65537 ≡ length r ⌝ }
+// One byte more than is taken, which tells a longer input.
+const INPUT_SPACE: usize = LARGEST_INPUT + 1;
+
+fn input_space() -> [u8; INPUT_SPACE]
+    ensures { λ r. ⌜ largestInput + 1 ≡ length r ⌝ }
 {
-    [0; 65_537]
+    [0; INPUT_SPACE]
 }
 
 fn say_heading(out: Output) -> Output {
@@ -78,14 +76,9 @@ fn say_parts(out: Output, region: &[u8], hints: &[u8]) -> Listed
         let len = part.len;
         out = out.say(&text[..len]);
         let found = part.found;
-        count = count + rows_in(found);
-        read = read + read_in(found);
-        let Scanned::Full {
-            rows: _,
-            place,
-            read: _,
-        } = found
-        else {
+        count = count + found.written();
+        read = read + found.read();
+        let Scanned::Full { place, .. } = found else {
             let total = Totals {
                 rows: count as u64,
                 read: read as u64,
@@ -107,15 +100,15 @@ fn hints_of(input: &[u8]) -> &[u8]
     requires { ⌜ Taken (now input) ⌝ }
     ensures { λ r. ⌜ now r ≡ hintsOf (now (input .entry)) ⌝ }
 {
-    let end = 1 + input[0] as usize;
-    &input[1..end]
+    let end = COUNT_BYTES + count_of(input);
+    &input[COUNT_BYTES..end]
 }
 
 fn region_of(input: &[u8]) -> &[u8]
     requires { ⌜ Taken (now input) ⌝ }
     ensures { λ r. ⌜ now r ≡ regionOf (now (input .entry)) ⌝ }
 {
-    let start = 1 + input[0] as usize;
+    let start = COUNT_BYTES + count_of(input);
     &input[start..]
 }
 

@@ -1,17 +1,24 @@
 -- What other crates rest on: they cite these laws and unfold no definition of this one.
 -- Assumes nothing.
 use Prim.Native.Nat.{ℕ, zero, suc, _+_, _-_, _*_, _/_, _≤_, _<_}
-use mathlib.Core.Path.{_≡_, refl}
+use mathlib.Core.Path.{_≡_, refl, sym, ap}
 use mathlib.Core.Bool.{Bool, true, false, cond, _||_, _&&_, and-eq-true-iff}
 use mathlib.Core.List.{List, [], _∷_}
 use native.Mathlib.Nat.{add-zero, sub-zero, suc-sub-suc, suc-mul, le-div-iff-mul-le}
 use native.Mathlib.Omega.{arith}
 use borrow.Author.Needs.{needs}
-use borrow.Author.Tests.{le-leb, lt-leb, leb-true, eqb-true}
+use borrow.Author.Tests.{le-leb, lt-leb, leb-true, eqb-true, ltb-false, not-false}
 use lib.Dec.{leb, eqb}
 use lib.ListN.{length, getD, take, drop, length-take, length-drop}
 use Rattle.record.specs.Value.{bigEndian}
-use Rattle.page.specs.Page.{among, pageSizes, sizeFits, hasPage, startOf, pageOf, headOf}
+use Rattle.page.specs.declared.btree.Paged.the-variants.{At, Refused}
+use Rattle.sheet.proofs.Laws.{none-holds}
+use Rattle.sheet.specs.Limits.{largestRegion}
+use Rattle.sheet.specs.Refusal.{firstHeld, after}
+use Rattle.sheet.specs.declared.refusal.Checked.{Checked}
+use Rattle.sheet.specs.declared.refusal.Checked.the-variants.{Passed, Refused as Held}
+use Rattle.sheet.specs.declared.refusal.Refusal.{Refusal}
+use Rattle.page.specs.Page.{among, pageSizes, sizeFits, hasPage, startOf, pageOf, headOf, pageChecks, pageAnswer}
 
 -- THE LAW: what is among numbers of a range is in the range
 abbrev Within : ℕ → ℕ → List ℕ → Type 0
@@ -69,3 +76,47 @@ head-low p = low (eqb p 1)
     low : (b : Bool) → cond b 100 0 ≤ 100
     low true = omega arith
     low false = omega arith
+
+-- ---- a page that was asked for
+module _ (len size p : ℕ) where
+  never : {C : Type 0} {a b c : ℕ} {r : Refusal} → At a b c ≡ Refused r → C
+  never e = absurd (let z : _≡_ {A = ℕ} 0 1 = cc in omega arith)
+
+  pub paged-refused : (r : Refusal) → pageAnswer len size p ≡ Refused r → firstHeld (pageChecks len size p) ≡ Held r
+  unfolding pageAnswer
+  paged-refused r e = go (firstHeld (pageChecks len size p)) e
+    where
+      go : (c : Checked) → after Refused c (At (startOf size p) size (headOf p)) ≡ Refused r → c ≡ Held r
+      go Passed d = never d
+      go (Held x) d = let z : x ≡ r = cc in ap Held z
+
+  -- it passed the checks, and lies where it should
+  pub record PagedAt (start length head : ℕ) : Type 0 where
+    pub passed : firstHeld (pageChecks len size p) ≡ Passed
+    pub starts : start ≡ startOf size p
+    pub long : length ≡ size
+    pub heads : head ≡ headOf p
+    pub inside : start + length ≤ len
+    pub small : len ≤ largestRegion
+
+  pub paged-at : (start length head : ℕ) → pageAnswer len size p ≡ At start length head → PagedAt start length head
+  unfolding pageAnswer
+  paged-at start length head e = go (firstHeld (pageChecks len size p)) refl e
+    where
+      go : (c : Checked) → firstHeld (pageChecks len size p) ≡ c → after Refused c (At (startOf size p) size (headOf p)) ≡ At start length head → PagedAt start length head
+      go Passed f d =
+          let n = none-holds (pageChecks len size p) f in
+          let t = there-page len size p (not-false _ (n .1 .1 .0)) in
+          let s : start ≡ startOf size p = cc in
+          let l : length ≡ size = cc in
+          let h : head ≡ headOf p = cc in
+          let range = size-range size (not-false _ (n .1 .0)) in
+          record {
+            passed = f;
+            starts = s;
+            long = l;
+            heads = h;
+            inside = rw (s, l) (page-inside len size p (omega (arith, range .0)) (t .0) (t .1));
+            small = ltb-false largestRegion len (n .0);
+          }
+      go (Held x) f d = never (sym d)

@@ -4,14 +4,16 @@ use Prim.Native.Nat.{ℕ, _+_, _*_, _%_}
 use mathlib.Core.Bool.{Bool, _&&_}
 use mathlib.Core.List.{List, [], _∷_}
 use lib.ListN.{length}
-use Rattle.phsarodil.specs.Door.{varintWords, lengthWords, decodedWords, entryOf, entryWords, viewWords, scanWords}
+use Rattle.phsarodil.specs.Door.{varintWords, lengthWords, decodedWords, entryOf, entryWords, viewWords, scanWords, pagedWords}
+use Rattle.freeblock.specs.Calls.{sliceRows, sliceCols, sliceNumber, sliceWritten, numberedRows, numberedCols, numberedNumber, numberedWritten}
+use Rattle.page.specs.Page.{pageAnswer, pagedNumber}
 use Rattle.record.specs.Entry.{readEntry, refusalOf, entryBytes}
 use Rattle.record.specs.Value.{bodyLength, decodeAt}
 use Rattle.record.specs.Varint.{readVarint}
 use Rattle.record.specs.declared.entry.Entry.{Entry}
 use Rattle.recording.specs.Recording.{sizeAt, number, slice, secondSlice, cellsAt, freshWord, freshByte, holds, answered}
 use Rattle.replay.specs.declared.lists.Attempts.{Attempts}
-use Rattle.replay.specs.declared.lists.Attempts.the-variants.{One, All}
+use Rattle.replay.specs.declared.lists.Attempts.the-variants.{One, All, Page, Slice}
 use Rattle.attempt.specs.Hints.{compatibleNumber, compatibleWord}
 use Rattle.scan.specs.Once.{onceRows, onceCols, onceNumber, onceWritten}
 use Rattle.scan.specs.Scan.{scanRows, scanCols, scanNumber}
@@ -42,6 +44,12 @@ viewAgrees h b = answered h 0 (viewWords (number 2 h) (entryBytes (givenEntry h)
 abbrev pub suitsAgrees : List ℕ → Bool
 suitsAgrees h = answered h (compatibleNumber (number 0 h % 256)) (compatibleWord (number 0 h % 256) (number 1 h) ∷ [])
 
+-- a page by its number: the numbers are the page size and it
+abbrev pub pageAgrees : List ℕ → List ℕ → Bool
+pageAgrees h b =
+    let answer = pageAnswer (length (slice h b)) (number 0 h) (number 1 h) in
+    answered h (pagedNumber answer) (pagedWords answer)
+
 -- ---- calls that write lists: cells lent at 64 and 72, cells written at 80 and 88
 
 abbrev pub firstHolds : (ℕ → ℕ) → List ℕ → List ℕ → List ℕ → Bool
@@ -50,22 +58,31 @@ firstHolds fresh h b l = holds fresh l b (cellsAt h) (sizeAt h 80)
 abbrev pub secondHolds : List ℕ → List ℕ → List ℕ → Bool
 secondHolds h b l = holds freshWord l b (cellsAt h + 8 * sizeAt h 80) (sizeAt h 88)
 
--- one attempt, or all of a region
+-- one attempt, all of a region, or the freeblocks of a page: by its number, where the numbers are the page size and it, or of a slice, where they
+-- are the header's place and the base
 abbrev pub attemptsNumber : Attempts → List ℕ → List ℕ → ℕ → ℕ → List ℕ → List ℕ → ℕ
 attemptsNumber One s hints base at rows cols = onceNumber s hints base at (length rows) (length cols)
 attemptsNumber All s hints base at rows cols = scanNumber s hints base at (length rows) (length cols)
+attemptsNumber Page s hints size page rows cols = numberedNumber s size page hints (length rows) (length cols)
+attemptsNumber Slice s hints head base rows cols = sliceNumber s head base hints (length rows) (length cols)
 
 abbrev pub attemptsWords : Attempts → List ℕ → List ℕ → ℕ → ℕ → List ℕ → List ℕ → List ℕ
 attemptsWords One s hints base at rows cols = onceWritten s hints base at (length rows) (length cols) ∷ 0 ∷ 0 ∷ []
 attemptsWords All s hints base at rows cols = scanWords s hints base at (length rows) (length cols)
+attemptsWords Page s hints size page rows cols = numberedWritten s size page hints (length rows) (length cols) ∷ 0 ∷ 0 ∷ []
+attemptsWords Slice s hints head base rows cols = sliceWritten s head base hints (length rows) (length cols) ∷ 0 ∷ 0 ∷ []
 
 abbrev pub attemptsRows : Attempts → List ℕ → List ℕ → ℕ → ℕ → List ℕ → List ℕ → List ℕ
-attemptsRows One = onceRows
-attemptsRows All = scanRows
+attemptsRows One s hints base at rows cols = onceRows s hints base at rows cols
+attemptsRows All s hints base at rows cols = scanRows s hints base at rows cols
+attemptsRows Page s hints size page rows cols = numberedRows s size page hints rows cols
+attemptsRows Slice s hints head base rows cols = sliceRows s head base hints rows cols
 
 abbrev pub attemptsCols : Attempts → List ℕ → List ℕ → ℕ → ℕ → List ℕ → List ℕ → List ℕ
-attemptsCols One = onceCols
-attemptsCols All = scanCols
+attemptsCols One s hints base at rows cols = onceCols s hints base at rows cols
+attemptsCols All s hints base at rows cols = scanCols s hints base at rows cols
+attemptsCols Page s hints size page rows cols = numberedCols s size page hints rows cols
+attemptsCols Slice s hints head base rows cols = sliceCols s head base hints rows cols
 
 -- a call with what the case gives
 abbrev pub onCase : {A : Type 0} → (List ℕ → List ℕ → ℕ → ℕ → A) → List ℕ → List ℕ → A

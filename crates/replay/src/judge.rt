@@ -8,12 +8,25 @@ use recording::case::CALL;
 use recording::case::RUST;
 use recording::case::word_at;
 ghost use mathlib.Core.Path.{_≡_};
-ghost use Rattle.replay.specs.Verdict.{valueAgrees, caseAgrees, verdict};
+ghost use Rattle.replay.specs.Verdict.{pagesAgree, valueAgrees, caseAgrees, verdict};
 
 pub enum Verdict {
     // 1 if the Rust was asked and agreed with the recorded answer, 0 if the rules alone gave it.
     Agrees { rust: u64 },
     Differs { call: u64 },
+}
+
+// The calls on pages.
+fn pages_agree(call: u64, head: &[u8], body: &[u8]) -> bool
+    ensures { λ r. ⌜ r ≡ pagesAgree call (now (head .entry)) (now (body .entry)) ⌝ }
+{
+    match call {
+        11 => values::get_page_data(head, body),
+        14 => rows_agree(Attempts::Page, head, body),
+        15 => rows_agree(Attempts::Slice, head, body),
+        // A call that is not known agrees with nothing.
+        _ => false,
+    }
 }
 
 // The calls that are lent no list.
@@ -27,8 +40,7 @@ fn value_agrees(call: u64, head: &[u8], body: &[u8]) -> bool
         4 => values::read_entry(head, body),
         5 => values::view_entry(head, body),
         6 => values::is_compatible(head),
-        // A call that is not known agrees with nothing.
-        _ => false,
+        _ => pages_agree(call, head, body),
     }
 }
 

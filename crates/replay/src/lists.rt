@@ -1,4 +1,6 @@
 // Calls that write lists, each held to its recorded answer, cell by cell.
+use phsarodil::freeblocks::phs_recover_page_freeblocks;
+use phsarodil::freeblocks::phs_recover_slice_freeblocks;
 use phsarodil::lists::phs_boyer_moore_search;
 use phsarodil::lists::phs_from_create_sql;
 use phsarodil::rows::phs_scan_region;
@@ -20,12 +22,15 @@ ghost use mathlib.Core.Path.{_≡_};
 ghost use Prim.Native.Nat.{_≤_};
 ghost use lib.ListN.{length};
 ghost use Rattle.recording.specs.Recording.{mostSize, freshWord, freshByte, lent};
+ghost use Rattle.replay.specs.declared.lists.Attempts.the-variants.{Page, Slice};
 ghost use Rattle.replay.specs.Calls.{firstHolds, secondHolds, onCase, attemptsNumber, attemptsWords, attemptsRows, attemptsCols, rowsAgree, hintsAgree, placesAgree};
 
-// The calls that write rows and columns: one attempt, or all of a region.
+// The calls that write rows and columns: one attempt, all of a region, and the freeblocks of a page, by its number or of a slice.
 pub enum Attempts {
     One,
     All,
+    Page,
+    Slice,
 }
 
 fn first_agrees(head: &[u8], body: &[u8], list: &[u64]) -> bool
@@ -41,6 +46,47 @@ fn second_agrees(head: &[u8], body: &[u8], list: &[u64]) -> bool
 {
     let at = cells_at(head) + 8 * size_at(head, WRITTEN);
     words_agree(list, body, at, size_at(head, WRITTEN + 8))
+}
+
+// The calls on freeblocks answer one word, and a recorded case has room for three.
+fn page_freeblocks(
+    db: &[u8],
+    hints: &[u8],
+    size: u64,
+    page: u64,
+    rows: &mut [u64],
+    cols: &mut [u64],
+    out: &mut [u64; 3],
+) -> u64
+    ensures number { λ r. ⌜ r ≡ attemptsNumber Page (now (db .entry)) (now (hints .entry)) size page (now (rows .entry)) (now (cols .entry)) ⌝ }
+    ensures out { λ _. ⌜ now (out .exit) ≡ attemptsWords Page (now (db .entry)) (now (hints .entry)) size page (now (rows .entry)) (now (cols .entry)) ⌝ }
+    ensures rows { λ _. ⌜ now (rows .exit) ≡ attemptsRows Page (now (db .entry)) (now (hints .entry)) size page (now (rows .entry)) (now (cols .entry)) ⌝ }
+    ensures cols { λ _. ⌜ now (cols .exit) ≡ attemptsCols Page (now (db .entry)) (now (hints .entry)) size page (now (rows .entry)) (now (cols .entry)) ⌝ }
+{
+    let mut written = [0; 1];
+    let number = phs_recover_page_freeblocks(db, size, page, hints, rows, cols, &mut written);
+    *out = [written[0], 0, 0];
+    number
+}
+
+fn slice_freeblocks(
+    page: &[u8],
+    hints: &[u8],
+    head: usize,
+    base: u64,
+    rows: &mut [u64],
+    cols: &mut [u64],
+    out: &mut [u64; 3],
+) -> u64
+    ensures number { λ r. ⌜ r ≡ attemptsNumber Slice (now (page .entry)) (now (hints .entry)) head base (now (rows .entry)) (now (cols .entry)) ⌝ }
+    ensures out { λ _. ⌜ now (out .exit) ≡ attemptsWords Slice (now (page .entry)) (now (hints .entry)) head base (now (rows .entry)) (now (cols .entry)) ⌝ }
+    ensures rows { λ _. ⌜ now (rows .exit) ≡ attemptsRows Slice (now (page .entry)) (now (hints .entry)) head base (now (rows .entry)) (now (cols .entry)) ⌝ }
+    ensures cols { λ _. ⌜ now (cols .exit) ≡ attemptsCols Slice (now (page .entry)) (now (hints .entry)) head base (now (rows .entry)) (now (cols .entry)) ⌝ }
+{
+    let mut written = [0; 1];
+    let number = phs_recover_slice_freeblocks(page, head, base, hints, rows, cols, &mut written);
+    *out = [written[0], 0, 0];
+    number
 }
 
 fn attempt(
@@ -61,6 +107,10 @@ fn attempt(
     match how {
         Attempts::One => phs_try_parse_record(region, hints, base, at, rows, cols, out),
         Attempts::All => phs_scan_region(region, hints, base, at, rows, cols, out),
+        Attempts::Page => page_freeblocks(region, hints, base, at as u64, rows, cols, out),
+        Attempts::Slice => {
+            slice_freeblocks(region, hints, base as usize, at as u64, rows, cols, out)
+        }
     }
 }
 

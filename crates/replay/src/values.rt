@@ -1,4 +1,5 @@
 // Calls that are lent no list, each held to its recorded answer.
+use phsarodil::pages::phs_get_page_data;
 use phsarodil::rows::phs_is_compatible;
 use phsarodil::values::phs_body_length;
 use phsarodil::values::phs_decode_serial_type;
@@ -13,7 +14,7 @@ use recording::case::size_at;
 use recording::case::word_at;
 use recording::inner::answered;
 ghost use mathlib.Core.Path.{_≡_};
-ghost use Rattle.replay.specs.Calls.{varintAgrees, lengthAgrees, decodedAgrees, givenEntry, entryAgrees, viewAgrees, suitsAgrees};
+ghost use Rattle.replay.specs.Calls.{varintAgrees, lengthAgrees, decodedAgrees, givenEntry, entryAgrees, viewAgrees, suitsAgrees, pageAgrees};
 
 pub fn read_varint(head: &[u8], body: &[u8]) -> bool
     ensures { λ r. ⌜ r ≡ varintAgrees (now (head .entry)) (now (body .entry)) ⌝ }
@@ -80,5 +81,16 @@ pub fn is_compatible(head: &[u8]) -> bool
     let hint = (word_at(head, NUMBERS) % 256) as u8;
     let mut out = [0; 1];
     let number = phs_is_compatible(hint, word_at(head, NUMBERS + 8), &mut out);
+    answered(head, number, &out)
+}
+
+pub fn get_page_data(head: &[u8], body: &[u8]) -> bool
+    ensures { λ r. ⌜ r ≡ pageAgrees (now (head .entry)) (now (body .entry)) ⌝ }
+{
+    let db = part(body, 0, size_at(head, LENGTHS));
+    let size = word_at(head, NUMBERS);
+    let page = word_at(head, NUMBERS + 8);
+    let mut out = [0; 3];
+    let number = phs_get_page_data(db, size, page, &mut out);
     answered(head, number, &out)
 }

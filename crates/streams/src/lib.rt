@@ -5,6 +5,7 @@ use libc::types::timespec;
 ghost use mathlib.Core.Bool.{true};
 ghost use mathlib.Core.Path.{_≡_};
 ghost use Prim.Native.Nat.{_≤_};
+ghost use lib.Dec.{eqb};
 ghost use lib.ListN.{length};
 ghost use Rattle.streams.specs.Moving.{AtMost, StandsIn, StillWhole};
 
@@ -146,16 +147,22 @@ impl Output {
         Output { whole: true }
     }
 
+    // So many bytes were taken of those that were asked.
+    fn after(taken: usize, asked: usize) -> Self
+        ensures { λ r. ⌜ r .whole ≡ eqb taken asked ⌝ }
+    {
+        Output {
+            whole: taken == asked,
+        }
+    }
+
     pub fn say(self, text: &[u8]) -> Self
         ensures { λ r. ⌜ StillWhole (self .whole) (r .whole) ⌝ }
     {
         if !self.whole {
             return self;
         }
-        let taken = write_whole(STDOUT_FILENO, text);
-        Output {
-            whole: taken == text.len(),
-        }
+        Output::after(write_whole(STDOUT_FILENO, text), text.len())
     }
 
     pub fn say_decimal(self, n: u64) -> Self
@@ -176,8 +183,9 @@ impl Output {
 
     // A line on standard error where something was not taken.
     pub fn end(self, name: &[u8]) {
-        if !self.whole {
-            os::fail(name);
+        if self.whole {
+            return;
         }
+        os::fail(name);
     }
 }

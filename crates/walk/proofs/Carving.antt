@@ -16,9 +16,7 @@ use Rattle.sheet.specs.Limits.{wordsPerRow, wordsPerEntry}
 use Rattle.sheet.specs.Row.{rowWords}
 use Rattle.sheet.specs.Sheet.{overlay, rowsWords, columnsWords}
 use Rattle.walk.specs.Carve.{Hit, rowsOf, groupWords, groupsWords}
-use Rattle.walk.specs.Inner.{Puts, carvedTo, Carves}
-use Rattle.walk.specs.declared.inner.Carved.{Carved}
-use Rattle.walk.specs.declared.inner.Carved.the-variants.{On, Full, Short}
+use Rattle.walk.specs.Inner.{Puts, Told, on, over, short, carvedTo, Carves}
 
 -- ---- words of hits
 rows-append : (a b : List Hit) → rowsWords (rowsOf (a ++ b)) ≡ rowsWords (rowsOf a) ++ rowsWords (rowsOf b)
@@ -40,7 +38,7 @@ group-words-length width h n =
 
 -- ---- no hit, and one
 module _ (width room n : ℕ) (rows cols : List ℕ) where
-  pub carves-none : n ≤ room → Carves width room n [] false rows cols (On n) rows cols
+  pub carves-none : n ≤ room → Carves width room n [] false rows cols (on n) rows cols
   carves-none h =
       let e : n + 0 ≡ n = omega arith in
       record {
@@ -50,7 +48,7 @@ module _ (width room n : ℕ) (rows cols : List ℕ) where
 
   pub carves-one : (h : Hit) (rows′ cols′ : List ℕ) → n < room → length (h .columns) ≤ width
       → rows′ ≡ sets rows (n * wordsPerRow) (rowWords (h .row)) → cols′ ≡ sets cols (n * (wordsPerEntry * width)) (groupWords width h)
-      → Carves width room n (h ∷ []) false rows cols (On (n + 1)) rows′ cols′
+      → Carves width room n (h ∷ []) false rows cols (on (n + 1)) rows′ cols′
   carves-one h rows′ cols′ lt narrow e f =
       let all = take-all (room - n) (h ∷ []) (omega arith) in
       record {
@@ -63,7 +61,7 @@ module _ (width room n : ℕ) (rows cols : List ℕ) where
             };
       }
 
-  pub carves-over : (h : Hit) → room ≤ n → Carves width room n (h ∷ []) false rows cols Full rows cols
+  pub carves-over : (h : Hit) → room ≤ n → Carves width room n (h ∷ []) false rows cols over rows cols
   carves-over h ge =
       let none : room - n ≡ 0 = omega arith in
       record {
@@ -72,33 +70,33 @@ module _ (width room n : ℕ) (rows cols : List ℕ) where
       }
 
 -- ---- some hits, and then others
-pub told-on : (room n k m : ℕ) (full : Bool) → On m ≡ carvedTo room n k full → (n + k ≤ room) × (m ≡ n + k) × (full ≡ false)
+pub told-on : (room n k m : ℕ) (full : Bool) → on m ≡ carvedTo room n k full → (n + k ≤ room) × (m ≡ n + k) × (full ≡ false)
 told-on room n k m full e =
     by-order room (n + k)
     (λ lt. let d = simp (lt-leb (n + k) room lt) at e in absurd (let z : _≡_ {A = ℕ} 0 1 = cc in omega arith))
     (λ le. go full le (simp (le-leb (n + k) room le) at e))
   where
-    go : (full : Bool) → n + k ≤ room → On m ≡ cond full (Short (n + k)) (On (n + k)) → (n + k ≤ room) × (m ≡ n + k) × (full ≡ false)
+    go : (full : Bool) → n + k ≤ room → on m ≡ cond full (short (n + k)) (on (n + k)) → (n + k ≤ room) × (m ≡ n + k) × (full ≡ false)
     go true le d = absurd (let z : _≡_ {A = ℕ} 0 1 = cc in omega arith)
     go false le d = (le, (cc), refl)
 
-pub told-short : (room n k m : ℕ) (full : Bool) → Short m ≡ carvedTo room n k full → (n + k ≤ room) × (m ≡ n + k) × (full ≡ true)
+pub told-short : (room n k m : ℕ) (full : Bool) → short m ≡ carvedTo room n k full → (n + k ≤ room) × (m ≡ n + k) × (full ≡ true)
 told-short room n k m full e =
     by-order room (n + k)
     (λ lt. let d = simp (lt-leb (n + k) room lt) at e in absurd (let z : _≡_ {A = ℕ} 0 1 = cc in omega arith))
     (λ le. go full le (simp (le-leb (n + k) room le) at e))
   where
-    go : (full : Bool) → n + k ≤ room → Short m ≡ cond full (Short (n + k)) (On (n + k)) → (n + k ≤ room) × (m ≡ n + k) × (full ≡ true)
+    go : (full : Bool) → n + k ≤ room → short m ≡ cond full (short (n + k)) (on (n + k)) → (n + k ≤ room) × (m ≡ n + k) × (full ≡ true)
     go true le d = (le, (cc), refl)
     go false le d = absurd (let z : _≡_ {A = ℕ} 0 1 = cc in omega arith)
 
-told-full : (room n k : ℕ) (b : Bool) → Full ≡ carvedTo room n k b → room < n + k
-told-full room n k b e =
+pub told-over : (room n k : ℕ) (b : Bool) → over ≡ carvedTo room n k b → room < n + k
+told-over room n k b e =
     by-order room (n + k)
     (λ lt. lt)
     (λ le. let d = simp (le-leb (n + k) room le) at e in absurd (never b d))
   where
-    never : (b : Bool) → Full ≡ cond b (Short (n + k)) (On (n + k)) → ⊥
+    never : (b : Bool) → over ≡ cond b (short (n + k)) (on (n + k)) → ⊥
     never true d = let z : _≡_ {A = ℕ} 0 1 = cc in omega arith
     never false d = let z : _≡_ {A = ℕ} 0 1 = cc in omega arith
 
@@ -122,7 +120,7 @@ module _ (width room n : ℕ) (a b : List Hit) (rows cols rows′ cols′ : List
         wide = rw (both, groups-append width a c, length-append, length-append, ga, q .wide) (sym (add-mul (length a) (length c) w));
       }
 
-  pub carves-more : (m : ℕ) (full : Bool) (r : Carved) (rows″ cols″ : List ℕ) → Carves width room n a false rows cols (On m) rows′ cols′
+  pub carves-more : (m : ℕ) (full : Bool) (r : Told) (rows″ cols″ : List ℕ) → Carves width room n a false rows cols (on m) rows′ cols′
       → Carves width room m b full rows′ cols′ r rows″ cols″ → Carves width room n (a ++ b) full rows cols r rows″ cols″
   carves-more m full r rows″ cols″ x y =
       let t = told-on room n (length a) m false (x .answer) in
@@ -133,9 +131,9 @@ module _ (width room n : ℕ) (a b : List Hit) (rows cols rows′ cols′ : List
       }
 
   -- what found no room leaves no room for more
-  pub carves-stop : (full full′ : Bool) → Carves width room n a full rows cols Full rows′ cols′ → Carves width room n (a ++ b) full′ rows cols Full rows′ cols′
+  pub carves-stop : (full full′ : Bool) → Carves width room n a full rows cols over rows′ cols′ → Carves width room n (a ++ b) full′ rows cols over rows′ cols′
   carves-stop full full′ x =
-      let lt = told-full room n (length a) full (x .answer) in
+      let lt = told-over room n (length a) full (x .answer) in
       let same : take (room - n) (a ++ b) ≡ take (room - n) a = take-append-le (room - n) a b (omega arith) in
       let long : room < n + length (a ++ b) = simp length-append (omega arith) in
       record {
@@ -144,7 +142,7 @@ module _ (width room n : ℕ) (a b : List Hit) (rows cols rows′ cols′ : List
       }
 
 -- the hits may be said another way
-pub carves-as : (width room n : ℕ) (a b : List Hit) (full full′ : Bool) (rows cols : List ℕ) (r : Carved) (rows′ cols′ : List ℕ) → a ≡ b → full ≡ full′
+pub carves-as : (width room n : ℕ) (a b : List Hit) (full full′ : Bool) (rows cols : List ℕ) (r : Told) (rows′ cols′ : List ℕ) → a ≡ b → full ≡ full′
     → Carves width room n a full rows cols r rows′ cols′ → Carves width room n b full′ rows cols r rows′ cols′
 carves-as width room n a b full full′ rows cols r rows′ cols′ e f x = rw (e, f) at x
 

@@ -1,39 +1,37 @@
 -- What a call over tables promises, whatever the carver, of its two ways out: a check refused it, or its work is done.
 -- Assumes nothing.
-use Prim.Native.Nat.{ℕ, _≤_}
-use mathlib.Core.Path.{_≡_, refl, ap, _∙_}
+use Prim.Native.Nat.{ℕ, _≤_, _<_}
+use mathlib.Core.Path.{_≡_, refl, sym, ap, _∙_}
 use mathlib.Core.Bool.{Bool, true, false, _||_}
 use mathlib.Core.List.{List}
+use native.Mathlib.Nat.{le-of-lt, min-eq-left, min-eq-right}
 use native.Mathlib.Omega.{arith}
-use borrow.Author.Tests.{not-false, eqb-true, ltb-false}
+use borrow.Author.Tests.{not-false, eqb-true, ltb-false, le-leb, lt-leb, le-ltb, lt-ltb}
 use lib.Dec.{ltb, eqb}
-use lib.ListN.{length, replicate}
+use lib.ListN.{length, getD, replicate}
 use Rattle.page.proofs.Laws.{size-range}
 use Rattle.page.specs.Page.{sizeFits, wholePages}
-use Rattle.sheet.proofs.Laws.{none-holds}
+use Rattle.record.proofs.Numbers.{by-order}
+use Rattle.sheet.proofs.Laws.{none-holds, count-fits}
 use Rattle.sheet.specs.Columns.{roomOf}
-use Rattle.sheet.specs.Limits.{largestRegion, hintsKnown}
+use Rattle.sheet.specs.Filled.{filledNumber, filledWritten}
+use Rattle.sheet.specs.Limits.{mostColumns, largestRegion, hintsKnown}
 use Rattle.sheet.specs.Refusal.{firstHeld}
+use Rattle.sheet.specs.declared.filled.Filled.{Filled}
+use Rattle.sheet.specs.declared.filled.Filled.the-variants.{Done, Full, Refused as Barred}
+use Rattle.sheet.specs.declared.refusal.Checked.{Checked}
 use Rattle.sheet.specs.declared.refusal.Checked.the-variants.{Passed, Refused as Held}
 use Rattle.sheet.specs.declared.refusal.Refusal.{Refusal}
-use Rattle.walk.specs.Carve.{sumOf, widest, countsFit, mostTables, tableChecks, Carver, tablesHits, tablesOverflow, carvedAnswer, carvedRows, carvedCols, carvedNumber, carvedWritten}
+use Rattle.walk.specs.Carve.{Hit, sumOf, widest, countsFit, mostTables, tableChecks, Carver, tablesHits, tablesOverflow, carvedAnswer, carvedRows, carvedCols, carvedNumber, carvedWritten, pageAnswerOf, pageRowsOf, pageColsOf, pageNumberOf, pageWrittenOf}
 use Rattle.walk.specs.Collect.{walkedNumber, walkedWritten, clearedUnless}
-use Rattle.walk.specs.Inner.{Tabled}
+use Rattle.walk.specs.Inner.{on, over, Carves, Tabled, TablesFit, FilledIs}
 use Rattle.walk.specs.declared.walk.Walked.{Walked}
 use Rattle.walk.specs.declared.walk.Walked.the-variants.{Refused}
+use Rattle.walk.proofs.Carving.{told-on, told-over, puts-all}
 use Rattle.walk.proofs.Laws.{number-is, written-is}
+use Rattle.walk.proofs.Summing.{count-at, widest-least}
 
 -- ---- tables that have passed the checks
-pub record TablesFit (len size : ℕ) (roots counts hints : List ℕ) : Type 0 where
-  pub fit : countsFit counts ≡ true
-  pub alike : length roots ≡ length counts
-  pub sums : sumOf counts ≡ length hints
-  pub known : hintsKnown hints ≡ true
-  pub small : len ≤ largestRegion
-  pub few : length roots ≤ mostTables
-  pub low : 512 ≤ size
-  pub high : size ≤ 65536
-
 neither : (a b : Bool) → (a || b) ≡ false → (a ≡ false) × (b ≡ false)
 neither true b e = absurd (let z : _≡_ {A = ℕ} 0 1 = cc in omega arith)
 neither false b e = (refl, e)
@@ -55,6 +53,14 @@ tables-fit len size roots counts hints e =
       low = range .0;
       high = range .1;
     }
+
+-- a table of them
+pub table-fits : (len size : ℕ) (roots counts hints : List ℕ) (t : ℕ) → TablesFit len size roots counts hints → t < length roots
+    → (1 ≤ getD counts t 0) × (getD counts t 0 ≤ mostColumns) × (getD counts t 0 ≤ widest counts)
+table-fits len size roots counts hints t f h =
+    let below : t < length counts = omega (arith, f .alike) in
+    let k = count-fits (getD counts t 0) (count-at counts t (f .fit) below) in
+    (k .0, k .1, widest-least counts t below)
 
 -- ---- the two ways out
 module _ (carve : Carver) (db : List ℕ) (size : ℕ) (roots counts hints flags stack rows cols : List ℕ) where
@@ -94,3 +100,56 @@ module _ (carve : Carver) (db : List ℕ) (size : ℕ) (roots counts hints flags
   unfolding carvedAnswer carvedRows carvedCols
   tables-passed r rows′ cols′ e x =
       promised r rows′ cols′ (replicate (length flags) 0) (replicate (length stack) 0) (rw e (x .answer)) (rw e (x .rows-are)) (rw e (x .cols-are)) (rw e) (rw e)
+
+-- ---- a call on one page, whatever its checks
+module _ (width room : ℕ) (hits : List Hit) (rows cols rows′ cols′ : List ℕ) (is : room ≡ roomOf (length rows) (length cols) width) where
+  pub page-done : (n : ℕ) → Carves width room 0 hits false rows cols (on n) rows′ cols′ → FilledIs hits width rows cols (Done n) rows′ cols′
+  page-done n x =
+      let t = told-on room 0 (length hits) n false (x .answer) in
+      let p = puts-all width room hits rows cols rows′ cols′ is (x .puts) in
+      let k : n ≡ length hits = omega arith in
+      record {
+        answer = rw (← is, k) (simp (le-leb (length hits) room (omega (arith, t .0))));
+        rows-are = rw (← is) (p .0);
+        cols-are = rw (← is) (p .1);
+      }
+
+  pub page-over : Carves width room 0 hits false rows cols over rows′ cols′ → FilledIs hits width rows cols (Full room) rows′ cols′
+  page-over x =
+      let lt = told-over room 0 (length hits) false (x .answer) in
+      let p = puts-all width room hits rows cols rows′ cols′ is (x .puts) in
+      record {
+        answer = rw (← is) (simp (lt-leb (length hits) room (omega arith)));
+        rows-are = rw (← is) (p .0);
+        cols-are = rw (← is) (p .1);
+      }
+
+module _ (c : Checked) (hits : List Hit) (width : ℕ) (rows cols : List ℕ) where
+  -- the clauses of such a call
+  abbrev PagePromise : Filled → List ℕ → List ℕ → Type 0
+  PagePromise r rows′ cols′ =
+      (r ≡ pageAnswerOf c hits width (length rows) (length cols))
+      × ((rows′ ≡ pageRowsOf c hits width rows cols)
+      × ((cols′ ≡ pageColsOf c hits width rows cols)
+      × ((filledNumber r ≡ pageNumberOf c hits width (length rows) (length cols))
+      × (filledWritten r ≡ pageWrittenOf c hits width (length rows) (length cols)))))
+
+  pub page-refused : (r : Refusal) → c ≡ Held r → PagePromise (Barred r) rows cols
+  page-refused r e = rw e (refl, (refl, (refl, (refl, refl))))
+
+  pub page-passed : (r : Filled) (rows′ cols′ : List ℕ) → c ≡ Passed → FilledIs hits width rows cols r rows′ cols′ → PagePromise r rows′ cols′
+  page-passed r rows′ cols′ e x =
+      let room = roomOf (length rows) (length cols) width in
+      let n = length hits in
+      rw e (
+        x .answer,
+        (
+          x .rows-are,
+          (
+            x .cols-are,
+            by-order room n
+                (λ lt. rw (x .answer) (simp (lt-leb n room lt, lt-ltb room n lt) (refl, sym (min-eq-left (le-of-lt lt)))))
+                (λ le. rw (x .answer) (simp (le-leb n room le, le-ltb room n le) (refl, sym (min-eq-right le)))),
+          ),
+        ),
+      )

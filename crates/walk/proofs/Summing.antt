@@ -1,12 +1,12 @@
 -- Counts of columns one by one: each fits, their sum, and the widest.
 -- Assumes nothing.
-use Prim.Native.Nat.{ℕ, _+_, _-_, _≤_, _<_, max}
+use Prim.Native.Nat.{ℕ, zero, suc, _+_, _-_, _≤_, _<_, max}
 use mathlib.Core.Path.{_≡_, refl, sym, _∙_}
-use mathlib.Core.Bool.{false, _&&_}
-use mathlib.Core.List.{List, []}
+use mathlib.Core.Bool.{true, false, _&&_, and-eq-true-iff}
+use mathlib.Core.List.{List, [], _∷_}
 use mathlib.Core.Logic.{by-cases}
 use native.Mathlib.Decide.{ℕ-discrete}
-use native.Mathlib.Nat.{le-of-lt, max-zero, max-eq-left, max-eq-right}
+use native.Mathlib.Nat.{le-of-lt, le-trans, le-max-left, le-max-right, max-zero, max-eq-left, max-eq-right}
 use native.Mathlib.Numerals.{add-one}
 use native.Mathlib.Omega.{arith}
 use borrow.Author.Tests.{eq-eqb, ne-eqb}
@@ -72,3 +72,14 @@ module _ (cs : List ℕ) (i most : ℕ) (w : Widest cs i most) where
 
 pub widest-none : (cs : List ℕ) → Widest cs 0 0
 widest-none cs = sym (max-eq-right (omega arith))
+
+-- ---- one of the counts
+pub count-at : (cs : List ℕ) (i : ℕ) → countsFit cs ≡ true → i < length cs → countFits (getD cs i 0) ≡ true
+count-at [] i e h = absurd (omega arith)
+count-at (c ∷ cs) zero e h = and-eq-true-iff (countFits c) (countsFit cs) .0 e .0
+count-at (c ∷ cs) (suc i) e h = count-at cs i (and-eq-true-iff (countFits c) (countsFit cs) .0 e .1) (omega arith)
+
+pub widest-least : (cs : List ℕ) (i : ℕ) → i < length cs → getD cs i 0 ≤ widest cs
+widest-least [] i h = absurd (omega arith)
+widest-least (c ∷ cs) zero h = le-max-left c (widest cs)
+widest-least (c ∷ cs) (suc i) h = le-trans (widest-least cs i (omega arith)) (le-max-right c (widest cs))

@@ -12,22 +12,21 @@ use lib.ListN.{length, getD, take, drop, replicate, length-append, drop-of-lengt
 use lib.Seq.{drop-cons, drop-drop}
 use Rattle.record.proofs.Numbers.{by-order}
 use Rattle.sheet.specs.Columns.{roomOf}
-use Rattle.walk.specs.Carve.{Hit, widest, Table, tablesOf, Carver, hitsFrom, overflowFrom, tablesHits, tablesOverflow, tablesAnswer, tablesWritten}
+use Rattle.walk.specs.Carve.{Hit, sumOf, widest, Table, tablesOf, Carver, hitsFrom, overflowFrom, tablesHits, tablesOverflow, tablesAnswer, tablesWritten}
 use Rattle.walk.specs.Collect.{walkedOf}
-use Rattle.walk.specs.Inner.{tops, rest, LeafIs, carvedTo, Carves, Tabled}
+use Rattle.walk.specs.Inner.{tops, rest, LeafIs, Told, on, over, short, carvedTo, Carves, Tabled}
 use Rattle.walk.specs.Walk.{Walk, through, stackFull, walk, onward, overflow, pushAll, hitsOf, overflows}
-use Rattle.walk.specs.declared.inner.Carved.{Carved}
-use Rattle.walk.specs.declared.inner.Carved.the-variants.{On, Full as Over, Short as Stopped}
 use Rattle.walk.specs.declared.walk.Walked.{Walked}
 use Rattle.walk.specs.declared.walk.Walked.the-variants.{Done, Full, Short}
 use Rattle.walk.proofs.Along.{Along, along-start, along-leaf, along-more, along-done, along-full, walk-none}
 use Rattle.walk.proofs.Carving.{carves-none, carves-more, carves-stop, carves-as, told-on, told-short, puts-all}
+use Rattle.walk.proofs.Summing.{sum-at}
 
 -- ---- the leaves of one table: `done` was carved behind n₀ rows, and there are n rows now
 pub record Leaves (carve : ℕ → List Hit) (whole : Walk) (db : List ℕ) (size depth count width room n₀ : ℕ) (rows₀ cols₀ flags stack rows cols : List ℕ) (top n : ℕ) : Type 0 where
   pub done : List Hit
   pub along : Along carve whole db size depth count flags stack top done
-  pub carved : Carves width room n₀ done false rows₀ cols₀ (On n) rows cols
+  pub carved : Carves width room n₀ done false rows₀ cols₀ (on n) rows cols
 
 pub leaves-start : (carve : ℕ → List Hit) (db : List ℕ) (size depth root count width room n : ℕ) (rows cols flags stack : List ℕ) (top : ℕ)
     → onward (tops stack top) ≡ pushAll depth (root ∷ []) [] → flags ≡ replicate count 0 → length stack ≡ depth → top ≤ depth → length db / size ≤ count → n ≤ room
@@ -37,7 +36,7 @@ leaves-start carve db size depth root count width room n rows cols flags stack t
 
 -- the root found no room
 pub leaves-none : (carve : ℕ → List Hit) (db : List ℕ) (size depth root width room n : ℕ) (rows cols : List ℕ) → overflow ≡ pushAll depth (root ∷ []) [] → n ≤ room
-    → Carves width room n (hitsOf carve (walk db size depth root)) (overflows (walk db size depth root)) rows cols (Stopped n) rows cols
+    → Carves width room n (hitsOf carve (walk db size depth root)) (overflows (walk db size depth root)) rows cols (short n) rows cols
 leaves-none carve db size depth root width room n rows cols e h =
     let w = walk-none db size depth root e in
     let s : n + 0 ≡ n = omega arith in
@@ -46,48 +45,52 @@ leaves-none carve db size depth root width room n rows cols e h =
 module _ (carve : ℕ → List Hit) (whole : Walk) (db : List ℕ) (size depth count width room n₀ : ℕ) (rows₀ cols₀ flags stack rows cols : List ℕ) (top n : ℕ)
     (w : Leaves carve whole db size depth count width room n₀ rows₀ cols₀ flags stack rows cols top n) where
   module _ (most : ℕ) (flags′ stack′ : List ℕ) (p t : ℕ) (x : LeafIs db size (rest (w .along .fuel) db size flags stack top) most flags′ stack′ p t) (rows′ cols′ : List ℕ) where
-    pub leaves-on : (m : ℕ) → Carves width room n (carve p) false rows cols (On m) rows′ cols′ → length stack′ ≡ length stack → length flags′ ≡ length flags
+    pub leaves-on : (m : ℕ) → Carves width room n (carve p) false rows cols (on m) rows′ cols′ → length stack′ ≡ length stack → length flags′ ≡ length flags
         → Leaves carve whole db size depth count width room n₀ rows₀ cols₀ flags′ stack′ rows′ cols′ t m
     leaves-on m y ls lf =
         record {
           done = w .done ++ carve p;
           along = along-leaf carve whole db size depth count flags stack top (w .done) (w .along) most flags′ stack′ p t x ls lf;
-          carved = carves-more width room n₀ (w .done) (carve p) rows₀ cols₀ rows cols n false (On m) rows′ cols′ (w .carved) y;
+          carved = carves-more width room n₀ (w .done) (carve p) rows₀ cols₀ rows cols n false (on m) rows′ cols′ (w .carved) y;
         }
 
-    pub leaves-over : Carves width room n (carve p) false rows cols Over rows′ cols′
-        → Carves width room n₀ (hitsOf carve whole) (overflows whole) rows₀ cols₀ Over rows′ cols′
+    pub leaves-over : Carves width room n (carve p) false rows cols over rows′ cols′
+        → Carves width room n₀ (hitsOf carve whole) (overflows whole) rows₀ cols₀ over rows′ cols′
     leaves-over y =
         let more = along-more carve whole db size depth count flags stack top (w .done) (w .along) most flags′ stack′ p t x in
-        let c = carves-more width room n₀ (w .done) (carve p) rows₀ cols₀ rows cols n false Over rows′ cols′ (w .carved) y in
+        let c = carves-more width room n₀ (w .done) (carve p) rows₀ cols₀ rows cols n false over rows′ cols′ (w .carved) y in
         rw (more .1) at (carves-stop width room n₀ (w .done ++ carve p) (more .0) rows₀ cols₀ rows′ cols′ false (overflows whole) c)
 
-  pub leaves-done : rest (w .along .fuel) db size flags stack top ≡ through → Carves width room n₀ (hitsOf carve whole) (overflows whole) rows₀ cols₀ (On n) rows cols
+  pub leaves-fit : n ≤ room
+  leaves-fit = let t = told-on room n₀ (length (w .done)) n false (w .carved .answer) in omega (arith, t .0, t .1)
+
+  pub leaves-done : rest (w .along .fuel) db size flags stack top ≡ through → Carves width room n₀ (hitsOf carve whole) (overflows whole) rows₀ cols₀ (on n) rows cols
   leaves-done e =
       let d = along-done carve whole db size depth count flags stack top (w .done) (w .along) e in
-      carves-as width room n₀ (w .done) (hitsOf carve whole) false (overflows whole) rows₀ cols₀ (On n) rows cols (d .0) (sym (d .1)) (w .carved)
+      carves-as width room n₀ (w .done) (hitsOf carve whole) false (overflows whole) rows₀ cols₀ (on n) rows cols (d .0) (sym (d .1)) (w .carved)
 
-  pub leaves-full : rest (w .along .fuel) db size flags stack top ≡ stackFull → Carves width room n₀ (hitsOf carve whole) (overflows whole) rows₀ cols₀ (Stopped n) rows cols
+  pub leaves-full : rest (w .along .fuel) db size flags stack top ≡ stackFull → Carves width room n₀ (hitsOf carve whole) (overflows whole) rows₀ cols₀ (short n) rows cols
   leaves-full e =
       let d = along-full carve whole db size depth count flags stack top (w .done) (w .along) e in
       let t = told-on room n₀ (length (w .done)) n false (w .carved .answer) in
-      let stopped : Stopped n ≡ carvedTo room n₀ (length (w .done)) true = rw (t .1) (simp (le-leb (n₀ + length (w .done)) room (t .0))) in
-      carves-as width room n₀ (w .done) (hitsOf carve whole) true (overflows whole) rows₀ cols₀ (Stopped n) rows cols (d .0) (sym (d .1))
+      let stopped : short n ≡ carvedTo room n₀ (length (w .done)) true = rw (t .1) (simp (le-leb (n₀ + length (w .done)) room (t .0))) in
+      carves-as width room n₀ (w .done) (hitsOf carve whole) true (overflows whole) rows₀ cols₀ (short n) rows cols (d .0) (sym (d .1))
       (record { answer = stopped; puts = w .carved .puts })
 
 -- ---- the tables
 -- t tables are carved, their hints end at `from`, and there are n rows
 pub record Tables (carve : Carver) (db : List ℕ) (size : ℕ) (roots counts hints : List ℕ) (depth width room : ℕ) (rows₀ cols₀ rows cols : List ℕ) (t from n : ℕ) : Type 0 where
   pub done : List Hit
-  pub carved : Carves width room 0 done false rows₀ cols₀ (On n) rows cols
+  pub carved : Carves width room 0 done false rows₀ cols₀ (on n) rows cols
   pub hits : done ++ hitsFrom (λ root. walk db size depth root) carve t (tablesOf (drop t roots) (drop t counts) (drop from hints)) ≡ tablesHits carve db size roots counts hints depth
   pub ends : overflowFrom (λ root. walk db size depth root) (tablesOf (drop t roots) (drop t counts) (drop from hints)) ≡ tablesOverflow db size roots counts hints depth
+  pub cut : from + sumOf (drop t counts) ≡ sumOf counts
 
 pub tables-start : (carve : Carver) (db : List ℕ) (size : ℕ) (roots counts hints : List ℕ) (depth width room : ℕ) (rows cols : List ℕ)
     → Tables carve db size roots counts hints depth width room rows cols rows cols 0 0 0
 unfolding tablesHits tablesOverflow
 tables-start carve db size roots counts hints depth width room rows cols =
-    record { done = []; carved = carves-none width room 0 rows cols (omega arith); hits = refl; ends = refl }
+    record { done = []; carved = carves-none width room 0 rows cols (omega arith); hits = refl; ends = refl; cut = omega arith }
 
 module _ (carve : Carver) (db : List ℕ) (size : ℕ) (roots counts hints : List ℕ) (depth width room : ℕ) (rows₀ cols₀ rows cols : List ℕ) (t from n : ℕ)
     (w : Tables carve db size roots counts hints depth width room rows₀ cols₀ rows cols t from n) where
@@ -114,47 +117,55 @@ module _ (carve : Carver) (db : List ℕ) (size : ℕ) (roots counts hints : Lis
     ends-are : cond (overflows own) true (overflowFrom walkOf later) ≡ tablesOverflow db size roots counts hints depth
     ends-are = rw tables-are at (w .ends)
 
+    -- its hints are there
+    pub tables-inside : from + getD counts t 0 ≤ sumOf counts
+    tables-inside = omega (arith, w .cut, sum-at counts t under)
+
     module _ (rows′ cols′ : List ℕ) where
-      pub tables-on : (m : ℕ) → Carves width room n found (overflows own) rows cols (On m) rows′ cols′
+      pub tables-on : (m : ℕ) → Carves width room n found (overflows own) rows cols (on m) rows′ cols′
           → Tables carve db size roots counts hints depth width room rows₀ cols₀ rows′ cols′ (t + 1) (from + getD counts t 0) m
       tables-on m x =
           let told = told-on room n (length found) m (overflows own) (x .answer) in
           record {
             done = w .done ++ found;
-            carved = carves-more width room 0 (w .done) found rows₀ cols₀ rows cols n false (On m) rows′ cols′ (w .carved) (rw (told .2) at x);
+            carved = carves-more width room 0 (w .done) found rows₀ cols₀ rows cols n false (on m) rows′ cols′ (w .carved) (rw (told .2) at x);
             hits = rw (add-one t) (rw (told .2, add-one t) at hits-are);
             ends = rw (told .2) at ends-are;
+            cut = omega (arith, w .cut, sum-at counts t under);
           }
 
-      pub tables-over : Carves width room n found (overflows own) rows cols Over rows′ cols′
-          → Carves width room 0 (tablesHits carve db size roots counts hints depth) (tablesOverflow db size roots counts hints depth) rows₀ cols₀ Over rows′ cols′
+      pub tables-over : Carves width room n found (overflows own) rows cols over rows′ cols′
+          → Carves width room 0 (tablesHits carve db size roots counts hints depth) (tablesOverflow db size roots counts hints depth) rows₀ cols₀ over rows′ cols′
       tables-over x =
-          let c = carves-more width room 0 (w .done) found rows₀ cols₀ rows cols n (overflows own) Over rows′ cols′ (w .carved) x in
+          let c = carves-more width room 0 (w .done) found rows₀ cols₀ rows cols n (overflows own) over rows′ cols′ (w .carved) x in
           let tail = cond (overflows own) [] (hitsFrom walkOf carve (suc t) later) in
           rw hits-are at (carves-stop width room 0 (w .done ++ found) tail rows₀ cols₀ rows′ cols′ (overflows own) (tablesOverflow db size roots counts hints depth) c)
 
-      pub tables-short : (m : ℕ) → Carves width room n found (overflows own) rows cols (Stopped m) rows′ cols′
-          → Carves width room 0 (tablesHits carve db size roots counts hints depth) (tablesOverflow db size roots counts hints depth) rows₀ cols₀ (Stopped m) rows′ cols′
+      pub tables-short : (m : ℕ) → Carves width room n found (overflows own) rows cols (short m) rows′ cols′
+          → Carves width room 0 (tablesHits carve db size roots counts hints depth) (tablesOverflow db size roots counts hints depth) rows₀ cols₀ (short m) rows′ cols′
       tables-short m x =
           let told = told-short room n (length found) m (overflows own) (x .answer) in
-          let c = carves-more width room 0 (w .done) found rows₀ cols₀ rows cols n true (Stopped m) rows′ cols′ (w .carved) (rw (told .2) at x) in
+          let c = carves-more width room 0 (w .done) found rows₀ cols₀ rows cols n true (short m) rows′ cols′ (w .carved) (rw (told .2) at x) in
           let hits : w .done ++ found ≡ tablesHits carve db size roots counts hints depth = sym (append-nil (w .done ++ found)) ∙ rw (told .2) at hits-are in
           let ends : true ≡ tablesOverflow db size roots counts hints depth = rw (told .2) at ends-are in
-          carves-as width room 0 (w .done ++ found) (tablesHits carve db size roots counts hints depth) true (tablesOverflow db size roots counts hints depth) rows₀ cols₀ (Stopped m) rows′ cols′ hits ends c
+          carves-as width room 0 (w .done ++ found) (tablesHits carve db size roots counts hints depth) true (tablesOverflow db size roots counts hints depth) rows₀ cols₀ (short m) rows′ cols′ hits ends c
+
+  pub tables-room : n ≤ room
+  tables-room = let told = told-on room 0 (length (w .done)) n false (w .carved .answer) in omega (arith, told .0, told .1)
 
   pub tables-done : length roots ≤ t
-      → Carves width room 0 (tablesHits carve db size roots counts hints depth) (tablesOverflow db size roots counts hints depth) rows₀ cols₀ (On n) rows cols
+      → Carves width room 0 (tablesHits carve db size roots counts hints depth) (tablesOverflow db size roots counts hints depth) rows₀ cols₀ (on n) rows cols
   tables-done h =
       let none : drop t roots ≡ [] = drop-of-length-le roots h in
       let hits : w .done ≡ tablesHits carve db size roots counts hints depth = sym (append-nil (w .done)) ∙ rw none at (w .hits) in
       let ends : false ≡ tablesOverflow db size roots counts hints depth = rw none at (w .ends) in
-      carves-as width room 0 (w .done) (tablesHits carve db size roots counts hints depth) false (tablesOverflow db size roots counts hints depth) rows₀ cols₀ (On n) rows cols hits ends (w .carved)
+      carves-as width room 0 (w .done) (tablesHits carve db size roots counts hints depth) false (tablesOverflow db size roots counts hints depth) rows₀ cols₀ (on n) rows cols hits ends (w .carved)
 
 -- ---- all tables
-abbrev pub walkedAs : ℕ → Carved → Walked
-walkedAs room (On n) = Done n
-walkedAs room Over = Full room
-walkedAs room (Stopped n) = Short n
+abbrev pub walkedAs : ℕ → Told → Walked
+walkedAs room (on n) = Done n
+walkedAs room over = Full room
+walkedAs room (short n) = Short n
 
 walked-is : (room k : ℕ) (full : Bool) → walkedAs room (carvedTo room 0 k full) ≡ walkedOf room k full
 walked-is room k full =
@@ -162,7 +173,7 @@ walked-is room k full =
     (λ lt. rw zero-add (simp (lt-leb k room lt, lt-ltb room k lt)))
     (λ le. rw zero-add (simp (le-leb k room le, le-ltb room k le) (by full)))
   where
-    by : (b : Bool) → walkedAs room (cond b (Stopped k) (On k)) ≡ cond b (Short k) (Done k)
+    by : (b : Bool) → walkedAs room (cond b (short k) (on k)) ≡ cond b (Short k) (Done k)
     by true = refl
     by false = refl
 
@@ -171,7 +182,7 @@ module _ (carve : Carver) (db : List ℕ) (size : ℕ) (roots counts hints : Lis
   tabled-few h =
       record { answer = simp (lt-ltb flags (length db / size) h); rows-are = simp (lt-ltb flags (length db / size) h); cols-are = simp (lt-ltb flags (length db / size) h) }
 
-  pub tabled : (room : ℕ) (r : Carved) (rows′ cols′ : List ℕ) → length db / size ≤ flags → room ≡ roomOf (length rows) (length cols) (widest counts)
+  pub tabled : (room : ℕ) (r : Told) (rows′ cols′ : List ℕ) → length db / size ≤ flags → room ≡ roomOf (length rows) (length cols) (widest counts)
       → Carves (widest counts) room 0 (tablesHits carve db size roots counts hints depth) (tablesOverflow db size roots counts hints depth) rows cols r rows′ cols′
       → Tabled carve db size roots counts hints flags depth rows cols (walkedAs room r) rows′ cols′
   tabled room r rows′ cols′ enough is x =

@@ -1,16 +1,20 @@
 -- Carving over walks (rules 9.12 to 9.16): one definition for all that carve pages. A carver of pages knows of no room: that is applied once, at the end.
 -- Assumes nothing.
-use Prim.Native.Nat.{ℕ, suc, _+_, _-_, max}
+use Prim.Native.Nat.{ℕ, suc, _+_, _-_, min, max}
 use mathlib.Core.Bool.{Bool, true, false, cond, not, _&&_, _||_}
 use mathlib.Core.List.{List, [], _∷_, _++_}
 use lib.Dec.{ltb, eqb}
 use lib.ListN.{length, take, drop}
 use Rattle.page.specs.Page.{sizeFits, wholePages}
 use Rattle.sheet.specs.Columns.{unusedWords, roomOf}
+use Rattle.sheet.specs.Filled.{filledBy}
 use Rattle.sheet.specs.Limits.{largestRegion, countFits, hintsKnown}
-use Rattle.sheet.specs.Refusal.{Check, firstHeld, after, afterOrKept}
+use Rattle.sheet.specs.Refusal.{Check, firstHeld, refusalNumber, after, afterOr0, afterOrKept}
 use Rattle.sheet.specs.Sheet.{overlay, rowsWords, columnsWords}
 use Rattle.sheet.specs.declared.columns.Column.{Column}
+use Rattle.sheet.specs.declared.filled.Filled.{Filled}
+use Rattle.sheet.specs.declared.filled.Filled.the-variants.{Refused as Barred}
+use Rattle.sheet.specs.declared.refusal.Checked.{Checked}
 use Rattle.sheet.specs.declared.refusal.Refusal.the-variants.{ColumnCount, Malformed, TooLarge, PageSize}
 use Rattle.sheet.specs.declared.row.Row.{Row}
 use Rattle.walk.specs.Collect.{walkedOf, ifFlagged, walkNumber, walkWritten}
@@ -135,3 +139,19 @@ unfoldable pub carvedWritten : Carver → List ℕ → ℕ → List ℕ → List
 carvedWritten carve db size roots counts hints flags depth rows cols =
     walkWritten (firstHeld (tableChecks (length db) size roots counts hints)) (wholePages (length db) size) flags (roomOf rows cols (widest counts))
     (length (tablesHits carve db size roots counts hints depth))
+
+-- ---- Rule 9.15: a call on one page: its checks came to c, and a group is as wide as the hints are many
+abbrev pub pageAnswerOf : Checked → List Hit → ℕ → ℕ → ℕ → Filled
+pageAnswerOf c hits width rows cols = after Barred c (filledBy (length hits) (roomOf rows cols width))
+
+abbrev pub pageRowsOf : Checked → List Hit → ℕ → List ℕ → List ℕ → List ℕ
+pageRowsOf c hits width rows cols = afterOrKept c (overlay (rowsWords (rowsOf (take (roomOf (length rows) (length cols) width) hits))) rows) rows
+
+abbrev pub pageColsOf : Checked → List Hit → ℕ → List ℕ → List ℕ → List ℕ
+pageColsOf c hits width rows cols = afterOrKept c (overlay (groupsWords width (take (roomOf (length rows) (length cols) width) hits)) cols) cols
+
+abbrev pub pageNumberOf : Checked → List Hit → ℕ → ℕ → ℕ → ℕ
+pageNumberOf c hits width rows cols = after refusalNumber c (cond (ltb (roomOf rows cols width) (length hits)) 9 0)
+
+abbrev pub pageWrittenOf : Checked → List Hit → ℕ → ℕ → ℕ → ℕ
+pageWrittenOf c hits width rows cols = afterOr0 c (min (roomOf rows cols width) (length hits))

@@ -2,18 +2,22 @@
 -- Assumes nothing.
 use Prim.Native.Nat.{ℕ, zero, suc, _+_, _-_, _*_, _/_, _≤_, _<_}
 use mathlib.Core.Path.{_≡_}
-use mathlib.Core.Bool.{Bool, cond}
+use mathlib.Core.Bool.{Bool, true, cond}
 use mathlib.Core.List.{List, [], _∷_}
 use lib.Dec.{leb, eqb}
 use lib.ListN.{length, getD, take}
 use lib.Seq.{sets}
-use Rattle.sheet.specs.Limits.{wordsPerRow, wordsPerEntry}
+use Rattle.sheet.specs.declared.filled.Filled.{Filled}
+use Rattle.sheet.specs.declared.refusal.Checked.the-variants.{Passed}
+use Rattle.sheet.specs.Limits.{wordsPerRow, wordsPerEntry, largestRegion, hintsKnown}
 use Rattle.sheet.specs.Sheet.{overlay, rowsWords}
-use Rattle.walk.specs.Carve.{Hit, rowsOf, groupsWords, widest, Carver, tablesAnswer, tablesWritten}
+use Rattle.walk.specs.Carve.{Hit, rowsOf, groupsWords, mostTables, sumOf, widest, countsFit, Carver, tablesAnswer, tablesWritten, pageAnswerOf, pageRowsOf, pageColsOf}
 use Rattle.walk.specs.Collect.{leavesAnswer, leavesWritten}
 use Rattle.walk.specs.Walk.{Popped, leafThen, onward, overflow, Walk, through, stackFull, leaf, walkFrom}
 use Rattle.walk.specs.declared.inner.Carved.{Carved}
-use Rattle.walk.specs.declared.inner.Carved.the-variants.{On as More, Full as Over, Short}
+use Rattle.walk.specs.declared.inner.Carved.the-variants.{On as More, Full as NoMore}
+use Rattle.walk.specs.declared.inner.CarvedTable.{CarvedTable}
+use Rattle.walk.specs.declared.inner.CarvedTable.the-variants.{On as Further, Full as NoFurther, Short}
 use Rattle.walk.specs.declared.inner.Pushed.{Pushed}
 use Rattle.walk.specs.declared.inner.Pushed.the-variants.{On, Overflow}
 use Rattle.walk.specs.declared.inner.Step.{Step}
@@ -93,11 +97,26 @@ pub record Puts (width room n : ℕ) (hs : List Hit) (rows cols rows′ cols′ 
   -- each group is as wide as it should be
   pub wide : length (groupsWords width (take (room - n) hs)) ≡ length (take (room - n) hs) * (wordsPerEntry * width)
 
--- the answer where k hits come, and the stack overflowed or not
-abbrev pub carvedTo : ℕ → ℕ → ℕ → Bool → Carved
-carvedTo room n k full = cond (leb (n + k) room) (cond full (Short (n + k)) (More (n + k))) Over
+-- what carving came to: so many rows; a row found no room; a page found the stack full, with so many rows
+pub data Told : Type 0 where
+  on : ℕ → Told
+  over : Told
+  short : ℕ → Told
 
-pub record Carves (width room n : ℕ) (hs : List Hit) (full : Bool) (rows cols : List ℕ) (r : Carved) (rows′ cols′ : List ℕ) : Type 0 where
+abbrev pub carvedAs : Carved → Told
+carvedAs (More n) = on n
+carvedAs NoMore = over
+
+abbrev pub tableAs : CarvedTable → Told
+tableAs (Further n) = on n
+tableAs NoFurther = over
+tableAs (Short n) = short n
+
+-- where k hits come, and the stack was full or not
+abbrev pub carvedTo : ℕ → ℕ → ℕ → Bool → Told
+carvedTo room n k full = cond (leb (n + k) room) (cond full (short (n + k)) (on (n + k))) over
+
+pub record Carves (width room n : ℕ) (hs : List Hit) (full : Bool) (rows cols : List ℕ) (r : Told) (rows′ cols′ : List ℕ) : Type 0 where
   pub answer : r ≡ carvedTo room n (length hs) full
   pub puts : Puts width room n hs rows cols rows′ cols′
 
@@ -106,3 +125,20 @@ pub record Tabled (carve : Carver) (db : List ℕ) (size : ℕ) (roots counts hi
   pub answer : r ≡ tablesAnswer carve db size roots counts hints flags depth (length rows) (length cols)
   pub rows-are : rows′ ≡ overlay (rowsWords (rowsOf (tablesWritten carve db size roots counts hints flags depth (length rows) (length cols)))) rows
   pub cols-are : cols′ ≡ overlay (groupsWords (widest counts) (tablesWritten carve db size roots counts hints flags depth (length rows) (length cols))) cols
+
+-- tables that have passed the checks
+pub record TablesFit (len size : ℕ) (roots counts hints : List ℕ) : Type 0 where
+  pub fit : countsFit counts ≡ true
+  pub alike : length roots ≡ length counts
+  pub sums : sumOf counts ≡ length hints
+  pub known : hintsKnown hints ≡ true
+  pub small : len ≤ largestRegion
+  pub few : length roots ≤ mostTables
+  pub low : 512 ≤ size
+  pub high : size ≤ 65536
+
+-- what carving one page leaves
+pub record FilledIs (hits : List Hit) (width : ℕ) (rows cols : List ℕ) (r : Filled) (rows′ cols′ : List ℕ) : Type 0 where
+  pub answer : r ≡ pageAnswerOf Passed hits width (length rows) (length cols)
+  pub rows-are : rows′ ≡ pageRowsOf Passed hits width rows cols
+  pub cols-are : cols′ ≡ pageColsOf Passed hits width rows cols

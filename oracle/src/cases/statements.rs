@@ -7,7 +7,7 @@ use crate::random::Random;
 use crate::rules::statement::{column_list, hints};
 use crate::runner::Sink;
 
-const TYPES: [&str; 29] = [
+pub const TYPES: [&str; 29] = [
     "INT",
     "INTEGER",
     "INT8",
@@ -39,7 +39,7 @@ const TYPES: [&str; 29] = [
     "A",
 ];
 
-const CONSTRAINTS: [&str; 12] = [
+pub const CONSTRAINTS: [&str; 12] = [
     "PRIMARY",
     "UNIQUE",
     "CHECK",

@@ -3,17 +3,13 @@
 use Prim.Native.Nat.{_+_, _-_}
 use mathlib.Core.Path.{_≡_}
 use native.Mathlib.Omega.{arith}
-use denote.Ref.{now}
 use borrow.Author.Needs.{needs}
-use Rattle.carvelist.specs.Input.{countOf}
+use Rattle.listing.specs.Input.{countBytes}
 use Rattle.carvelist.proofs.hints_of.Statement.{statement}
 use Rattle.carvelist.proofs.hints_of.Tie as tie
 
-shared-slice-read-end : tie.Need-shared-slice-read-end
-shared-slice-read-end c = search needs
-
-cast-end : tie.Need-cast-end
-cast-end c = search needs
+count-of-requires : tie.Need-count-of-requires
+count-of-requires c κs = search needs
 
 add-end : tie.Need-add-end
 add-end c = search needs
@@ -29,18 +25,11 @@ part-result-end c = search needs
 
 returns : tie.Need-returns
 returns c =
-    let n = countOf (now (c .before .before .args .input)) in
-    let e : 1 + n - 1 ≡ n = omega arith in
-    rw e
+    let n = c .before .count-of .result in
+    let e : countBytes + n - countBytes ≡ n = omega arith in
+    rw (e, c .before .count-of .ensures)
 
 pub hints-of-spec : {M : Type 1} → statement M
 hints-of-spec =
     tie.close
-    (tie.spec
-    shared-slice-read-end
-    cast-end
-    add-end
-    sub-result
-    part-result-start
-    part-result-end
-    returns)
+    (tie.spec count-of-requires add-end sub-result part-result-start part-result-end returns)

@@ -6,15 +6,12 @@ use denote.Ref.{now}
 use lib.ListN.{length, drop, length-drop}
 use lib.Seq.{take-all}
 use borrow.Author.Needs.{needs}
-use Rattle.carvelist.specs.Input.{countOf}
+use Rattle.listing.specs.Input.{countBytes, countOf}
 use Rattle.carvelist.proofs.region_of.Statement.{statement}
 use Rattle.carvelist.proofs.region_of.Tie as tie
 
-shared-slice-read-start : tie.Need-shared-slice-read-start
-shared-slice-read-start c = search needs
-
-cast-start : tie.Need-cast-start
-cast-start c = search needs
+count-of-requires : tie.Need-count-of-requires
+count-of-requires c κs = search needs
 
 add-start : tie.Need-add-start
 add-start c = search needs
@@ -30,17 +27,11 @@ part-result-end c = search needs
 
 returns : tie.Need-returns
 returns c =
-    let s = now (c .before .before .args .input) in
-    take-all (length s - (1 + countOf s)) (drop (1 + countOf s) s) (simp length-drop (omega arith))
+    let s = now (c .before .before .before .args .input) in
+    let start = countBytes + countOf s in
+    rw (c .before .count-of .ensures) (take-all (length s - start) (drop start s) (simp length-drop (omega arith)))
 
 pub region-of-spec : {M : Type 1} → statement M
 region-of-spec =
     tie.close
-    (tie.spec
-    shared-slice-read-start
-    cast-start
-    add-start
-    sub-result
-    part-result-start
-    part-result-end
-    returns)
+    (tie.spec count-of-requires add-start sub-result part-result-start part-result-end returns)

@@ -3,8 +3,8 @@
 use mathlib.Core.Path.{sym, _∙_}
 use denote.Ref.{now}
 use borrow.Author.Needs.{needs}
-use Rattle.carvelist.proofs.Inputs.{taken, taken-sizes}
-use Rattle.carvelist.specs.Input.{Taken}
+use Rattle.listing.proofs.Laws.{taken, taken-sizes}
+use Rattle.listing.specs.Input.{Taken}
 use Rattle.carvelist.proofs.say_answer.Statement.{statement}
 use Rattle.carvelist.proofs.say_answer.Tie as tie
 

@@ -7,15 +7,15 @@ use native.Mathlib.Omega.{arith}
 use denote.Ref.{now}
 use lib.ListN.{length}
 use borrow.Author.Needs.{needs}
-use Rattle.carvelist.proofs.Parts.{Small, part-small, On, on-start, on-full, on-end}
-use Rattle.carvelist.specs.Part.{partAnswer}
+use Rattle.listing.proofs.Laws.{mostRead, Small, part-small, On, on-start, on-full, on-end}
+use Rattle.listing.specs.Part.{partRows, partAnswer}
 use Rattle.scan.specs.declared.schema_sig.Scanned.the-variants.{Full}
 use Rattle.carvelist.proofs.say_parts.Statement.{statement}
 use Rattle.carvelist.proofs.say_parts.Tie as tie
 
 abbrev Inv-loop : tie.InvT-loop
 Inv-loop region hints out₀ rows₀ cols₀ text₀ at₀ count₀ read₀ out rows cols text at count read =
-    On region hints at count read × (at ≤ length region) × (count ≤ 8 * at) × (read ≤ 34078720 * at)
+    On region hints at count read × (at ≤ length region) × (count ≤ partRows * at) × (read ≤ mostRead * at)
 
 abbrev μ-loop : tie.MeasureT-loop
 μ-loop region hints out₀ rows₀ cols₀ text₀ at₀ count₀ read₀ out rows cols text at count read = length region - at
@@ -62,21 +62,21 @@ slice-aggregate-say c = search needs
 say-requires : tie.Need-say-requires Inv-loop μ-loop
 say-requires c κs = search needs
 
-rows-in-requires : tie.Need-rows-in-requires Inv-loop μ-loop
-rows-in-requires c κs = search needs
+written-requires : tie.Need-written-requires Inv-loop μ-loop
+written-requires c κs = search needs
 
 add-count : tie.Need-add-count Inv-loop μ-loop
 add-count c =
     let p = c .before .before .before in
-    omega (arith, c .rows-in .ensures, small p .rows, p .before .before .before .before .loop .inv .1, p .before .before .before .before .loop .inv .2, p .before .before .before .before .before .before .before .before .before .before .pre)
+    omega (arith, c .written .ensures, small p .rows, p .before .before .before .before .loop .inv .1, p .before .before .before .before .loop .inv .2, p .before .before .before .before .before .before .before .before .before .before .pre)
 
-read-in-requires : tie.Need-read-in-requires Inv-loop μ-loop
-read-in-requires c κs = search needs
+read-requires : tie.Need-read-requires Inv-loop μ-loop
+read-requires c κs = search needs
 
 add-read : tie.Need-add-read Inv-loop μ-loop
 add-read c =
     let p = c .before .before .before .before in
-    omega (arith, c .read-in .ensures, small p .read, p .before .before .before .before .loop .inv .1, p .before .before .before .before .loop .inv .3, p .before .before .before .before .before .before .before .before .before .before .pre)
+    omega (arith, c .read .ensures, small p .read, p .before .before .before .before .loop .inv .1, p .before .before .before .before .loop .inv .3, p .before .before .before .before .before .before .before .before .before .before .pre)
 
 enum-known-found : tie.Need-enum-known-found Inv-loop μ-loop
 enum-known-found c = search needs
@@ -88,7 +88,7 @@ returns c =
     let none : (n place r : ℕ) → p .list-part .result .found ≡ Full n place r → ⊥ =
     λ n place r e. ⊎-elim (λ z. omega arith) (λ z. omega arith) (rw e at (c .match .keys2)) in
     let t = on-end _ _ _ _ _ _ (l .inv .1) (answer p) none (l .inv .0) in
-    rw (c .before .before .rows-in .ensures, c .before .read-in .ensures, t .0, t .1) refl
+    rw (c .before .before .written .ensures, c .before .read .ensures, t .0, t .1) refl
 
 loop-less : tie.Need-loop-less Inv-loop μ-loop
 loop-less c = let w = past c in omega (arith, w .0, w .1)
@@ -98,8 +98,8 @@ loop-again c =
     let p = c .before .before .before .before .before .before .before in
     let l = p .before .before .before .before .loop in
     let w = past c in
-    let rows = c .before .before .before .before .rows-in .ensures in
-    let read = c .before .before .before .read-in .ensures in (
+    let rows = c .before .before .before .before .written .ensures in
+    let read = c .before .before .before .read .ensures in (
       rw (rows, read) (on-full _ _ _ _ _ _ (l .inv .1) (answer p) _ _ _ (c .before .found .given .1) (w .0) (l .inv .0)),
       omega (arith, w .1),
       omega (arith, rows, small p .rows, w .0, l .inv .2),
@@ -120,9 +120,9 @@ say-parts-spec =
     array-share-prefix-text
     slice-aggregate-say
     say-requires
-    rows-in-requires
+    written-requires
     add-count
-    read-in-requires
+    read-requires
     add-read
     enum-known-found
     returns

@@ -24,6 +24,9 @@ view-entry-requires c κs = search needs
 is-compatible-requires : tie.Need-is-compatible-requires
 is-compatible-requires c κs = search needs
 
+pages-agree-requires : tie.Need-pages-agree-requires
+pages-agree-requires c κs = search needs
+
 returns : tie.Need-returns
 unfolding valueAgrees
 returns c = rw (c .before .match .keys1) (c .read-varint .ensures)
@@ -50,7 +53,7 @@ returns-6 c = rw (c .before .match .keys6) (c .is-compatible .ensures)
 
 returns-7 : tie.Need-returns-7
 unfolding valueAgrees
-returns-7 c = let r = c .match .rest in simp (ne-eqb _ _ (r .0 .0 .0 .0 .0 .1), ne-eqb _ _ (r .0 .0 .0 .0 .1), ne-eqb _ _ (r .0 .0 .0 .1), ne-eqb _ _ (r .0 .0 .1), ne-eqb _ _ (r .0 .1), ne-eqb _ _ (r .1))
+returns-7 c = let r = c .before .match .rest in simp (ne-eqb _ _ (r .0 .0 .0 .0 .0 .1), ne-eqb _ _ (r .0 .0 .0 .0 .1), ne-eqb _ _ (r .0 .0 .0 .1), ne-eqb _ _ (r .0 .0 .1), ne-eqb _ _ (r .0 .1), ne-eqb _ _ (r .1)) (c .pages-agree .ensures)
 
 pub value-agrees-spec : {M : Type 1} → statement M
 value-agrees-spec =
@@ -62,6 +65,7 @@ value-agrees-spec =
     read-entry-requires
     view-entry-requires
     is-compatible-requires
+    pages-agree-requires
     returns
     returns-2
     returns-3

@@ -11,8 +11,11 @@ returns c = search needs
 write-whole-requires : tie.Need-write-whole-requires
 write-whole-requires c κs = search needs
 
+after-requires : tie.Need-after-requires
+after-requires c κs = search needs
+
 returns-2 : tie.Need-returns-2
-returns-2 c _ = not-false _ (c .before .if1 .left)
+returns-2 c _ = not-false _ (c .before .before .if1 .left)
 
 pub say-spec : {M : Type 1} → statement M
-say-spec = tie.close (tie.spec returns write-whole-requires returns-2)
+say-spec = tie.close (tie.spec returns write-whole-requires after-requires returns-2)

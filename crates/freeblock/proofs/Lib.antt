@@ -1,0 +1,7 @@
+mod Blocks
+mod Callers
+mod Cases
+mod Chaining
+pub mod Fuel
+mod Starting
+pub mod Unique

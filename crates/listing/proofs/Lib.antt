@@ -1,0 +1,5 @@
+mod Cases
+pub mod Laws
+mod Parts
+mod Texts
+pub mod Unique

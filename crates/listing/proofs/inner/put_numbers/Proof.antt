@@ -1,0 +1,45 @@
+-- `listing::inner::put_numbers` meets its contract: its fields stand one behind the other.
+-- Assumes nothing.
+use borrow.Author.Needs.{needs}
+use Rattle.listing.proofs.Texts.{put-more}
+use Rattle.listing.specs.Text.{numbersText}
+use Rattle.listing.proofs.inner.put_numbers.Statement.{statement}
+use Rattle.listing.proofs.inner.put_numbers.Tie as tie
+
+put-field-requires : tie.Need-put-field-requires
+put-field-requires c κs = search needs
+
+put-field-requires-2 : tie.Need-put-field-requires-2
+put-field-requires-2 c κs = search needs
+
+put-hex-requires : tie.Need-put-hex-requires
+put-hex-requires c κs = search needs
+
+slice-aggregate-put-bytes : tie.Need-slice-aggregate-put-bytes
+slice-aggregate-put-bytes c = search needs
+
+put-bytes-requires : tie.Need-put-bytes-requires
+put-bytes-requires c κs = search needs
+
+same-length : tie.Need-same-length
+same-length c = search needs
+
+returns : tie.Need-returns
+unfolding numbersText
+returns c =
+    let hex = c .before .before .before .before .before .before .before in
+    let consumed = hex .before .before .before .before in
+    let offset = consumed .before .before .before .before in
+    (put-more (put-more (put-more (offset .put-field .ensures .0) (consumed .put-field2 .ensures .0)) (hex .put-hex .ensures .0)) (c .before .before .put-bytes .ensures), search needs)
+
+pub put-numbers-spec : {M : Type 1} → statement M
+put-numbers-spec =
+    tie.close
+    (tie.spec
+    put-field-requires
+    put-field-requires-2
+    put-hex-requires
+    slice-aggregate-put-bytes
+    put-bytes-requires
+    same-length
+    returns)

@@ -1,0 +1,93 @@
+-- What carvelist prints (rule 8.3), as lists of ASCII bytes.
+-- Assumes nothing.
+use Prim.Native.Nat.{ℕ, zero, suc, _+_, _*_, _/_, _%_}
+use mathlib.Core.Bool.{cond}
+use mathlib.Core.List.{List, [], _∷_, _++_}
+use lib.Dec.{ltb}
+use lib.ListN.{getD}
+use Rattle.sheet.specs.Limits.{wordsPerRow, wordsPerEntry}
+
+-- 20 digits hold every word
+abbrev pub mostDigits : ℕ
+mostDigits = 20
+
+-- of a confidence, 32 bits, there are 8
+abbrev pub hexDigits : ℕ
+hexDigits = 8
+
+-- the decimal digits of n: those of n / 10, where n is 10 or more, and then the last one. The first argument bounds their number
+unfoldable pub decimalFrom : ℕ → ℕ → List ℕ
+decimalFrom zero n = []
+decimalFrom (suc f) n = cond (ltb n 10) [] (decimalFrom f (n / 10)) ++ (48 + n % 10) ∷ []
+
+unfoldable pub decimal : ℕ → List ℕ
+decimal n = decimalFrom mostDigits n
+
+-- a number, and the blank that ends its field
+abbrev pub field : ℕ → List ℕ
+field n = decimal n ++ 32 ∷ []
+
+-- the last hexadecimal digit of n: `0` to `9`, then `A` to `F`
+unfoldable pub hexDigit : ℕ → ℕ
+hexDigit n = cond (ltb (n % 16) 10) (48 + n % 16) (55 + n % 16)
+
+-- the last eight of them
+unfoldable pub hex8 : ℕ → List ℕ
+hex8 n =
+    hexDigit (n / 0x10000000)
+    ∷ hexDigit (n / 0x1000000)
+    ∷ hexDigit (n / 0x100000)
+    ∷ hexDigit (n / 0x10000)
+    ∷ hexDigit (n / 0x1000)
+    ∷ hexDigit (n / 0x100)
+    ∷ hexDigit (n / 0x10)
+    ∷ hexDigit n
+    ∷ []
+
+-- the type of the column k, behind a comma if it is not the first
+unfoldable pub typeText : ℕ → ℕ → List ℕ
+typeText zero kind = decimal kind
+typeText (suc k) kind = 44 ∷ decimal kind
+
+-- the types of n entries whose words start at `group`; the type is an entry's second word
+unfoldable pub typesText : List ℕ → ℕ → ℕ → List ℕ
+typesText cols group zero = []
+typesText cols group (suc k) = typesText cols group k ++ typeText k (getD cols (group + wordsPerEntry * k + 1) 0)
+
+-- offset, bytes consumed and confidence bits, each with the blank behind it
+unfoldable pub numbersText : ℕ → ℕ → ℕ → List ℕ
+numbersText offset consumed bits = field offset ++ field consumed ++ hex8 bits ++ 32 ∷ []
+
+-- the row n of both lists: its words 0, 1 and 6, its types, and a line end
+unfoldable pub lineText : List ℕ → List ℕ → ℕ → ℕ → List ℕ
+lineText rows cols width n =
+    numbersText (getD rows (n * wordsPerRow) 0) (getD rows (n * wordsPerRow + 1) 0) (getD rows (n * wordsPerRow + 6) 0)
+    ++ typesText cols (n * (wordsPerEntry * width)) width
+    ++ 10 ∷ []
+
+-- the first n rows of both lists
+unfoldable pub rowsText : List ℕ → List ℕ → ℕ → ℕ → List ℕ
+rowsText rows cols width zero = []
+rowsText rows cols width (suc n) = rowsText rows cols width n ++ lineText rows cols width n
+
+-- `offset consumed confidence types`
+unfoldable pub heading : List ℕ
+heading =
+    111 ∷ 102 ∷ 102 ∷ 115 ∷ 101 ∷ 116 ∷ 32
+    ∷ 99 ∷ 111 ∷ 110 ∷ 115 ∷ 117 ∷ 109 ∷ 101 ∷ 100 ∷ 32
+    ∷ 99 ∷ 111 ∷ 110 ∷ 102 ∷ 105 ∷ 100 ∷ 101 ∷ 110 ∷ 99 ∷ 101 ∷ 32
+    ∷ 116 ∷ 121 ∷ 112 ∷ 101 ∷ 115 ∷ 10
+    ∷ []
+
+-- `rows N read M`
+unfoldable pub totalsLine : ℕ → ℕ → List ℕ
+totalsLine rows read =
+    114 ∷ 111 ∷ 119 ∷ 115 ∷ 32 ∷ []
+    ++ decimal rows
+    ++ 32 ∷ 114 ∷ 101 ∷ 97 ∷ 100 ∷ 32 ∷ []
+    ++ decimal read
+    ++ 10 ∷ []
+
+-- `refused N`
+unfoldable pub refusalLine : ℕ → List ℕ
+refusalLine n = 114 ∷ 101 ∷ 102 ∷ 117 ∷ 115 ∷ 101 ∷ 100 ∷ 32 ∷ [] ++ decimal n ++ 10 ∷ []

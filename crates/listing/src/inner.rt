@@ -1,0 +1,146 @@
+// Text into a lent buffer: callers show by proof that there is room. Each function answers the place behind what it wrote.
+use sheet::MOST_COLUMNS;
+use sheet::WORDS_PER_ENTRY;
+use sheet::WORDS_PER_ROW;
+ghost use mathlib.Core.Path.{_≡_};
+ghost use Prim.Native.Nat.{_+_, _*_, _≤_, _<_};
+ghost use lib.ListN.{length};
+ghost use Rattle.listing.specs.Inner.{Put, mostField, mostNumbers, mostLine};
+ghost use Rattle.listing.specs.Text.{mostDigits, hexDigits, decimal, field, hexDigit, hex8, typeText, typesText, numbersText, lineText, rowsText};
+ghost use Rattle.sheet.specs.Limits.{wordsPerRow, wordsPerEntry};
+
+// The digits of the largest word.
+const MOST_DIGITS: usize = 20;
+// The digits of a confidence.
+const HEX_DIGITS: usize = 8;
+// Offset, length and each type, with the byte that ends it; the confidence with its blank.
+pub const LONGEST_LINE: usize = (2 + MOST_COLUMNS) * (MOST_DIGITS + 1) + HEX_DIGITS + 2;
+
+pub fn put_bytes(out: &mut [u8], at: usize, bytes: &[u8]) -> usize
+    requires { ⌜ at + length (now bytes) ≤ length (now out) ⌝ }
+    ensures { λ r. ⌜ Put (now (out .entry)) at (now (bytes .entry)) (now (out .exit)) r ⌝ }
+{
+    let mut i = 0;
+    while i < bytes.len() {
+        out[at + i] = bytes[i];
+        i = i + 1;
+    }
+    at + i
+}
+
+pub fn put_decimal(out: &mut [u8], at: usize, n: u64) -> usize
+    requires { ⌜ at + mostDigits ≤ length (now out) ⌝ }
+    ensures { λ r. ⌜ Put (now (out .entry)) at (decimal n) (now (out .exit)) r ⌝ }
+    ensures near { λ r. ⌜ r ≤ at + mostDigits ⌝ }
+{
+    let mut digits = [0u8; MOST_DIGITS];
+    let k = io::decimal(n, &mut digits);
+    put_bytes(out, at, &digits[..k])
+}
+
+// A number, and the blank that ends its field.
+fn put_field(out: &mut [u8], at: usize, n: u64) -> usize
+    requires { ⌜ at + mostField ≤ length (now out) ⌝ }
+    ensures { λ r. ⌜ Put (now (out .entry)) at (field n) (now (out .exit)) r ⌝ }
+    ensures near { λ r. ⌜ r ≤ at + mostField ⌝ }
+{
+    let end = put_decimal(out, at, n);
+    put_bytes(out, end, b" ")
+}
+
+fn hex_digit(n: u64) -> u8
+    ensures { λ r. ⌜ r ≡ hexDigit n ⌝ }
+{
+    let d = (n % 16) as u8;
+    if d < 10 { 48 + d } else { 55 + d }
+}
+
+fn put_hex(out: &mut [u8], at: usize, n: u64) -> usize
+    requires { ⌜ at + hexDigits ≤ length (now out) ⌝ }
+    ensures { λ r. ⌜ Put (now (out .entry)) at (hex8 n) (now (out .exit)) r ⌝ }
+    ensures near { λ r. ⌜ r ≡ at + hexDigits ⌝ }
+{
+    let digits = [
+        hex_digit(n / 0x1000_0000),
+        hex_digit(n / 0x100_0000),
+        hex_digit(n / 0x10_0000),
+        hex_digit(n / 0x1_0000),
+        hex_digit(n / 0x1000),
+        hex_digit(n / 0x100),
+        hex_digit(n / 0x10),
+        hex_digit(n),
+    ];
+    put_bytes(out, at, &digits)
+}
+
+// The type of the column k: a comma parts it from the one before.
+fn put_type(out: &mut [u8], at: usize, k: usize, kind: u64) -> usize
+    requires { ⌜ at + mostField ≤ length (now out) ⌝ }
+    ensures { λ r. ⌜ Put (now (out .entry)) at (typeText k kind) (now (out .exit)) r ⌝ }
+    ensures near { λ r. ⌜ r ≤ at + mostField ⌝ }
+{
+    if k == 0 {
+        return put_decimal(out, at, kind);
+    }
+    let next = put_bytes(out, at, b",");
+    put_decimal(out, next, kind)
+}
+
+// The types of the `width` entries whose words start at `group`.
+fn put_types(out: &mut [u8], at: usize, cols: &[u64], group: usize, width: usize) -> usize
+    requires { ⌜ at + mostField * width ≤ length (now out) ⌝ }
+    requires { ⌜ group + wordsPerEntry * width ≤ length (now cols) ⌝ }
+    ensures { λ r. ⌜ Put (now (out .entry)) at (typesText (now (cols .entry)) group width) (now (out .exit)) r ⌝ }
+    ensures near { λ r. ⌜ r ≤ at + mostField * width ⌝ }
+{
+    let mut to = at;
+    let mut k = 0;
+    while k < width {
+        to = put_type(out, to, k, cols[group + WORDS_PER_ENTRY * k + 1]);
+        k = k + 1;
+    }
+    to
+}
+
+// Offset, bytes consumed and confidence.
+fn put_numbers(out: &mut [u8], at: usize, offset: u64, consumed: u64, bits: u64) -> usize
+    requires { ⌜ at + mostNumbers ≤ length (now out) ⌝ }
+    ensures { λ r. ⌜ Put (now (out .entry)) at (numbersText offset consumed bits) (now (out .exit)) r ⌝ }
+    ensures near { λ r. ⌜ r ≤ at + mostNumbers ⌝ }
+{
+    let at = put_field(out, at, offset);
+    let at = put_field(out, at, consumed);
+    let at = put_hex(out, at, bits);
+    put_bytes(out, at, b" ")
+}
+
+// The line of the row n of both lists.
+fn put_line(out: &mut [u8], at: usize, rows: &[u64], cols: &[u64], width: usize, n: usize) -> usize
+    requires { ⌜ at + mostLine width ≤ length (now out) ⌝ }
+    requires { ⌜ n * wordsPerRow + wordsPerRow ≤ length (now rows) ⌝ }
+    requires { ⌜ n * (wordsPerEntry * width) + wordsPerEntry * width ≤ length (now cols) ⌝ }
+    ensures { λ r. ⌜ Put (now (out .entry)) at (lineText (now (rows .entry)) (now (cols .entry)) width n) (now (out .exit)) r ⌝ }
+    ensures near { λ r. ⌜ r ≤ at + mostLine width ⌝ }
+{
+    let row = n * WORDS_PER_ROW;
+    let types = put_numbers(out, at, rows[row], rows[row + 1], rows[row + 6]);
+    let end = put_types(out, types, cols, n * (WORDS_PER_ENTRY * width), width);
+    put_bytes(out, end, b"\n")
+}
+
+// The lines of the first `count` rows of both lists.
+pub fn put_rows(out: &mut [u8], rows: &[u64], cols: &[u64], width: usize, count: usize) -> usize
+    requires { ⌜ count * mostLine width ≤ length (now out) ⌝ }
+    requires { ⌜ count * wordsPerRow ≤ length (now rows) ⌝ }
+    requires { ⌜ count * (wordsPerEntry * width) ≤ length (now cols) ⌝ }
+    ensures { λ r. ⌜ Put (now (out .entry)) 0 (rowsText (now (rows .entry)) (now (cols .entry)) width count) (now (out .exit)) r ⌝ }
+    ensures near { λ r. ⌜ r ≤ count * mostLine width ⌝ }
+{
+    let mut at = 0;
+    let mut n = 0;
+    while n < count {
+        at = put_line(out, at, rows, cols, width, n);
+        n = n + 1;
+    }
+    at
+}

@@ -1,0 +1,38 @@
+// The lines that are not of a row: each is written to the front of a lent buffer, and the answer is its length.
+use crate::inner::put_bytes;
+use crate::inner::put_decimal;
+use crate::part::TEXT_BYTES;
+use crate::part::Totals;
+use sheet::refusal::Refusal;
+use sheet::refusal::number;
+ghost use Rattle.listing.specs.Inner.{Put};
+ghost use Rattle.listing.specs.Text.{heading, totalsLine, refusalLine};
+ghost use Rattle.io.specs.Counts.{Counts};
+ghost use Rattle.sheet.specs.Refusal.{refusalNumber};
+
+pub fn put_heading(out: &mut [u8; TEXT_BYTES]) -> usize
+    ensures { λ r. ⌜ Put (now (out .entry)) 0 heading (now (out .exit)) r ⌝ }
+    ensures { λ r. ⌜ Counts r (now (out .exit)) ⌝ }
+{
+    put_bytes(out, 0, b"offset consumed confidence types\n")
+}
+
+pub fn put_totals(out: &mut [u8; TEXT_BYTES], total: Totals) -> usize
+    ensures { λ r. ⌜ Put (now (out .entry)) 0 (totalsLine (total .rows) (total .read)) (now (out .exit)) r ⌝ }
+    ensures { λ r. ⌜ Counts r (now (out .exit)) ⌝ }
+{
+    let at = put_bytes(out, 0, b"rows ");
+    let at = put_decimal(out, at, total.rows);
+    let at = put_bytes(out, at, b" read ");
+    let at = put_decimal(out, at, total.read);
+    put_bytes(out, at, b"\n")
+}
+
+pub fn put_refusal(out: &mut [u8; TEXT_BYTES], refusal: Refusal) -> usize
+    ensures { λ r. ⌜ Put (now (out .entry)) 0 (refusalLine (refusalNumber refusal)) (now (out .exit)) r ⌝ }
+    ensures { λ r. ⌜ Counts r (now (out .exit)) ⌝ }
+{
+    let at = put_bytes(out, 0, b"refused ");
+    let at = put_decimal(out, at, number(refusal));
+    put_bytes(out, at, b"\n")
+}

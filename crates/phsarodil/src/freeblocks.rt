@@ -1,0 +1,77 @@
+// Rows in the freeblocks of pages: of tables, of a page by its number, and of a page slice.
+use freeblock::freeblock::recover_freeblocks;
+use freeblock::freeblock::recover_page_freeblocks;
+use freeblock::freeblock::recover_slice_freeblocks;
+ghost use mathlib.Core.Path.{_≡_};
+ghost use mathlib.Core.List.{[], _∷_};
+ghost use lib.ListN.{length};
+ghost use Rattle.freeblock.specs.Calls.{sliceRows, sliceCols, sliceNumber, sliceWritten, numberedRows, numberedCols, numberedNumber, numberedWritten};
+ghost use Rattle.freeblock.specs.Freeblock.{leafHits};
+ghost use Rattle.sheet.specs.Refusal.{firstHeld};
+ghost use Rattle.walk.specs.Carve.{tableChecks, carvedRows, carvedCols, carvedNumber, carvedWritten};
+ghost use Rattle.walk.specs.Collect.{clearedUnless};
+
+#[no_mangle]
+pub extern "C" fn phs_recover_freeblocks(
+    db: &[u8],
+    size: u64,
+    roots: &[u64],
+    counts: &[u64],
+    hints: &[u8],
+    flags: &mut [u8],
+    stack: &mut [u64],
+    rows: &mut [u64],
+    cols: &mut [u64],
+    out: &mut [u64; 1],
+) -> u64
+    ensures number { λ r. ⌜ r ≡ carvedNumber (leafHits (now (db .entry)) size) (now (db .entry)) size (now (roots .entry)) (now (counts .entry)) (now (hints .entry)) (length (now (flags .entry))) (length (now (stack .entry))) (length (now (rows .entry))) (length (now (cols .entry))) ⌝ }
+    ensures out { λ _. ⌜ now (out .exit) ≡ carvedWritten (leafHits (now (db .entry)) size) (now (db .entry)) size (now (roots .entry)) (now (counts .entry)) (now (hints .entry)) (length (now (flags .entry))) (length (now (stack .entry))) (length (now (rows .entry))) (length (now (cols .entry))) ∷ [] ⌝ }
+    ensures rows { λ _. ⌜ now (rows .exit) ≡ carvedRows (leafHits (now (db .entry)) size) (now (db .entry)) size (now (roots .entry)) (now (counts .entry)) (now (hints .entry)) (length (now (flags .entry))) (length (now (stack .entry))) (now (rows .entry)) (now (cols .entry)) ⌝ }
+    ensures cols { λ _. ⌜ now (cols .exit) ≡ carvedCols (leafHits (now (db .entry)) size) (now (db .entry)) size (now (roots .entry)) (now (counts .entry)) (now (hints .entry)) (length (now (flags .entry))) (length (now (stack .entry))) (now (rows .entry)) (now (cols .entry)) ⌝ }
+    ensures flags { λ _. ⌜ now (flags .exit) ≡ clearedUnless (firstHeld (tableChecks (length (now (db .entry))) size (now (roots .entry)) (now (counts .entry)) (now (hints .entry)))) (now (flags .entry)) ⌝ }
+    ensures stack { λ _. ⌜ now (stack .exit) ≡ clearedUnless (firstHeld (tableChecks (length (now (db .entry))) size (now (roots .entry)) (now (counts .entry)) (now (hints .entry)))) (now (stack .entry)) ⌝ }
+{
+    let walked = recover_freeblocks(db, size, roots, counts, hints, flags, stack, rows, cols);
+    *out = [walked.written()];
+    walked.number()
+}
+
+#[no_mangle]
+pub extern "C" fn phs_recover_page_freeblocks(
+    db: &[u8],
+    size: u64,
+    page: u64,
+    hints: &[u8],
+    rows: &mut [u64],
+    cols: &mut [u64],
+    out: &mut [u64; 1],
+) -> u64
+    ensures number { λ r. ⌜ r ≡ numberedNumber (now (db .entry)) size page (now (hints .entry)) (length (now (rows .entry))) (length (now (cols .entry))) ⌝ }
+    ensures out { λ _. ⌜ now (out .exit) ≡ numberedWritten (now (db .entry)) size page (now (hints .entry)) (length (now (rows .entry))) (length (now (cols .entry))) ∷ [] ⌝ }
+    ensures rows { λ _. ⌜ now (rows .exit) ≡ numberedRows (now (db .entry)) size page (now (hints .entry)) (now (rows .entry)) (now (cols .entry)) ⌝ }
+    ensures cols { λ _. ⌜ now (cols .exit) ≡ numberedCols (now (db .entry)) size page (now (hints .entry)) (now (rows .entry)) (now (cols .entry)) ⌝ }
+{
+    let filled = recover_page_freeblocks(db, size, page, hints, rows, cols);
+    *out = [filled.written()];
+    filled.number()
+}
+
+#[no_mangle]
+pub extern "C" fn phs_recover_slice_freeblocks(
+    page: &[u8],
+    head: usize,
+    base: u64,
+    hints: &[u8],
+    rows: &mut [u64],
+    cols: &mut [u64],
+    out: &mut [u64; 1],
+) -> u64
+    ensures number { λ r. ⌜ r ≡ sliceNumber (now (page .entry)) head base (now (hints .entry)) (length (now (rows .entry))) (length (now (cols .entry))) ⌝ }
+    ensures out { λ _. ⌜ now (out .exit) ≡ sliceWritten (now (page .entry)) head base (now (hints .entry)) (length (now (rows .entry))) (length (now (cols .entry))) ∷ [] ⌝ }
+    ensures rows { λ _. ⌜ now (rows .exit) ≡ sliceRows (now (page .entry)) head base (now (hints .entry)) (now (rows .entry)) (now (cols .entry)) ⌝ }
+    ensures cols { λ _. ⌜ now (cols .exit) ≡ sliceCols (now (page .entry)) head base (now (hints .entry)) (now (rows .entry)) (now (cols .entry)) ⌝ }
+{
+    let filled = recover_slice_freeblocks(page, head, base, hints, rows, cols);
+    *out = [filled.written()];
+    filled.number()
+}

@@ -1,0 +1,13 @@
+//! Cases for the recording, each of which tells one rule.
+
+pub mod lists;
+pub mod rows;
+pub mod values;
+
+use crate::runner::Sink;
+
+pub fn all(sink: &mut dyn Sink) {
+    values::all(sink);
+    rows::all(sink);
+    lists::all(sink);
+}

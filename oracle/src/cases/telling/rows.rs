@@ -1,0 +1,141 @@
+//! Every way in which an attempt ends, with the count of what it read; the words of entries; offsets and starts; lists
+//! that are just full, a cell short, and longer.
+
+use crate::calls::{ATTEMPT, SCAN};
+use crate::case::Case;
+use crate::cases::regions::{attempt, lists, scan};
+use crate::runner::Sink;
+
+/// An Integer and a Text, and a row of both.
+const HINTS: [u8; 2] = [0, 2];
+const ROW: [u8; 9] = [3, 1, 0x17, 0x2A, 0x68, 0x69, 0x70, 0x69, 0x6B];
+
+pub fn all(sink: &mut dyn Sink) {
+    failures(sink);
+    ends(sink);
+    suiting(sink);
+    every_type(sink);
+    past_the_header(sink);
+    offsets(sink);
+    starts(sink);
+    rooms(sink);
+}
+
+/// Headers that make no row, with a row behind each, so that the count and the next offset show.
+fn failures(sink: &mut dyn Sink) {
+    let headers: [&[u8]; 15] = [
+        // The length is below 2, in one byte and in more,
+        &[0],
+        &[1],
+        &[0x80, 0],
+        &[0x80, 0x80, 1],
+        // above 512, or past the region.
+        &[0x84, 1],
+        &[0xFF, 0xFF, 0xFF, 0xFF, 0xFF, 0xFF, 0xFF, 0xFF, 0xFF],
+        &[0x20],
+        &[0x82, 0],
+        // There is a type too few, in one byte and in two, or too many.
+        &[2, 1, 0x2A],
+        &[3, 0x80, 1, 0x2A],
+        &[4, 1, 0x0F, 8, 0x2A, 0x2A],
+        // No type suits.
+        &[3, 0x0F, 1, 0x2A, 0x2A],
+        // A type is reserved, and all others suit.
+        &[3, 1, 10, 0x2A],
+        &[3, 1, 11, 0x2A],
+        &[3, 10, 0x0F, 0x2A],
+    ];
+    for header in headers {
+        let region = [header, &ROW].concat();
+        scan(sink, &region, &HINTS, 2);
+        attempt(sink, &region, &HINTS, 0);
+    }
+}
+
+/// What the region's end cuts off, and what it just leaves.
+fn ends(sink: &mut dyn Sink) {
+    for region in [
+        // The length itself, and a type.
+        &[0x81, 0x81, 0x81, 0x81, 0x81][..],
+        &[3, 1, 0x81, 0x81],
+        &[3, 0x81, 0x81, 0x81],
+        // The header, a byte of it, and nothing.
+        &[4, 8, 0x0D],
+        &[3, 8, 0x0D],
+        &[3, 8, 0x0D, 0],
+        // The last body, a byte of it, and nothing.
+        &ROW[..3],
+        &ROW[..4],
+        &ROW[..8],
+        &ROW,
+    ] {
+        scan(sink, region, &HINTS, 2);
+        attempt(sink, region, &HINTS, 0);
+    }
+    // The longest body of all.
+    let longest = [&[10, 0xFF, 0xFF, 0xFF, 0xFF, 0xFF, 0xFF, 0xFF, 0xFF, 0xFF][..], &ROW].concat();
+    scan(sink, &longest, &[2], 2);
+}
+
+/// Of three columns none suits, one, two, all; each hint in each place.
+fn suiting(sink: &mut dyn Sink) {
+    let region = [4, 1, 0x0F, 0x0E, 0x2A, 0x2A, 0x2A, 0, 0, 0];
+    for hint in 0..6 {
+        for hints in [[hint, 4, 4], [4, hint, 4], [4, 4, hint], [0, hint, hint], [hint, 2, 3]] {
+            scan(sink, &region, &hints, 2);
+        }
+    }
+}
+
+/// A column of every length, so that no word of an entry is that of another.
+fn every_type(sink: &mut dyn Sink) {
+    let types = [13, 1, 2, 3, 4, 5, 6, 7, 8, 9, 0x10, 0x13, 0];
+    let record = [&types[..], &[0x2A; 37]].concat();
+    let hints = [0, 0, 0, 0, 0, 0, 1, 0, 0, 3, 2, 4];
+    for region in [record.clone(), [&record[..], &record, &record].concat()] {
+        scan(sink, &region, &hints, 3);
+        attempt(sink, &region, &hints, 0);
+    }
+}
+
+/// The last type ends behind the header, and the first body starts in it.
+fn past_the_header(sink: &mut dyn Sink) {
+    let region = [3, 1, 0x80, 0x0F, 0x2A, 0x61, 0];
+    scan(sink, &region, &HINTS, 2);
+    attempt(sink, &region, &HINTS, 0);
+}
+
+/// One attempt at each offset, up to the region's end and behind it, with a base; in the last two bytes stands a row that
+/// no scan tries.
+fn offsets(sink: &mut dyn Sink) {
+    let two = [&[5][..], &ROW, &[2, 0]].concat();
+    let one = [2, 1, 7, 2, 8];
+    for (region, hints) in [(&two[..], &HINTS[..]), (&one, &[0])] {
+        for offset in (0..=region.len() as u64 + 1).chain([1 << 32, u64::MAX]) {
+            sink.put(Case::new(ATTEMPT, &[1000, offset], &[region, hints], &lists(1, hints.len())));
+        }
+    }
+}
+
+fn starts(sink: &mut dyn Sink) {
+    let region = [&[5][..], &ROW, &ROW, &[7, 7]].concat();
+    for start in (0..=region.len() as u64 + 1).chain([1 << 32, u64::MAX]) {
+        sink.put(Case::new(SCAN, &[1000, start], &[&region, &HINTS], &lists(3, 2)));
+    }
+}
+
+/// Three rows, and lists that take as many, that are a cell or a row short, and longer.
+fn rooms(sink: &mut dyn Sink) {
+    let region = [ROW; 3].concat();
+    for size in [0, 7, 8, 16, 23, 24, 25] {
+        for room in [[size, 32], [32, size], [size, size]] {
+            sink.put(Case::new(SCAN, &[0, 0], &[&region, &HINTS], &room));
+        }
+    }
+    // One attempt, where there is a row and where none asks for room.
+    for room in [[0, 0], [7, 8], [8, 7], [8, 8]] {
+        for offset in [0, 1] {
+            sink.put(Case::new(ATTEMPT, &[0, offset], &[&region, &HINTS], &room));
+        }
+    }
+}

@@ -1,0 +1,134 @@
+-- Rows in the payload of a freed block (rules 11.4 to 11.7): whole cells, then records whose header's length is lost.
+-- Assumes nothing.
+use Prim.Native.Nat.{ℕ, zero, suc, _+_, _-_}
+use mathlib.Core.Bool.{Bool, cond}
+use mathlib.Core.List.{List, [], _∷_, _++_}
+use lib.Dec.{ltb, leb}
+use lib.Ieee.{Float}
+use lib.ListN.{length, take, drop}
+use Rattle.attempt.specs.Attempt.{Found, Tried, miss, hit, attemptAt}
+use Rattle.hit.specs.Hit.{rowAt, hitOf}
+use Rattle.hit.specs.declared.inner.Spot.{Spot}
+use Rattle.page.specs.Page.{among}
+use Rattle.record.specs.Varint.{varintAt}
+use Rattle.record.specs.declared.varint.Varint.{Varint}
+use Rattle.record.specs.declared.varint.Varint.the-variants.{Value, Short}
+use Rattle.sheet.specs.Confidence.{share, rebuiltShare, percentOf}
+use Rattle.sheet.specs.declared.columns.Column.{Column}
+use Rattle.sheet.specs.declared.columns.Column.the-variants.{Body, Unfit, Lost, Unused}
+use Rattle.sheet.specs.declared.row.RowId.{RowId}
+use Rattle.sheet.specs.declared.row.RowId.the-variants.{Absent, Present}
+use Rattle.sheet.specs.declared.row.Source.the-variants.{CarvedIntraPage}
+use Rattle.walk.specs.Carve.{Hit}
+
+-- ---- cells
+
+-- a cell whose record is a row: where in the payload the record starts and ends, its row id, and what the attempt found
+pub record CellRow : Type 0 where
+  pub at : ℕ
+  pub end : ℕ
+  pub id : ℕ
+  pub found : Found
+
+pub data Looked : Type 0 where
+  noCell : Looked
+  cell : CellRow → Looked
+
+-- Rule 11.4: one attempt on exactly the record, which has `len` bytes from `at` on
+abbrev pub recordIs : ℕ → ℕ → ℕ → Tried → Looked
+recordIs at len id miss = noCell
+recordIs at len id (hit x) = cell (record { at = at; end = at + len; id = id; found = x })
+
+-- Rule 11.4: behind the length stands the row id, and behind that the record, if the payload has so many bytes left
+abbrev pub idThen : List ℕ → List ℕ → ℕ → Varint → Looked
+idThen d hints len (Value id c) = cond (leb len (length d - c .at)) (recordIs (c .at) len id (attemptAt (take len (drop (c .at) d)) hints 0)) noCell
+idThen d hints len Short = noCell
+
+-- Rule 11.4: a cell begins with its record's length, which is above 0
+abbrev pub lengthThen : List ℕ → List ℕ → Varint → Looked
+lengthThen d hints (Value len c) = cond (ltb 0 len) (idThen d hints len (varintAt d (c .at))) noCell
+lengthThen d hints Short = noCell
+
+unfoldable pub cellAt : List ℕ → List ℕ → ℕ → Looked
+cellAt d hints pos = lengthThen d hints (varintAt d pos)
+
+-- Rule 11.5: behind such a cell the next is looked for at its record's end, elsewhere at the next byte. The first argument bounds the steps.
+abbrev pub cellThen : ℕ → (ℕ → List CellRow) → Looked → List CellRow
+cellThen pos rest noCell = rest (suc pos)
+cellThen pos rest (cell c) = c ∷ rest (c .end)
+
+unfoldable pub cellsFrom : ℕ → List ℕ → List ℕ → ℕ → List CellRow
+cellsFrom zero d hints pos = []
+cellsFrom (suc f) d hints pos = cond (ltb pos (length d)) (cellThen pos (λ next. cellsFrom f d hints next) (cellAt d hints pos)) []
+
+-- each step goes on by a byte at least, so the length bounds them, and no larger bound gives others (`proofs/Fuel.antt`)
+unfoldable pub cellsOf : List ℕ → List ℕ → List CellRow
+cellsOf d hints = cellsFrom (length d) d hints 0
+
+-- ---- rebuilt headers
+
+-- what is made of a start of a payload
+abbrev pub Rebuilder : Type 0
+Rebuilder = List ℕ → List ℕ → ℕ → Tried
+
+-- what was found behind one made-up byte, said of the bytes without it
+abbrev pub unmadeOne : Column → Column
+unmadeOne (Body kind start len) = Body kind (start - 1) len
+unmadeOne (Unfit kind) = Unfit kind
+unmadeOne Lost = Lost
+unmadeOne Unused = Unused
+
+abbrev pub unmade : List Column → List Column
+unmade [] = []
+unmade (c ∷ cs) = unmadeOne c ∷ unmade cs
+
+abbrev pub withoutByte : Tried → Tried
+withoutByte miss = miss
+withoutByte (hit x) = hit (record { consumed = x .consumed - 1; matched = x .matched; columns = unmade (x .columns) })
+
+-- Rule 11.6: an attempt on one made-up byte, columns + 1, before the bytes from v on
+unfoldable pub oneByte : Rebuilder
+oneByte d hints v = withoutByte (attemptAt (suc (length hints) ∷ drop v d) hints 0)
+
+-- where the records of cells start
+abbrev pub startsOf : List CellRow → List ℕ
+startsOf [] = []
+startsOf (c ∷ cs) = c .at ∷ startsOf cs
+
+-- Rule 11.6: so many starts, those v with v + columns - 1 no more than the payload's length
+abbrev pub rebuiltStarts : ℕ → ℕ → ℕ
+rebuiltStarts len columns = suc len - (columns - 1)
+
+-- ---- rows
+
+-- Rule 11.7: a row at the place o of its page; the percent is of its confidence
+abbrev pub gapHit : Spot → ℕ → RowId → Float → Found → Hit
+gapHit spot o id confidence x = hitOf spot (rowAt spot o (x .consumed) id (CarvedIntraPage (percentOf confidence)) confidence) o (x .columns)
+
+abbrev pub cellHit : Spot → ℕ → ℕ → ℕ → Found → Hit
+cellHit spot columns o id x = gapHit spot o (Present id) (share (x .matched) columns) x
+
+abbrev pub rebuiltHit : Spot → ℕ → ℕ → Found → Hit
+rebuiltHit spot columns o x = gapHit spot o Absent (rebuiltShare (share (x .matched) columns)) x
+
+-- the payload stands at o in its page
+abbrev pub cellHits : Spot → ℕ → ℕ → List CellRow → List Hit
+cellHits spot columns o [] = []
+cellHits spot columns o (c ∷ cs) = cellHit spot columns (o + c .at) (c .id) (c .found) ∷ cellHits spot columns o cs
+
+-- Rule 11.6: a start at which the record of a cell starts is passed over
+abbrev pub startHits : Spot → ℕ → ℕ → List ℕ → ℕ → Tried → List Hit
+startHits spot columns o cells v miss = []
+startHits spot columns o cells v (hit x) = cond (among v cells) [] (rebuiltHit spot columns (o + v) x ∷ [])
+
+-- of k starts, from v on
+unfoldable pub rebuiltFrom : ℕ → Rebuilder → Spot → ℕ → List ℕ → List ℕ → List ℕ → ℕ → List Hit
+rebuiltFrom zero rebuild spot o cells d hints v = []
+rebuiltFrom (suc k) rebuild spot o cells d hints v =
+    startHits spot (length hints) o cells v (rebuild d hints v) ++ rebuiltFrom k rebuild spot o cells d hints (suc v)
+
+-- Rules 11.5 and 11.6: cells first, then what is rebuilt
+unfoldable pub payloadHits : Rebuilder → Spot → ℕ → List ℕ → List ℕ → List Hit
+payloadHits rebuild spot o d hints =
+    cellHits spot (length hints) o (cellsOf d hints)
+    ++ rebuiltFrom (rebuiltStarts (length d) (length hints)) rebuild spot o (startsOf (cellsOf d hints)) d hints 0

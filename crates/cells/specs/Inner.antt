@@ -1,0 +1,2 @@
+-- What the code carries between its own functions; nothing that a caller has to believe.
+-- Assumes nothing.

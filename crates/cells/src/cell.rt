@@ -1,0 +1,149 @@
+// Cells that stand whole in a payload, one behind the other.
+use attempt::inner::Find;
+use attempt::inner::Verdict;
+use attempt::inner::attempt;
+use hit::inner::Head;
+use hit::inner::Lent;
+use hit::inner::Spot;
+use hit::inner::add_hit;
+use record::varint::Cursor;
+use record::varint::Varint;
+use sheet::confidence::percent;
+use sheet::confidence::suited_share;
+use sheet::row::Mode;
+use sheet::row::Row;
+use sheet::row::RowId;
+use sheet::row::Source;
+use walk::inner::Carved;
+ghost use mathlib.Core.Path.{_≡_};
+ghost use mathlib.Core.Bool.{false};
+ghost use mathlib.Core.List.{[], _∷_};
+ghost use Prim.Native.Nat.{_+_, _≤_};
+ghost use lib.ListN.{length};
+ghost use Rattle.attempt.specs.Inner.{foundAt};
+ghost use Rattle.cells.specs.Cells.{cellHit, cellHits, cellsOf};
+ghost use Rattle.cells.specs.Inner.{CellIs, Part};
+ghost use Rattle.hit.specs.Inner.{Ready};
+ghost use Rattle.sheet.specs.Limits.{largestRegion};
+ghost use Rattle.walk.specs.Inner.{carvedAs, Carves};
+
+// A cell whose record is a row: where the record starts and ends, its row id, and the row.
+pub enum Cell {
+    At {
+        start: usize,
+        end: usize,
+        id: u64,
+        find: Find,
+    },
+    Nothing,
+}
+
+// The length of a record, its row id, and the record.
+fn cell_at(data: &[u8], hints: &[u8], pos: usize) -> Cell
+    requires { ⌜ length (now data) ≤ largestRegion ⌝ }
+    ensures { λ r. ⌜ CellIs (now (data .entry)) (now (hints .entry)) pos r ⌝ }
+{
+    let c = Cursor { at: pos };
+    let Varint::Value(len, next) = c.varint(data) else {
+        return Cell::Nothing;
+    };
+    if len == 0 {
+        return Cell::Nothing;
+    }
+    let Varint::Value(id, behind) = next.varint(data) else {
+        return Cell::Nothing;
+    };
+    let start = behind.at;
+    // Compared with what is left, since the record's end may pass what a u64 holds.
+    if len > (data.len() - start) as u64 {
+        return Cell::Nothing;
+    }
+    let end = start + len as usize;
+    let Verdict::Hit(find) = attempt(&data[start..end], hints, 0) else {
+        return Cell::Nothing;
+    };
+    Cell::At {
+        start,
+        end,
+        id,
+        find,
+    }
+}
+
+// Adds the row that a record is, which stands at o in its page.
+fn add_cell(
+    record: &[u8],
+    find: Find,
+    id: u64,
+    columns: usize,
+    spot: Spot,
+    o: usize,
+    lent: Lent,
+    n: usize,
+    rows: &mut [u64],
+    cols: &mut [u64],
+) -> Carved
+    requires { ⌜ Part (now record) find columns ⌝ }
+    requires { ⌜ Ready (o + length (now record)) columns spot lent n (length (now rows)) (length (now cols)) ⌝ }
+    ensures { λ r. ⌜ Carves (lent .width) (lent .room) n (cellHit spot columns o id (foundAt (now (record .entry)) 0 find) ∷ []) false (now (rows .entry)) (now (cols .entry)) (carvedAs r) (now (rows .exit)) (now (cols .exit)) ⌝ }
+{
+    let confidence = suited_share(find.matched, columns as u16);
+    let row = Row {
+        offset: spot.base + o as u64,
+        consumed: find.consumed as u64,
+        id: RowId::Present(id),
+        source: Source::CarvedIntraPage(percent(confidence)),
+        confidence,
+        mode: Mode::Plain,
+        table: spot.table,
+    };
+    let at = Head {
+        o: 0,
+        head: find.head,
+        from: find.from,
+        by: spot.start + o,
+    };
+    add_hit(record, at, columns, row, lent, n, rows, cols)
+}
+
+// The cells of a payload that stands at o in its page.
+pub fn carve_cells(
+    data: &[u8],
+    hints: &[u8],
+    spot: Spot,
+    o: usize,
+    lent: Lent,
+    n: usize,
+    rows: &mut [u64],
+    cols: &mut [u64],
+) -> Carved
+    requires { ⌜ Ready (o + length (now data)) (length (now hints)) spot lent n (length (now rows)) (length (now cols)) ⌝ }
+    ensures { λ r. ⌜ Carves (lent .width) (lent .room) n (cellHits spot (length (now (hints .entry))) o (cellsOf (now (data .entry)) (now (hints .entry)))) false (now (rows .entry)) (now (cols .entry)) (carvedAs r) (now (rows .exit)) (now (cols .exit)) ⌝ }
+{
+    let columns = hints.len();
+    let mut pos = 0;
+    let mut m = n;
+    while pos < data.len() {
+        match cell_at(data, hints, pos) {
+            Cell::Nothing => {
+                pos = pos + 1;
+            }
+            Cell::At {
+                start,
+                end,
+                id,
+                find,
+            } => {
+                let record = &data[start..end];
+                let Carved::On(next) =
+                    add_cell(record, find, id, columns, spot, o + start, lent, m, rows, cols)
+                else {
+                    return Carved::Full;
+                };
+                m = next;
+                pos = end;
+            }
+        }
+    }
+    Carved::On(m)
+}

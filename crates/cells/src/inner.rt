@@ -1,0 +1,32 @@
+// The payload of one freed block, for our own crates.
+use crate::cell::carve_cells;
+use crate::rebuilt::carve_rebuilt;
+use hit::inner::Lent;
+use hit::inner::Spot;
+use walk::inner::Carved;
+ghost use mathlib.Core.Bool.{false};
+ghost use Prim.Native.Nat.{_+_};
+ghost use lib.ListN.{length};
+ghost use Rattle.cells.specs.Cells.{oneByte, payloadHits};
+ghost use Rattle.hit.specs.Inner.{Ready};
+ghost use Rattle.walk.specs.Inner.{carvedAs, Carves};
+
+// Cells first, then records whose header's length is lost; the payload stands at o in its page.
+pub fn carve_payload(
+    data: &[u8],
+    hints: &[u8],
+    spot: Spot,
+    o: usize,
+    lent: Lent,
+    n: usize,
+    rows: &mut [u64],
+    cols: &mut [u64],
+) -> Carved
+    requires { ⌜ Ready (o + length (now data)) (length (now hints)) spot lent n (length (now rows)) (length (now cols)) ⌝ }
+    ensures { λ r. ⌜ Carves (lent .width) (lent .room) n (payloadHits oneByte spot o (now (data .entry)) (now (hints .entry))) false (now (rows .entry)) (now (cols .entry)) (carvedAs r) (now (rows .exit)) (now (cols .exit)) ⌝ }
+{
+    let Carved::On(cells) = carve_cells(data, hints, spot, o, lent, n, rows, cols) else {
+        return Carved::Full;
+    };
+    carve_rebuilt(data, hints, spot, o, lent, n, cells, rows, cols)
+}

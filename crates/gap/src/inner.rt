@@ -1,0 +1,30 @@
+// One page, for our own crates.
+use crate::region::carve_gap;
+use cells::inner::carve_payload;
+use hit::inner::Lent;
+use hit::inner::Spot;
+use page::inner::block_next;
+use page::inner::block_size;
+use page::inner::first_freeblock;
+use walk::inner::Carved;
+ghost use mathlib.Core.Bool.{false};
+ghost use Prim.Native.Nat.{_+_};
+ghost use lib.ListN.{length};
+ghost use Rattle.cells.specs.Cells.{oneByte};
+ghost use Rattle.gap.specs.Gap.{gapHits, pageHits};
+ghost use Rattle.hit.specs.Inner.{Ready};
+ghost use Rattle.walk.specs.Inner.{carvedAs, Carves};
+
+// Carves the gap and then the blocks of a page whose b-tree header stands at `head`.
+pub fn carve_page(
+    page: &[u8],
+    head: usize,
+    hints: &[u8],
+    spot: Spot,
+    lent: Lent,
+    n: usize,
+    rows: &mut [u64],
+    cols: &mut [u64],
+) -> Carved
+    requires { ⌜ Ready (length (now page)) (length (now hints)) spot lent n (length (now rows)) (length (now cols)) ⌝ }
+    ensures { λ r. ⌜ Carves (lent .width) (lent .room) n (pageHits gapHits oneByte (now (page .entry)) head (now (hints .entry)) spot) false (now (rows .entry)) (now (cols .entry)) (carvedAs r) (now (rows .exit)) (now (cols .exit)) ⌝ }

@@ -1,0 +1,3 @@
+// Rows in the free space of a page.
+pub mod inner;
+mod region;

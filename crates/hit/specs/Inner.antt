@@ -1,0 +1,49 @@
+-- What the code carries between its own functions; nothing that a caller has to believe.
+-- Assumes nothing.
+use Prim.Native.Nat.{ℕ, _+_, _*_, _≤_}
+use mathlib.Core.Path.{_≡_}
+use mathlib.Core.List.{List}
+use lib.ListN.{length}
+use Rattle.attempt.specs.Attempt.{kinds}
+use Rattle.attempt.specs.Inner.{sizes, columnsAt, headerTypes, Headed}
+use Rattle.hit.specs.declared.inner.Head.{Head}
+use Rattle.hit.specs.declared.inner.Lent.{Lent}
+use Rattle.hit.specs.declared.inner.Spot.{Spot}
+use Rattle.sheet.specs.Columns.{roomOf}
+use Rattle.sheet.specs.Limits.{wordsPerRow, wordsPerEntry, mostColumns, largestRegion, largestBase}
+use Rattle.sheet.specs.declared.row.Row.{Row}
+use Rattle.walk.specs.Carve.{Hit}
+
+-- the types of a header, and the row that has them
+abbrev pub kindsAt : List ℕ → Head → List ℕ
+kindsAt s h = kinds (headerTypes s (h .o) (h .head) (h .from))
+
+abbrev pub hitThere : List ℕ → Head → Row → Hit
+hitThere s h row = record { row = row; columns = columnsAt (h .by + (h .o + h .head)) (kindsAt s h) }
+
+-- so many columns lie in the bytes, and these in a slice that may be lent
+pub record Laid (s : List ℕ) (h : Head) (columns : ℕ) : Type 0 where
+  pub headed : Headed s (h .o) (h .head) (h .from)
+  pub bodies : h .o + h .head + sizes (kindsAt s h) ≤ length s
+  pub counts : length (kindsAt s h) ≡ columns
+  pub inside : h .by + length s ≤ largestRegion
+
+-- the row n and its group have their words in lists of so many
+pub record Fitting (columns width n rows cols : ℕ) : Type 0 where
+  pub narrow : columns ≤ width
+  pub row : n * wordsPerRow + wordsPerRow ≤ rows
+  pub group : n * (wordsPerEntry * width) + wordsPerEntry * width ≤ cols
+
+-- lists of so many words, in which n rows stand
+pub record Space (columns : ℕ) (lent : Lent) (n rows cols : ℕ) : Type 0 where
+  pub narrow : columns ≤ lent .width
+  pub room-is : lent .room ≡ roomOf rows cols (lent .width)
+  pub fits : n ≤ lent .room
+
+-- a page of so many bytes is carved into such lists
+pub record Ready (len columns : ℕ) (spot : Spot) (lent : Lent) (n rows cols : ℕ) : Type 0 where
+  pub inside : spot .start + len ≤ largestRegion
+  pub near : spot .base ≤ largestBase
+  pub some : 1 ≤ columns
+  pub few : columns ≤ mostColumns
+  pub space : Space columns lent n rows cols

@@ -70,6 +70,14 @@ blockNext page at = bigEndian page at 2
 abbrev pub blockSize : List ℕ → ℕ → ℕ
 blockSize page at = bigEndian page (at + 2) 2
 
+-- Rule 10.2: a block's payload is what stands behind its first four bytes
+pub record Block : Type 0 where
+  pub at : ℕ
+  pub size : ℕ
+
+abbrev pub payloadOf : List ℕ → Block → List ℕ
+payloadOf page b = take (b .size - 4) (drop (b .at + 4) page)
+
 -- ---- Rule 9.4: the call, for a database of `len` bytes
 abbrev pub pageChecks : ℕ → ℕ → ℕ → List Check
 pageChecks len size p =

@@ -39,27 +39,27 @@ pub enum Cell {
 }
 
 // The length of a record, its row id, and the record.
-fn cell_at(data: &[u8], hints: &[u8], pos: usize) -> Cell
-    requires { ⌜ length (now data) ≤ largestRegion ⌝ }
-    ensures { λ r. ⌜ CellIs (now (data .entry)) (now (hints .entry)) pos r ⌝ }
+fn cell_at(payload: &[u8], hints: &[u8], pos: usize) -> Cell
+    requires { ⌜ length (now payload) ≤ largestRegion ⌝ }
+    ensures { λ r. ⌜ CellIs (now (payload .entry)) (now (hints .entry)) pos r ⌝ }
 {
     let c = Cursor { at: pos };
-    let Varint::Value(len, next) = c.varint(data) else {
+    let Varint::Value(len, next) = c.varint(payload) else {
         return Cell::Nothing;
     };
     if len == 0 {
         return Cell::Nothing;
     }
-    let Varint::Value(id, behind) = next.varint(data) else {
+    let Varint::Value(id, behind) = next.varint(payload) else {
         return Cell::Nothing;
     };
     let start = behind.at;
     // Compared with what is left, since the record's end may pass what a u64 holds.
-    if len > (data.len() - start) as u64 {
+    if len > (payload.len() - start) as u64 {
         return Cell::Nothing;
     }
     let end = start + len as usize;
-    let Verdict::Hit(find) = attempt(&data[start..end], hints, 0) else {
+    let Verdict::Hit(find) = attempt(&payload[start..end], hints, 0) else {
         return Cell::Nothing;
     };
     Cell::At {
@@ -108,7 +108,7 @@ fn add_cell(
 
 // The cells of a payload that stands at o in its page.
 pub fn carve_cells(
-    data: &[u8],
+    payload: &[u8],
     hints: &[u8],
     spot: Spot,
     o: usize,
@@ -117,14 +117,14 @@ pub fn carve_cells(
     rows: &mut [u64],
     cols: &mut [u64],
 ) -> Carved
-    requires { ⌜ Ready (o + length (now data)) (length (now hints)) spot lent n (length (now rows)) (length (now cols)) ⌝ }
-    ensures { λ r. ⌜ Carves (lent .width) (lent .room) n (cellHits spot (length (now (hints .entry))) o (cellsOf (now (data .entry)) (now (hints .entry)))) false (now (rows .entry)) (now (cols .entry)) (carvedAs r) (now (rows .exit)) (now (cols .exit)) ⌝ }
+    requires { ⌜ Ready (o + length (now payload)) (length (now hints)) spot lent n (length (now rows)) (length (now cols)) ⌝ }
+    ensures { λ r. ⌜ Carves (lent .width) (lent .room) n (cellHits spot (length (now (hints .entry))) o (cellsOf (now (payload .entry)) (now (hints .entry)))) false (now (rows .entry)) (now (cols .entry)) (carvedAs r) (now (rows .exit)) (now (cols .exit)) ⌝ }
 {
     let columns = hints.len();
     let mut pos = 0;
     let mut m = n;
-    while pos < data.len() {
-        match cell_at(data, hints, pos) {
+    while pos < payload.len() {
+        match cell_at(payload, hints, pos) {
             Cell::Nothing => {
                 pos = pos + 1;
             }
@@ -134,7 +134,7 @@ pub fn carve_cells(
                 id,
                 find,
             } => {
-                let record = &data[start..end];
+                let record = &payload[start..end];
                 let Carved::On(next) =
                     add_cell(record, find, id, columns, spot, o + start, lent, m, rows, cols)
                 else {

@@ -13,7 +13,7 @@ ghost use Rattle.walk.specs.Inner.{carvedAs, Carves};
 
 // Cells first, then records whose header's length is lost; the payload stands at o in its page.
 pub fn carve_payload(
-    data: &[u8],
+    payload: &[u8],
     hints: &[u8],
     spot: Spot,
     o: usize,
@@ -22,11 +22,11 @@ pub fn carve_payload(
     rows: &mut [u64],
     cols: &mut [u64],
 ) -> Carved
-    requires { ⌜ Ready (o + length (now data)) (length (now hints)) spot lent n (length (now rows)) (length (now cols)) ⌝ }
-    ensures { λ r. ⌜ Carves (lent .width) (lent .room) n (payloadHits oneByte spot o (now (data .entry)) (now (hints .entry))) false (now (rows .entry)) (now (cols .entry)) (carvedAs r) (now (rows .exit)) (now (cols .exit)) ⌝ }
+    requires { ⌜ Ready (o + length (now payload)) (length (now hints)) spot lent n (length (now rows)) (length (now cols)) ⌝ }
+    ensures { λ r. ⌜ Carves (lent .width) (lent .room) n (payloadHits oneByte spot o (now (payload .entry)) (now (hints .entry))) false (now (rows .entry)) (now (cols .entry)) (carvedAs r) (now (rows .exit)) (now (cols .exit)) ⌝ }
 {
-    let Carved::On(cells) = carve_cells(data, hints, spot, o, lent, n, rows, cols) else {
+    let Carved::On(cells) = carve_cells(payload, hints, spot, o, lent, n, rows, cols) else {
         return Carved::Full;
     };
-    carve_rebuilt(data, hints, spot, o, lent, n, cells, rows, cols)
+    carve_rebuilt(payload, hints, spot, o, lent, n, cells, rows, cols)
 }

@@ -30,16 +30,16 @@ ghost use Rattle.walk.specs.Inner.{carvedAs, Carves};
 const MOST_REBUILT: usize = 65_535;
 
 // The row whose types begin at v, if there is one.
-fn rebuild(data: &[u8], hints: &[u8], v: usize) -> Verdict
-    requires { ⌜ (v ≤ length (now data)) × (length (now data) ≤ largestRegion) ⌝ }
+fn rebuild(payload: &[u8], hints: &[u8], v: usize) -> Verdict
+    requires { ⌜ (v ≤ length (now payload)) × (length (now payload) ≤ largestRegion) ⌝ }
     requires { ⌜ (1 ≤ length (now hints)) × (length (now hints) ≤ mostColumns) ⌝ }
-    ensures { λ r. ⌜ RebuiltIs (now (data .entry)) (now (hints .entry)) v r ⌝ }
+    ensures { λ r. ⌜ RebuiltIs (now (payload .entry)) (now (hints .entry)) v r ⌝ }
 {
     let columns = hints.len();
-    if columns > data.len() - v {
+    if columns > payload.len() - v {
         return Verdict::Miss(0);
     }
-    let Verdict::Hit(find) = given_header(data, hints, v, columns, v) else {
+    let Verdict::Hit(find) = given_header(payload, hints, v, columns, v) else {
         return Verdict::Miss(0);
     };
     if find.consumed > MOST_REBUILT {

@@ -72,7 +72,7 @@ fn cell_at(payload: &[u8], hints: &[u8], pos: usize) -> Cell
 
 // Adds the row that a record is, which stands at o in its page.
 fn add_cell(
-    record: &[u8],
+    body: &[u8],
     find: Find,
     id: u64,
     columns: usize,
@@ -83,9 +83,9 @@ fn add_cell(
     rows: &mut [u64],
     cols: &mut [u64],
 ) -> Carved
-    requires { ⌜ Part (now record) find columns ⌝ }
-    requires { ⌜ Ready (o + length (now record)) columns spot lent n (length (now rows)) (length (now cols)) ⌝ }
-    ensures { λ r. ⌜ Carves (lent .width) (lent .room) n (cellHit spot columns o id (foundAt (now (record .entry)) 0 find) ∷ []) false (now (rows .entry)) (now (cols .entry)) (carvedAs r) (now (rows .exit)) (now (cols .exit)) ⌝ }
+    requires { ⌜ Part (now body) find columns ⌝ }
+    requires { ⌜ Ready (o + length (now body)) columns spot lent n (length (now rows)) (length (now cols)) ⌝ }
+    ensures { λ r. ⌜ Carves (lent .width) (lent .room) n (cellHit spot columns o id (foundAt (now (body .entry)) 0 find) ∷ []) false (now (rows .entry)) (now (cols .entry)) (carvedAs r) (now (rows .exit)) (now (cols .exit)) ⌝ }
 {
     let confidence = suited_share(find.matched, columns as u16);
     let row = Row {
@@ -103,7 +103,7 @@ fn add_cell(
         from: find.from,
         by: spot.start + o,
     };
-    add_hit(record, at, columns, row, lent, n, rows, cols)
+    add_hit(body, at, columns, row, lent, n, rows, cols)
 }
 
 // The cells of a payload that stands at o in its page.
@@ -134,10 +134,19 @@ pub fn carve_cells(
                 id,
                 find,
             } => {
-                let record = &payload[start..end];
-                let Carved::On(next) =
-                    add_cell(record, find, id, columns, spot, o + start, lent, m, rows, cols)
-                else {
+                let body = &payload[start..end];
+                let Carved::On(next) = add_cell(
+                    body,
+                    find,
+                    id,
+                    columns,
+                    spot,
+                    o + start,
+                    lent,
+                    m,
+                    rows,
+                    cols,
+                ) else {
                     return Carved::Full;
                 };
                 m = next;

@@ -9,7 +9,7 @@ use lib.Dec.{leb}
 use lib.ListN.{length, length-append}
 use borrow.Author.Tests.{le-leb, leb-true}
 use Rattle.record.proofs.Laws.{varint-lies, varint-reach, places-length, places-are, places-count}
-use Rattle.record.proofs.Numbers.{by-order}
+use Rattle.record.proofs.Numbers.{by-order, by-test}
 use Rattle.record.specs.Places.{placesFrom, stopOf, varintPlaces}
 use Rattle.record.specs.Varint.{varintAt}
 use Rattle.record.specs.declared.varint.Cursor.{Cursor}
@@ -19,7 +19,7 @@ use Rattle.attempt.specs.Attempt.{Types, ended, cut, kind, kinds, isWhol
 use Rattle.attempt.specs.Hints.{suited}
 use Rattle.attempt.specs.Inner.{reach, headerTypes, totalFrom, sizes, Headed, WholeIs, MissIs, HitIs}
 use Rattle.attempt.specs.Places.{mostPlaces, typePlaces, attemptPlaces}
-use Rattle.attempt.proofs.Bodies.{total-min, hit-total}
+use Rattle.attempt.proofs.Bodies.{total-min, miss-count, hit-total}
 use Rattle.attempt.proofs.Types.{Stops, stops, types-end}
 
 cut-reach : (s : List ℕ) (ts : Types) → isWhole ts ≡ false → reach s ts ≡ length s
@@ -50,6 +50,16 @@ module _ (s hints : List ℕ) (o h from : ℕ) (head : Headed s o h from) where
       let r = read-all in
       let c = cut-reach s ts e in
       record { misses = rw e; counts = omega arith; few = omega arith }
+
+  -- types that are cut, or other than as many as hints
+  pub judge-never : (isWhole ts ≡ true → length (kinds ts) ≡ length hints → ⊥) → MissIs (judgedWhole (length s) hints o h ts) places (reach s ts - o)
+  judge-never none = let r = read-all in record { misses = by-test (isWhole ts) whole cut-off; counts = omega arith; few = omega arith }
+    where
+      whole : isWhole ts ≡ true → judgedWhole (length s) hints o h ts ≡ miss
+      whole e = rw e (miss-count (length s) hints o h (kinds ts) (head .inside) (none e))
+
+      cut-off : isWhole ts ≡ false → judgedWhole (length s) hints o h ts ≡ miss
+      cut-off e = rw e
 
   module _ (count matched total end : ℕ) (w : WholeIs s hints ts count matched total end) where
     -- what the tests between are for

@@ -1,8 +1,8 @@
 pub mod Agreeing
 mod Bodies
-mod Judging
+pub mod Judging
 pub mod Laws
 pub mod ReadBack
-mod Types
+pub mod Types
 pub mod Unique
 mod Writing

@@ -1,12 +1,12 @@
 -- What other crates rest on: they cite these laws and unfold no definition of this one.
 -- Assumes nothing.
-use Prim.Native.Nat.{ℕ, zero, suc, _+_, _-_, _<_, _≤_}
+use Prim.Native.Nat.{ℕ, zero, suc, _+_, _-_, _*_, _<_, _≤_, min}
 use mathlib.Core.Path.{_≡_, refl, sym, ap, _∙_}
 use mathlib.Core.Bool.{true, false, _||_, or-true}
 use mathlib.Core.Logic.{⊎-elim, by-cases}
 use native.Mathlib.Decide.{ℕ-discrete}
 use mathlib.Core.List.{List}
-use native.Mathlib.Nat.{eq-or-lt-of-le}
+use native.Mathlib.Nat.{eq-or-lt-of-le, zero-mul, zero-add}
 use native.Mathlib.Omega.{arith}
 use lib.Dec.{ltb}
 use lib.IntN.{ℤ, pos, negsuc, _-ℤ_}
@@ -32,7 +32,7 @@ use Rattle.record.specs.declared.varint.Varint.{Varint}
 use Rattle.record.specs.declared.varint.Varint.the-variants.{Value, Short}
 use Rattle.record.proofs.Numbers.{by-order}
 use Rattle.record.proofs.Values.{fits-inside, decoded}
-use Rattle.record.proofs.Varints.{at-end, at-ninth, at-last, at-more, over}
+use Rattle.record.proofs.Varints.{at-end, at-ninth, at-last, at-more, grown, over}
 
 -- ---- where a varint lies
 
@@ -90,6 +90,57 @@ varint-lies s at v c e =
     let z = varint-reach s at in
     let y : stopOf s (varintAt s at) ≡ c .at = ap (stopOf s) e in
     record { past = z .whole v c e; nine = omega (arith, z .near); inside = omega (arith, z .inside) }
+
+-- THE LAW: a byte below 128 is a varint of its own
+pub varint-low : (s : List ℕ) (at : ℕ) → at < length s → getD s at 0 < 128 → varintAt s at ≡ Value (getD s at 0) (record { at = at + 1 })
+unfolding varintAt
+varint-low s at h low = at-last s at 0 7 h low ∙ rw (zero-mul, zero-add)
+
+-- THE LAW: and none goes on behind one
+pub varint-ends : (s : List ℕ) (p : ℕ) → p < length s → getD s p 0 < 128 → (at : ℕ) → at ≤ p → stopOf s (varintAt s at) ≤ p + 1
+unfolding varintAt
+varint-ends s p h low at le =
+    over s (λ a v k x. a ≤ p → stopOf s x ≤ p + 1)
+    (λ a v k out l. absurd (omega arith))
+    (λ a v lt l. omega arith)
+    (λ a v k lt l m. omega arith)
+    (λ a v k lt high x z l.
+    by-order a p (λ before. z (omega arith))
+    (λ here. let e : a ≡ p = omega arith in let b = rw e at high in absurd (omega arith)))
+    at 0 8 le
+
+-- THE LAW: through bytes from 128 up, of which `to` is the end, one goes on for nine, or up to behind that end
+pub varint-through : (s : List ℕ) (at to : ℕ) → at < to → to ≤ length s → ((p : ℕ) → at ≤ p → p < to → 128 ≤ getD s p 0) → (to < length s → getD s to 0 < 128)
+    → stopOf s (varintAt s at) ≡ min (min (at + 9) (to + 1)) (length s)
+unfolding varintAt
+varint-through s at to some in′ high low =
+    over s (λ a v k x. at ≤ a → a ≤ to → stopOf s x ≡ min (min (a + (k + 1)) (to + 1)) (length s))
+    (λ a v k out l m. omega arith)
+    (λ a v lt l m. omega arith)
+    (λ a v k lt b l m.
+    by-order a to (λ before. let h = high a l before in absurd (omega arith)) (λ there. omega arith))
+    (λ a v k lt b x z l m.
+    by-order a to (λ before. z (omega arith) (omega arith) ∙ omega arith)
+    (λ there. let e : a ≡ to = omega arith in let h = low (omega arith) in let c = rw e at b in absurd (omega arith)))
+    at 0 8 (omega arith) (omega arith)
+
+-- THE LAW: one whose first byte is from 133 up is 640 or more
+pub varint-large : (s : List ℕ) (at : ℕ) → 133 ≤ getD s at 0 → getD s at 0 < 256 → (v : ℕ) (c : Cursor) → varintAt s at ≡ Value v c → 640 ≤ v
+unfolding varintAt
+varint-large s at big byte v c e =
+    by-order at (length s)
+    (λ h.
+    let r = rest (at + 1) (grown s at 0) 7 in
+    omega (arith, r v c (sym (at-more s at 0 7 h (omega arith)) ∙ e)))
+    (λ out. never (sym (at-end s at 0 8 out) ∙ e))
+  where
+    rest : (a w k : ℕ) (y : ℕ) (d : Cursor) → varintFrom s a w k ≡ Value y d → w * 128 ≤ y
+    rest =
+        over s (λ a w k x. (y : ℕ) (d : Cursor) → x ≡ Value y d → w * 128 ≤ y)
+        (λ a w k out y d f. never f)
+        (λ a w h y d f. let z : w * 256 + getD s a 0 ≡ y = cc in omega arith)
+        (λ a w k h low y d f. let z : w * 128 + getD s a 0 ≡ y = cc in omega arith)
+        (λ a w k h high x z y d f. omega (arith, z y d f))
 
 -- ---- the bytes that reading a varint looks at
 

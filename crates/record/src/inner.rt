@@ -2,7 +2,9 @@
 ghost use mathlib.Core.Path.{_≡_};
 ghost use Prim.Native.Nat.{_+_, _*_, _^_, _≤_, _<_};
 ghost use lib.ListN.{length};
+ghost use Rattle.record.specs.Places.{stopOf};
 ghost use Rattle.record.specs.Value.{bigEndian};
+ghost use Rattle.record.specs.Varint.{varintAt};
 
 pub fn wide(x: u8) -> u64
     ensures { λ r. ⌜ r ≡ x ⌝ }
@@ -24,4 +26,26 @@ pub fn big_endian(bytes: &[u8], at: usize, n: usize) -> u64
         i = i + 1;
     }
     v
+}
+
+// Where reading the varint at `from` stops, with nothing decoded: behind it, or at the slice's end where it runs off.
+pub fn skip_varint(bytes: &[u8], from: usize) -> usize
+    ensures { λ r. ⌜ r ≡ stopOf (now (bytes .entry)) (varintAt (now (bytes .entry)) from) ⌝ }
+{
+    let mut at = from;
+    let mut n: u64 = 0;
+    while n < 8 {
+        if bytes.len() <= at {
+            return bytes.len();
+        }
+        if bytes[at] < 128 {
+            return at + 1;
+        }
+        at = at + 1;
+        n = n + 1;
+    }
+    if bytes.len() <= at {
+        return bytes.len();
+    }
+    at + 1
 }

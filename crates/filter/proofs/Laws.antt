@@ -1,0 +1,46 @@
+-- What other crates rest on: offsets that are passed over, one after the other.
+-- Assumes nothing.
+use Prim.Native.Nat.{ℕ, zero, suc, _+_, _-_, _*_, _≤_, _<_}
+use mathlib.Core.Path.{_≡_, refl}
+use mathlib.Core.List.{List}
+use native.Mathlib.Omega.{arith}
+use lib.ListN.{length}
+use Rattle.attempt.specs.Places.{mostPlaces}
+use Rattle.filter.specs.Inner.{IsHigh, MissAt, MissFrom, Passed}
+
+-- no bytes are a run yet
+pub no-run : (s : List ℕ) → IsHigh s (record { from = 0; to = 0 })
+no-run s =
+    record {
+      inside = omega arith;
+      high = λ q lo hi. absurd (omega arith);
+      low-before = λ some _. absurd (omega arith);
+      low-behind = λ some _. absurd (omega arith);
+    }
+
+module _ (s hints : List ℕ) (start : ℕ) where
+  pub passed-none : Passed s hints start start 0
+  passed-none = record { count = 0; to-is = omega arith; over = refl; few = omega arith }
+
+  pub passed-one : (to read r : ℕ) → Passed s hints start to read → MissAt s hints to r → Passed s hints start (to + 1) (read + r)
+  passed-one to read r p m =
+      record {
+        count = suc (p .count);
+        to-is = omega (arith, p .to-is);
+        over = (read, r, p .over, rw (p .to-is) at m, refl);
+        few = omega (arith, p .few, m .few);
+      }
+
+-- what one attempt that fails keeps, passing over keeps
+pub passed-keeps : (s hints : List ℕ) (start last : ℕ) (P : ℕ → ℕ → Type 0)
+    → ((o read r : ℕ) → o < last → MissAt s hints o r → P o read → P (o + 1) (read + r))
+    → (to read₀ read : ℕ) → to ≤ last → Passed s hints start to read → P start read₀ → P to (read₀ + read)
+passed-keeps s hints start last P step to read₀ read le p base =
+    rw (p .to-is) (go (p .count) read (p .over) (omega (arith, p .to-is)))
+  where
+    go : (k read : ℕ) → MissFrom s hints start k read → start + k ≤ last → P (start + k) (read₀ + read)
+    go zero read e h = let z : start + 0 ≡ start = omega arith in let y : read₀ + read ≡ read₀ = omega arith in rw (z, y) base
+    go (suc k) read (sum, r, m, at, e) h =
+        let z : start + suc k ≡ start + k + 1 = omega arith in
+        let y : read₀ + read ≡ read₀ + sum + r = omega arith in
+        rw (z, y) (step (start + k) (read₀ + sum) r (omega arith) at (go k sum m (omega arith)))

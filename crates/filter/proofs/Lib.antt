@@ -1,0 +1,4 @@
+mod Headers
+pub mod Laws
+mod Runs
+mod Skipping

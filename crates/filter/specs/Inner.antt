@@ -1,0 +1,78 @@
+-- What the code carries between its own functions, and what its callers get; nothing that a reader of a call's contract has to believe.
+-- Assumes nothing.
+use Prim.Native.Nat.{ℕ, zero, suc, _+_, _-_, _*_, _≤_, _<_}
+use mathlib.Core.Path.{_≡_}
+use mathlib.Core.Bool.{Bool, true, false}
+use mathlib.Core.List.{List}
+use lib.ListN.{length, getD}
+use Rattle.attempt.specs.Attempt.{Types, kinds, isWhole, typesFrom, attemptAt}
+use Rattle.attempt.specs.Inner.{reach, MissIs}
+use Rattle.attempt.specs.Places.{mostPlaces, attemptPlaces}
+use Rattle.filter.specs.declared.high.High.{High}
+use Rattle.filter.specs.declared.inner.Look.{Look}
+use Rattle.filter.specs.declared.inner.Over.{Over}
+
+-- ---- runs of bytes from 128 up
+
+-- the run that p is in begins at r, and ends at r
+pub record Begins (s : List ℕ) (p r : ℕ) : Type 0 where
+  pub before : r ≤ p
+  pub high : (q : ℕ) → r ≤ q → q ≤ p → 128 ≤ getD s q 0
+  pub low : 0 < r → getD s (r - 1) 0 < 128
+
+pub record Stops (s : List ℕ) (p r : ℕ) : Type 0 where
+  pub behind : p < r
+  pub inside : r ≤ length s
+  pub high : (q : ℕ) → p ≤ q → q < r → 128 ≤ getD s q 0
+  pub low : r < length s → getD s r 0 < 128
+
+-- a run, if it is not empty
+pub record IsHigh (s : List ℕ) (run : High) : Type 0 where
+  pub inside : run .to ≤ length s
+  pub high : (q : ℕ) → run .from ≤ q → q < run .to → 128 ≤ getD s q 0
+  pub low-before : run .from < run .to → 0 < run .from → getD s (run .from - 1) 0 < 128
+  pub low-behind : run .from < run .to → run .to < length s → getD s (run .to) 0 < 128
+
+-- that has p in it
+pub record Holds (s : List ℕ) (p : ℕ) (run : High) : Type 0 where
+  pub is : IsHigh s run
+  pub from-there : run .from ≤ p
+  pub to-there : p < run .to
+
+-- ---- types
+
+-- false says that the types are not n, or are cut
+abbrev pub MayHave : Types → ℕ → Bool → Type 0
+MayHave ts n true = Unit
+MayHave ts n false = isWhole ts ≡ true → length (kinds ts) ≡ n → ⊥
+
+-- reading the types of w ends where reading on from `at` does, with fuel for what is left
+unfoldable pub Ends : List ℕ → Types → ℕ → ℕ → Type 0
+Ends s w at stop = (f : ℕ) × (stop ≤ at + f) × (reach s w ≡ reach s (typesFrom f s at stop))
+
+-- ---- offsets
+
+abbrev pub MissAt : List ℕ → List ℕ → ℕ → ℕ → Type 0
+MissAt s hints o read = MissIs (attemptAt s hints o) (attemptPlaces s o) read
+
+-- a number of header bytes says that the attempt fails and reads so many; 0 says nothing
+pub record Looked (s hints : List ℕ) (o : ℕ) (r : Look) : Type 0 where
+  pub misses : 0 < r .read → MissAt s hints o (r .read)
+  pub run-is : IsHigh s (r .run)
+
+-- the attempts at k offsets from o on fail, and read so many header bytes in all
+abbrev pub MissFrom : List ℕ → List ℕ → ℕ → ℕ → ℕ → Type 0
+MissFrom s hints o zero read = read ≡ 0
+MissFrom s hints o (suc k) read = (sum r : ℕ) × MissFrom s hints o k sum × MissAt s hints (o + k) r × (read ≡ sum + r)
+
+-- offsets from `start` to `to` are passed over
+pub record Passed (s hints : List ℕ) (start to read : ℕ) : Type 0 where
+  pub count : ℕ
+  pub to-is : to ≡ start + count
+  pub over : MissFrom s hints start count read
+  pub few : read ≤ mostPlaces * count
+
+pub record Went (s hints : List ℕ) (start last : ℕ) (r : Over) : Type 0 where
+  pub passed : Passed s hints start (r .to) (r .read)
+  pub near : start < last → r .to ≤ last
+  pub run-is : IsHigh s (r .run)

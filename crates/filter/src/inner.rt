@@ -1,0 +1,101 @@
+// Passing over offsets, for our own crates: the attempt decides where nothing is soon seen.
+pub use crate::high::High;
+use crate::high::run_around;
+use crate::high::varint_end;
+use crate::types::may_have;
+use crate::types::types_end;
+use record::inner::wide;
+ghost use mathlib.Core.Path.{_≡_};
+ghost use Prim.Native.Nat.{_≤_, _<_};
+ghost use lib.ListN.{length, getD};
+ghost use Rattle.filter.specs.Inner.{IsHigh, Looked, Went};
+ghost use Rattle.sheet.specs.Limits.{mostColumns, largestRegion};
+
+// The header bytes that an attempt reads where it is seen that it fails, else 0; and the run of high bytes that was met last.
+pub struct Look {
+    pub read: usize,
+    pub run: High,
+}
+
+// Up to where offsets are passed over, and the header bytes that attempts there read.
+pub struct Over {
+    pub to: usize,
+    pub read: usize,
+    pub run: High,
+}
+
+// A header of 2 to 127 bytes: its length is its first byte.
+fn look_header(bytes: &[u8], hints: &[u8], o: usize, head: usize, run: High) -> Look
+    requires { ⌜ (o < length (now bytes)) × (head ≡ getD (now bytes) o 0) × (2 ≤ head) × (head < 128) ⌝ }
+    requires { ⌜ (length (now bytes) ≤ largestRegion) × (length (now hints) ≤ mostColumns) ⌝ }
+    requires { ⌜ IsHigh (now bytes) run ⌝ }
+    ensures { λ r. ⌜ Looked (now (bytes .entry)) (now (hints .entry)) o r ⌝ }
+{
+    if head > bytes.len() - o {
+        return Look { read: 1, run };
+    }
+    if may_have(hints.len(), bytes, o, head) {
+        return Look { read: 0, run };
+    }
+    let last = o + head - 1;
+    if bytes[last] < 128 {
+        return Look { read: head, run };
+    }
+    let around = run_around(bytes, last, run);
+    Look {
+        read: types_end(bytes, o, head, around) - o,
+        run: around,
+    }
+}
+
+// A first byte below 2 is too short a header; one from 133 up begins a number above 512.
+fn look(bytes: &[u8], hints: &[u8], o: usize, run: High) -> Look
+    requires { ⌜ (o < length (now bytes)) × (length (now bytes) ≤ largestRegion) × (length (now hints) ≤ mostColumns) ⌝ }
+    requires { ⌜ IsHigh (now bytes) run ⌝ }
+    ensures { λ r. ⌜ Looked (now (bytes .entry)) (now (hints .entry)) o r ⌝ }
+{
+    let first = wide(bytes[o]);
+    if first < 2 {
+        return Look { read: 1, run };
+    }
+    if first < 128 {
+        return look_header(bytes, hints, o, first as usize, run);
+    }
+    if first < 133 {
+        return Look { read: 0, run };
+    }
+    let around = run_around(bytes, o, run);
+    Look {
+        read: varint_end(bytes.len(), around.to, o) - o,
+        run: around,
+    }
+}
+
+// Passes over offsets from `start` on, up to one at which a row may start, or to `last`.
+pub fn pass_over(bytes: &[u8], hints: &[u8], start: usize, last: usize, run: High) -> Over
+    requires { ⌜ (last ≤ length (now bytes)) × (length (now bytes) ≤ largestRegion) × (length (now hints) ≤ mostColumns) ⌝ }
+    requires { ⌜ IsHigh (now bytes) run ⌝ }
+    ensures { λ r. ⌜ Went (now (bytes .entry)) (now (hints .entry)) start last r ⌝ }
+{
+    let mut o = start;
+    let mut read: usize = 0;
+    let mut met = run;
+    while o < last {
+        let seen = look(bytes, hints, o, met);
+        if seen.read == 0 {
+            return Over {
+                to: o,
+                read,
+                run: met,
+            };
+        }
+        read = read + seen.read;
+        met = seen.run;
+        o = o + 1;
+    }
+    Over {
+        to: o,
+        read,
+        run: met,
+    }
+}

@@ -71,22 +71,24 @@ module _ (s : List ℕ) (stop : ℕ) (inside : stop ≤ length s) where
   takes : (f at : ℕ) → at ≤ stop → stop ≤ at + f → isWhole (typesFrom f s at stop) ≡ true
       → (stop ≤ at + 9 * length (kinds (typesFrom f s at stop))) × (length (kinds (typesFrom f s at stop)) ≤ stop - at)
   takes zero at le h e = rw (types-none s at stop) (omega arith, omega arith)
-  takes (suc f) at le h e = by-order at stop (λ lt. go lt (varintAt s at) refl) (λ ge. rw (types-end (suc f) s at stop ge) (omega arith, omega arith))
+  takes (suc f) at le h e = by-order at stop (λ lt. go lt (varintAt s at) refl (λ k. takes f k)) (λ ge. rw (types-end (suc f) s at stop ge) (omega arith, omega arith))
     where
       none : (k : ℕ) → stop ≤ k → length (kinds (typesFrom f s k stop)) ≡ 0
       none k ge = ap (λ t. length (kinds t)) (types-end f s k stop ge)
 
       go : at < stop → (v : Varint) → varintAt s at ≡ v
+          → ((k : ℕ) → k ≤ stop → stop ≤ k + f → isWhole (typesFrom f s k stop) ≡ true
+          → (stop ≤ k + 9 * length (kinds (typesFrom f s k stop))) × (length (kinds (typesFrom f s k stop)) ≤ stop - k))
           → (stop ≤ at + 9 * length (kinds (typesFrom (suc f) s at stop))) × (length (kinds (typesFrom (suc f) s at stop)) ≤ stop - at)
-      go lt (Value t c) v =
+      go lt (Value t c) v rest =
           let z = varint-lies s at t c v in
           let q = types-step f s at stop t c lt v in
           by-order stop (c .at)
           (λ past. let n = none (c .at) (omega arith) in rw q (omega (arith, z .nine), omega arith))
           (λ before.
-          let r = takes f (c .at) before (omega (arith, z .past)) (rw q at e) in
+          let r = rest (c .at) before (omega (arith, z .past)) (rw q at e) in
           rw q (omega (arith, z .nine, r .0), omega (arith, z .past, r .1)))
-      go lt Short v = never (rw (types-cut f s at stop lt v) at e)
+      go lt Short v rest = never (rw (types-cut f s at stop lt v) at e)
 
   module _ (f at n : ℕ) (le : at ≤ stop) (h : stop ≤ at + f) where
     pub too-long : 9 * n < stop - at → isWhole (typesFrom f s at stop) ≡ true → length (kinds (typesFrom f s at stop)) ≡ n → ⊥

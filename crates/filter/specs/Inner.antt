@@ -9,7 +9,7 @@ use Rattle.attempt.specs.Attempt.{Types, kinds, isWhole, typesFrom, attemptAt}
 use Rattle.attempt.specs.Inner.{reach, MissIs}
 use Rattle.attempt.specs.Places.{mostPlaces, attemptPlaces}
 use Rattle.filter.specs.declared.high.High.{High}
-use Rattle.filter.specs.declared.inner.Look.{Look}
+use Rattle.filter.specs.declared.inner.Seen.{Seen}
 use Rattle.filter.specs.declared.inner.Over.{Over}
 
 -- ---- runs of bytes from 128 up
@@ -56,7 +56,7 @@ abbrev pub MissAt : List ℕ → List ℕ → ℕ → ℕ → Type 0
 MissAt s hints o read = MissIs (attemptAt s hints o) (attemptPlaces s o) read
 
 -- a number of header bytes says that the attempt fails and reads so many; 0 says nothing
-pub record Looked (s hints : List ℕ) (o : ℕ) (r : Look) : Type 0 where
+pub record Looked (s hints : List ℕ) (o : ℕ) (r : Seen) : Type 0 where
   pub misses : 0 < r .read → MissAt s hints o (r .read)
   pub run-is : IsHigh s (r .run)
 

@@ -12,7 +12,7 @@ ghost use Rattle.filter.specs.Inner.{IsHigh, Looked, Went};
 ghost use Rattle.sheet.specs.Limits.{mostColumns, largestRegion};
 
 // The header bytes that an attempt reads where it is seen that it fails, else 0; and the run of high bytes that was met last.
-pub struct Look {
+pub struct Seen {
     pub read: usize,
     pub run: High,
 }
@@ -25,47 +25,47 @@ pub struct Over {
 }
 
 // A header of 2 to 127 bytes: its length is its first byte.
-fn look_header(bytes: &[u8], hints: &[u8], o: usize, head: usize, run: High) -> Look
+fn look_header(bytes: &[u8], hints: &[u8], o: usize, head: usize, run: High) -> Seen
     requires { ⌜ (o < length (now bytes)) × (head ≡ getD (now bytes) o 0) × (2 ≤ head) × (head < 128) ⌝ }
     requires { ⌜ (length (now bytes) ≤ largestRegion) × (length (now hints) ≤ mostColumns) ⌝ }
     requires { ⌜ IsHigh (now bytes) run ⌝ }
     ensures { λ r. ⌜ Looked (now (bytes .entry)) (now (hints .entry)) o r ⌝ }
 {
     if head > bytes.len() - o {
-        return Look { read: 1, run };
+        return Seen { read: 1, run };
     }
     if may_have(hints.len(), bytes, o, head) {
-        return Look { read: 0, run };
+        return Seen { read: 0, run };
     }
     let last = o + head - 1;
     if bytes[last] < 128 {
-        return Look { read: head, run };
+        return Seen { read: head, run };
     }
     let around = run_around(bytes, last, run);
-    Look {
+    Seen {
         read: types_end(bytes, o, head, around) - o,
         run: around,
     }
 }
 
 // A first byte below 2 is too short a header; one from 133 up begins a number above 512.
-fn look(bytes: &[u8], hints: &[u8], o: usize, run: High) -> Look
+fn look(bytes: &[u8], hints: &[u8], o: usize, run: High) -> Seen
     requires { ⌜ (o < length (now bytes)) × (length (now bytes) ≤ largestRegion) × (length (now hints) ≤ mostColumns) ⌝ }
     requires { ⌜ IsHigh (now bytes) run ⌝ }
     ensures { λ r. ⌜ Looked (now (bytes .entry)) (now (hints .entry)) o r ⌝ }
 {
     let first = wide(bytes[o]);
     if first < 2 {
-        return Look { read: 1, run };
+        return Seen { read: 1, run };
     }
     if first < 128 {
         return look_header(bytes, hints, o, first as usize, run);
     }
     if first < 133 {
-        return Look { read: 0, run };
+        return Seen { read: 0, run };
     }
     let around = run_around(bytes, o, run);
-    Look {
+    Seen {
         read: varint_end(bytes.len(), around.to, o) - o,
         run: around,
     }

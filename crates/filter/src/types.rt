@@ -31,7 +31,10 @@ pub fn may_have(columns: usize, bytes: &[u8], o: usize, head: usize) -> bool
         at = skip_varint(bytes, at);
         k = k + 1;
     }
-    at >= stop
+    if at < stop {
+        return false;
+    }
+    true
 }
 
 // Behind the header's last byte, if that is below 128; else the run that it is in decides: reading comes to the run's start, and there

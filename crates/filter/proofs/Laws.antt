@@ -44,3 +44,8 @@ passed-keeps s hints start last P step to read₀ read le p base =
         let z : start + suc k ≡ start + k + 1 = omega arith in
         let y : read₀ + read ≡ read₀ + sum + r = omega arith in
         rw (z, y) (step (start + k) (read₀ + sum) r (omega arith) at (go k sum m (omega arith)))
+
+-- one after the other
+pub passed-on : (s hints : List ℕ) (start o to read r : ℕ) → Passed s hints start o read → Passed s hints o to r → Passed s hints start to (read + r)
+passed-on s hints start o to read r p q =
+    passed-keeps s hints o to (λ a k. Passed s hints start a k) (λ a k m lt miss x. passed-one s hints start a k m x miss) to read r (omega arith) q p

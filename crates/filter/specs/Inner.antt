@@ -6,10 +6,13 @@ use mathlib.Core.Bool.{Bool, true, false}
 use mathlib.Core.List.{List}
 use lib.ListN.{length, getD}
 use Rattle.attempt.specs.Attempt.{Types, kinds, isWhole, typesFrom, attemptAt}
-use Rattle.attempt.specs.Inner.{reach, MissIs}
+use Rattle.attempt.specs.Inner.{reach, MissIs, HitIs}
 use Rattle.attempt.specs.Places.{mostPlaces, attemptPlaces}
+use Rattle.attempt.specs.declared.inner.Find.{Find}
 use Rattle.filter.specs.declared.high.High.{High}
 use Rattle.filter.specs.declared.inner.Seen.{Seen}
+use Rattle.filter.specs.declared.inner.Next.{Next}
+use Rattle.filter.specs.declared.inner.Next.the-variants.{Row, Through}
 use Rattle.filter.specs.declared.inner.Over.{Over}
 
 -- ---- runs of bytes from 128 up
@@ -76,3 +79,21 @@ pub record Went (s hints : List ℕ) (start last : ℕ) (r : Over) : Type 0 wher
   pub passed : Passed s hints start (r .to) (r .read)
   pub near : start < last → r .to ≤ last
   pub run-is : IsHigh s (r .run)
+
+-- ---- the next row, behind offsets that are passed over
+pub record RowIs (s hints : List ℕ) (start last at : ℕ) (x : Find) (read : ℕ) (run : High) : Type 0 where
+  pub passed : Passed s hints start at read
+  pub below : at < last
+  pub found : HitIs s hints at (attemptAt s hints at) (attemptPlaces s at) x
+  pub run-is : IsHigh s run
+
+-- or all are passed over
+pub record ThroughIs (s hints : List ℕ) (start last read : ℕ) : Type 0 where
+  pub to : ℕ
+  pub passed : Passed s hints start to read
+  pub there : last ≤ to
+  pub near : start < last → to ≤ last
+
+abbrev pub NextSays : List ℕ → List ℕ → ℕ → ℕ → Next → Type 0
+NextSays s hints start last (Row at x read run) = RowIs s hints start last at x read run
+NextSays s hints start last (Through read) = ThroughIs s hints start last read

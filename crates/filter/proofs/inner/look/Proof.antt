@@ -37,7 +37,7 @@ sub-t13 : tie.Need-sub-t13
 sub-t13 c = search needs
 
 returns-4 : tie.Need-returns-4
-returns-4 c = 
+returns-4 c =
     let p = c .before .before .before .before .before .before .before .before .before .pre in
     let h = c .before .run-around .ensures in
     let e = c .varint-end .ensures ∙ sym (run-varint _ _ (h .is) _ (h .from-there) (h .to-there)) in

@@ -38,7 +38,7 @@ loop-less : tie.Need-loop-less Inv-loop μ-loop
 loop-less c = search needs
 
 loop-again : tie.Need-loop-again Inv-loop μ-loop
-loop-again c = 
+loop-again c =
     let l = c .before .before .before .before .before .before .loop in
     let s = c .before .before .before .before .look .ensures in
     (λ h. omega (arith, c .before .before .before .before .before .loop-test .taken), passed-one _ _ _ _ _ _ (l .inv .1) (s .misses (omega arith)), s .run-is)

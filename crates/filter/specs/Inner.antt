@@ -93,6 +93,7 @@ pub record ThroughIs (s hints : List ℕ) (start last read : ℕ) : Type 0 where
   pub passed : Passed s hints start to read
   pub there : last ≤ to
   pub near : start < last → to ≤ last
+  pub early : last ≤ start → (to ≡ start) × (read ≡ 0)
 
 abbrev pub NextSays : List ℕ → List ℕ → ℕ → ℕ → Next → Type 0
 NextSays s hints start last (Row at x read run) = RowIs s hints start last at x read run

@@ -10,6 +10,9 @@ use lib.Seq.{sets, sets-eq}
 use borrow.Author.Tests.{lt-ltb, le-ltb}
 use Rattle.attempt.specs.Attempt.{Found, miss, hit, attemptAt}
 use Rattle.attempt.specs.Inner.{columnsAt, bodySize}
+use Rattle.filter.proofs.Laws.{passed-keeps}
+use Rattle.filter.specs.Inner.{Passed, ThroughIs}
+use Rattle.record.proofs.Numbers.{by-order}
 use Rattle.scan.specs.Inner.{Ran}
 use Rattle.attempt.specs.Places.{attemptPlaces}
 use Rattle.scan.specs.Scan.{Run, through, noRoom, missed, found, scanFrom, rowOf, rowsOf, rowCount, entriesOf, finishedPlaces, endOf, answerOf}
@@ -192,3 +195,16 @@ module _ (s hints : List ℕ) (base start room : ℕ) (rows₀ cols₀ rows cols
     unfolding On
     on-full x h e m (zero, q, g) = absurd (omega arith)
     on-full x h e m (suc f, q, g) = ran (noRoom o) (Full n o read) refl refl refl refl refl (rw (scan-full f s hints room o n h x e m) at g)
+
+-- ---- offsets that are passed over are attempts that failed
+module _ (s hints : List ℕ) (base start room : ℕ) (rows₀ cols₀ rows cols : List ℕ) (o n read last r : ℕ) (e : last ≡ length s - 2)
+    (on : On s hints base start room rows₀ cols₀ rows cols o n read) where
+  pub on-passed : (to : ℕ) → to ≤ last → Passed s hints o to r → On s hints base start room rows₀ cols₀ rows cols to n (read + r)
+  on-passed to le p =
+      passed-keeps s hints o last (λ a k. On s hints base start room rows₀ cols₀ rows cols a n k)
+      (λ a k m lt miss x. on-missed s hints base start room rows₀ cols₀ rows cols a n k m (omega arith) (miss .misses) (miss .counts) x) to read r le p on
+
+  pub on-through : ThroughIs s hints o last r → (to : ℕ) × (length s - 2 ≤ to) × On s hints base start room rows₀ cols₀ rows cols to n (read + r)
+  on-through t =
+      by-order o last (λ lt. (t .to, omega (arith, t .there), on-passed (t .to) (t .near lt) (t .passed)))
+      (λ ge. let z : read + r ≡ read = omega (arith, t .early ge .1) in (o, omega arith, rw z on))

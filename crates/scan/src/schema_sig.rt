@@ -3,6 +3,9 @@ use attempt::inner::Find;
 use attempt::inner::Verdict;
 use attempt::inner::attempt;
 use attempt::inner::put_columns;
+use filter::inner::High;
+use filter::inner::Next;
+use filter::inner::next_row;
 use sheet::LARGEST_BASE;
 use sheet::LARGEST_REGION;
 use sheet::WORDS_PER_ENTRY;
@@ -187,31 +190,37 @@ fn run(
     let mut o = start;
     let mut n: usize = 0;
     let mut read: usize = 0;
-    while o < last {
-        match attempt(bytes, hints, o) {
-            Verdict::Miss(r) => {
-                read = read + r;
-                o = o + 1;
+    let mut met = High { from: 0, to: 0 };
+    loop {
+        match next_row(bytes, hints, o, last, met) {
+            Next::Through(r) => {
+                return Scanned::Done {
+                    rows: n,
+                    place: bytes.len(),
+                    read: read + r,
+                };
             }
-            Verdict::Hit(find) => {
+            Next::Row {
+                at,
+                find,
+                read: r,
+                run: high,
+            } => {
+                read = read + r;
                 if n >= room {
                     return Scanned::Full {
                         rows: n,
-                        place: o,
+                        place: at,
                         read,
                     };
                 }
-                put_found(bytes, hints.len(), base, o, find, n, rows, cols);
+                put_found(bytes, hints.len(), base, at, find, n, rows, cols);
                 n = n + 1;
                 read = read + find.read;
-                o = o + find.consumed;
+                o = at + find.consumed;
+                met = high;
             }
         }
-    }
-    Scanned::Done {
-        rows: n,
-        place: bytes.len(),
-        read,
     }
 }
 

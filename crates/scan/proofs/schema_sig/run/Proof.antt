@@ -6,103 +6,129 @@ use native.Mathlib.Omega.{arith}
 use lib.ListN.{length}
 use denote.Ref.{now}
 use borrow.Author.Needs.{needs}
-use Rattle.attempt.specs.Attempt.{attemptAt, kinds}
-use Rattle.attempt.specs.Inner.{findTypes, MissIs, HitIs}
-use Rattle.scan.specs.Inner.{RoomFor}
-use Rattle.attempt.specs.Places.{mostPlaces, attemptPlaces}
-use Rattle.sheet.proofs.Laws.{room-rows, room-cols}
-use Rattle.scan.proofs.Running.{On, on-start, on-long, on-missed, on-found, on-end, on-full, room-all}
 use Rattle.attempt.proofs.Laws.{columns-at-length, hit-takes}
-use Rattle.sheet.specs.Limits.{largestRegion}
+use Rattle.attempt.specs.Attempt.{kinds}
+use Rattle.attempt.specs.Inner.{findTypes}
+use Rattle.attempt.specs.Places.{mostPlaces}
+use Rattle.filter.proofs.Laws.{no-run}
+use Rattle.filter.specs.Inner.{IsHigh, RowIs, ThroughIs}
+use Rattle.record.proofs.Numbers.{by-order}
+use Rattle.scan.specs.Inner.{RoomFor}
+use Rattle.scan.proofs.Running.{On, on-start, on-long, on-passed, on-through, on-found, on-end, on-full, room-all}
 use Rattle.scan.proofs.schema_sig.run.Statement.{statement}
 use Rattle.scan.proofs.schema_sig.run.Tie as tie
+use Rattle.sheet.proofs.Laws.{room-rows, room-cols}
+use Rattle.sheet.specs.Limits.{largestRegion}
 
 abbrev Inv-loop : tie.InvT-loop
-Inv-loop bytes hints base start room rows₀ cols₀ last o₀ n₀ read₀ rows cols o n read =
-    (n ≤ room) × (read ≤ mostPlaces * o) × On bytes hints base start room rows₀ cols₀ rows cols o n read
+Inv-loop bytes hints base start room rows₀ cols₀ last o₀ n₀ read₀ met₀ rows cols o n read met =
+    (n ≤ room) × (read ≤ mostPlaces * o) × (read ≤ mostPlaces * length bytes) × On bytes hints base start room rows₀ cols₀ rows cols o n read × IsHigh bytes met
 
 abbrev μ-loop : tie.MeasureT-loop
-μ-loop bytes hints base start room rows₀ cols₀ last o₀ n₀ read₀ rows cols o n read = length bytes - o
+μ-loop bytes hints base start room rows₀ cols₀ last o₀ n₀ read₀ met₀ rows cols o n read met = length bytes - o
 
--- in a turn the offset is below length - 2
-below : (c : tie.In-loop Inv-loop μ-loop) → c .before .loop .o < length (now (c .before .before .before .before .before .before .before .args .bytes)) - 2
-below c = omega (arith, c .loop-test .taken, c .before .before .last-of .ensures)
+-- all is passed over
+through : (c : tie.After-known-told Inv-loop μ-loop) →
+    let a = c .before .before .before .before .before .before .before .before .before .before .args in
+    ThroughIs (now (a .bytes)) (now (a .hints)) (c .before .before .before .before .loop .o) (c .before .before .before .before .before .last-of .result) (c .before .r .given .0 .0)
+through c = rw (c .before .r .given .1) at (c .before .before .before .next-row .ensures)
 
--- what an attempt that failed says
-missed : (c : tie.After-known-told Inv-loop μ-loop) →
-    let l = c .before .before .before .before .before .loop in
-    let a = c .before .before .before .before .before .before .before .before .before .before .before .args in
-    MissIs (attemptAt (now (a .bytes)) (now (a .hints)) (l .o)) (attemptPlaces (now (a .bytes)) (l .o)) (c .before .r .given .0 .0)
-missed c = rw (c .before .r .given .1) at (c .before .before .before .attempt .ensures)
-
--- and what one that found a row says
+-- or a row comes
 found : (c : tie.After-known-told2 Inv-loop μ-loop) →
-    let l = c .before .before .before .before .before .loop in
-    let a = c .before .before .before .before .before .before .before .before .before .before .before .args in
-    HitIs (now (a .bytes)) (now (a .hints)) (l .o) (attemptAt (now (a .bytes)) (now (a .hints)) (l .o)) (attemptPlaces (now (a .bytes)) (l .o)) (c .before .find .given .0 .0)
-found c = rw (c .before .find .given .1) at (c .before .before .before .attempt .ensures)
+    let a = c .before .before .before .before .before .before .before .before .before .before .args in
+    let x = c .before .at .given .0 in
+    RowIs (now (a .bytes)) (now (a .hints)) (c .before .before .before .before .loop .o) (c .before .before .before .before .before .last-of .result) (x .0) (x .1 .0) (x .1 .1 .0) (x .1 .1 .1 .0)
+found c = rw (c .before .at .given .1) at (c .before .before .before .next-row .ensures)
 
--- a row is found in the region, and takes at least two bytes
+-- it lies in the region, takes at least two bytes, and few header bytes were read
 taken : (c : tie.After-known-told2 Inv-loop μ-loop) →
-    let l = c .before .before .before .before .before .loop in
-    let a = c .before .before .before .before .before .before .before .before .before .before .before .args in
-    let x = c .before .find .given .0 .0 in
-    (2 ≤ x .consumed) × (l .o + x .consumed ≤ length (now (a .bytes))) × (length (now (a .bytes)) ≤ largestRegion) × (x .read ≤ mostPlaces)
+    let a = c .before .before .before .before .before .before .before .before .before .before .args in
+    let l = c .before .before .before .before .loop in
+    let x = c .before .at .given .0 in
+    (x .0 < length (now (a .bytes)) - 2) × (l .o ≤ x .0) × (2 ≤ x .1 .0 .consumed) × (x .0 + x .1 .0 .consumed ≤ length (now (a .bytes)))
+    × (length (now (a .bytes)) ≤ largestRegion) × (x .1 .0 .read ≤ mostPlaces) × (l .read + x .1 .1 .0 ≤ mostPlaces * x .0)
 taken c =
-    let h = found c in
-    (hit-takes _ _ _ _ (h .hits) .0, h .inside, c .before .before .before .before .before .before .before .before .before .before .before .pre .0 .small, h .few)
+    let f = found c in
+    let h = f .found in (
+      omega (arith, f .below, c .before .before .before .before .before .last-of .ensures),
+      omega (arith, f .passed .to-is),
+      hit-takes _ _ _ _ (h .hits) .0,
+      h .inside,
+      c .before .before .before .before .before .before .before .before .before .before .pre .0 .small,
+      h .few,
+      omega (arith, c .before .before .before .before .loop .inv .1, f .passed .to-is, f .passed .few),
+    )
+
+-- the run up to it
+there : (c : tie.After-known-told2 Inv-loop μ-loop) →
+    let a = c .before .before .before .before .before .before .before .before .before .before .args in
+    let l = c .before .before .before .before .loop in
+    let x = c .before .at .given .0 in
+    On (now (a .bytes)) (now (a .hints)) (a .base) (a .start) (a .room) (now (a .rows)) (now (a .cols)) (l .rows) (l .cols) (x .0) (l .n) (l .read + x .1 .1 .0)
+there c = on-passed _ _ _ _ _ _ _ _ _ _ _ _ _ _ (c .before .before .before .before .before .last-of .ensures) (c .before .before .before .before .loop .inv .3) _ (omega (arith, found c .below)) (found c .passed)
 
 last-of-requires : tie.Need-last-of-requires Inv-loop μ-loop
 last-of-requires c κs = search needs
 
 loop-holds : tie.Need-loop-holds Inv-loop μ-loop
-loop-holds c = (search needs, search needs, on-start _ _ _ _ _ _ _)
+loop-holds c = (search needs, search needs, search needs, on-start _ _ _ _ _ _ _, no-run _)
 
-attempt-requires : tie.Need-attempt-requires Inv-loop μ-loop
-attempt-requires c κs = (omega (arith, below c), c .before .before .before .before .before .before .before .pre .0 .small)
+next-row-requires : tie.Need-next-row-requires Inv-loop μ-loop
+next-row-requires c κs = let p = c .before .before .before .before .before .before .pre .0 in ((omega (arith, c .before .last-of .ensures), p .small, p .few), c .loop .inv .4)
 
 enum-known-r : tie.Need-enum-known-r Inv-loop μ-loop
 enum-known-r c = search needs
 
-add-read : tie.Need-add-read Inv-loop μ-loop
-add-read c = let b = below (c .before .before .before .before) in let p = c .before .before .before .before .before .before .before .before .before .before .before .pre .0 in omega (arith, missed c .few)
-
-add-o : tie.Need-add-o Inv-loop μ-loop
-add-o c = let b = below (c .before .before .before .before) in let p = c .before .before .before .before .before .before .before .before .before .before .before .pre .0 in omega arith
-
-loop-less : tie.Need-loop-less Inv-loop μ-loop
-loop-less c = omega (arith, below (c .before .before .before .before))
-
-loop-again : tie.Need-loop-again Inv-loop μ-loop
-loop-again c =
-    let l = c .before .before .before .before .before .loop in
-    let m = missed c in
-    (l .inv .0, omega (arith, l .inv .1, m .few), on-missed _ _ _ _ _ _ _ _ _ _ _ _ _ (below (c .before .before .before .before)) (m .misses) (m .counts) (l .inv .2))
-
-enum-known-find : tie.Need-enum-known-find Inv-loop μ-loop
-enum-known-find c = search needs
+add-t21 : tie.Need-add-t21 Inv-loop μ-loop
+add-t21 c =
+    let t = through c in
+    let l = c .before .before .before .before .loop in
+    let p = c .before .before .before .before .before .before .before .before .before .before .pre .0 in
+    by-order (l .o) (c .before .before .before .before .before .last-of .result)
+    (λ lt. omega (arith, l .inv .1, t .passed .few, t .passed .to-is, t .near lt, c .before .before .before .before .before .last-of .ensures, p .small))
+    (λ ge. omega (arith, l .inv .2, t .early ge .1, p .small))
 
 same-length : tie.Need-same-length Inv-loop μ-loop
-same-length c = on-long _ _ _ _ _ _ _ _ _ _ _ _ (c .before .before .before .before .before .before .loop .inv .2) .0
+same-length c = on-long _ _ _ _ _ _ _ _ _ _ _ _ (c .before .before .before .before .loop .inv .3) .0
 
 same-length-2 : tie.Need-same-length-2 Inv-loop μ-loop
-same-length-2 c = on-long _ _ _ _ _ _ _ _ _ _ _ _ (c .before .before .before .before .before .before .loop .inv .2) .1
+same-length-2 c = on-long _ _ _ _ _ _ _ _ _ _ _ _ (c .before .before .before .before .loop .inv .3) .1
 
 returns : tie.Need-returns Inv-loop μ-loop
 returns c =
-    let l = c .before .before .before .before .before .before .loop in
-    let p = c .before .before .before .before .before .before .before .before .before .before .before .before .pre in
+    let l = c .before .before .before .before .loop in
+    let p = c .before .before .before .before .before .before .before .before .before .before .pre in
     let r = room-all _ _ _ _ (rw (p .1) at (l .inv .0)) in
-    on-full _ _ _ _ _ _ _ _ _ _ _ _ (r .0) (r .1) _ (below (c .before .before .before .before .before)) (found (c .before) .hits) (c .if1 .taken) (l .inv .2)
+    let t = on-through _ _ _ _ _ _ _ _ _ _ _ _ _ _ (c .before .before .before .before .before .last-of .ensures) (l .inv .3) (through c) in
+    on-end _ _ _ _ _ _ _ _ _ _ _ _ (r .0) (r .1) (t .1) (t .2)
+
+enum-known-at : tie.Need-enum-known-at Inv-loop μ-loop
+enum-known-at c = search needs
+
+add-read : tie.Need-add-read Inv-loop μ-loop
+add-read c = let t = taken c in omega arith
+
+same-length-3 : tie.Need-same-length-3 Inv-loop μ-loop
+same-length-3 c = on-long _ _ _ _ _ _ _ _ _ _ _ _ (c .before .before .before .before .before .loop .inv .3) .0
+
+same-length-4 : tie.Need-same-length-4 Inv-loop μ-loop
+same-length-4 c = on-long _ _ _ _ _ _ _ _ _ _ _ _ (c .before .before .before .before .before .loop .inv .3) .1
+
+returns-2 : tie.Need-returns-2 Inv-loop μ-loop
+returns-2 c =
+    let k = c .before in
+    let p = k .before .before .before .before .before .before .before .before .before .before .pre in
+    let r = room-all _ _ _ _ (rw (p .1) at (k .before .before .before .before .loop .inv .0)) in
+    on-full _ _ _ _ _ _ _ _ _ _ _ _ (r .0) (r .1) _ (taken k .0) (found k .found .hits) (c .if1 .taken) (there k)
 
 put-found-requires : tie.Need-put-found-requires Inv-loop μ-loop
 put-found-requires c κs =
     let e = c .before .before in
-    let l = e .before .before .before .before .before .before .loop in
-    let p = e .before .before .before .before .before .before .before .before .before .before .before .before .pre in
-    let h = found (e .before) in
-    let long = on-long _ _ _ _ _ _ _ _ _ _ _ _ (l .inv .2) in
-    let n : l .n < _ = e .if1 .left in (
+    let k = e .before in
+    let p = k .before .before .before .before .before .before .before .before .before .before .pre in
+    let h = found k .found in
+    let long = on-long _ _ _ _ _ _ _ _ _ _ _ _ (k .before .before .before .before .loop .inv .3) in
+    let n : k .before .before .before .before .loop .n < _ = e .if1 .left in (
       (p .0 .few, p .0 .near, p .0 .small),
       (
         h .headed,
@@ -120,49 +146,32 @@ put-found-requires c κs =
     )
 
 add-n : tie.Need-add-n Inv-loop μ-loop
-add-n c = omega (arith, c .before .before .before .before .before .before .before .if1 .left)
+add-n c = omega (arith, c .before .before .before .before .before .before .before .if1 .left, c .before .before .before .before .before .before .before .before .before .before .before .before .before .before .before .before .before .before .fits .room)
 
 add-read-2 : tie.Need-add-read-2 Inv-loop μ-loop
-add-read-2 c =
-    let k = c .before .before .before .before .before .before .before .before .before in
-    let s = taken k in
-    let b = below (k .before .before .before .before) in
-    let l = k .before .before .before .before .before .loop in
-    omega (arith, l .inv .1)
+add-read-2 c = let t = taken (c .before .before .before .before .before .before .before .before .before) in omega arith
 
-add-o-2 : tie.Need-add-o-2 Inv-loop μ-loop
-add-o-2 c = let s = taken (c .before .before .before .before .before .before .before .before .before .before) in omega arith
+add-o : tie.Need-add-o Inv-loop μ-loop
+add-o c = let t = taken (c .before .before .before .before .before .before .before .before .before .before) in omega arith
 
-loop-less-2 : tie.Need-loop-less-2 Inv-loop μ-loop
-loop-less-2 c = let s = taken (c .before .before .before .before .before .before .before .before .before .before) in omega arith
+loop-less : tie.Need-loop-less Inv-loop μ-loop
+loop-less c = let t = taken (c .before .before .before .before .before .before .before .before .before .before) in omega arith
 
-loop-again-2 : tie.Need-loop-again-2 Inv-loop μ-loop
-loop-again-2 c =
+loop-again : tie.Need-loop-again Inv-loop μ-loop
+loop-again c =
     let k = c .before .before .before .before .before .before .before .before .before .before in
-    let l = k .before .before .before .before .before .loop in
-    let s = now (k .before .before .before .before .before .before .before .before .before .before .before .args .bytes) in
-    let x = k .before .find .given .0 .0 in
-    let h = found k in
-    let m = taken k in
+    let x = k .before .at .given .0 in
+    let f = found k in
+    let h = f .found in
+    let t = taken k in
     let q = c .before .before .before .before .before .before .put-found in (
       omega (arith, c .before .before .before .before .before .before .before .before .before .if1 .left),
-      omega (arith, l .inv .1, m .0, m .3),
-      on-found _ _ _ _ _ _ _ _ _ _ _ _ _ _ _ _ (below (k .before .before .before .before)) (h .hits) (c .before .before .before .before .before .before .before .before .before .if1 .left) (omega (arith, m .0)) (h .counts)
-          (columns-at-length (l .o + x .head) (kinds (findTypes s (l .o) x)) ∙ h .columns) (q .ensures .0) (q .ensures .1) (q .kept .1 .1 .1 .1 .1 .1 .0) (q .kept .1 .1 .1 .1 .1 .1 .1 .0) (l .inv .2),
+      omega (arith, t .2, t .5, t .6),
+      omega (arith, t .0, t .5, t .6),
+      on-found _ _ _ _ _ _ _ _ _ _ _ _ _ _ _ _ (t .0) (h .hits) (c .before .before .before .before .before .before .before .before .before .if1 .left) (omega (arith, t .2)) (h .counts)
+          (columns-at-length (x .0 + x .1 .0 .head) (kinds (findTypes (now (k .before .before .before .before .before .before .before .before .before .before .args .bytes)) (x .0) (x .1 .0))) ∙ h .columns) (q .ensures .0) (q .ensures .1) (q .kept .1 .1 .1 .1 .1 .1 .0) (q .kept .1 .1 .1 .1 .1 .1 .1 .0) (there k),
+      f .run-is,
     )
-
-same-length-3 : tie.Need-same-length-3 Inv-loop μ-loop
-same-length-3 c = on-long _ _ _ _ _ _ _ _ _ _ _ _ (c .before .loop .inv .2) .0
-
-same-length-4 : tie.Need-same-length-4 Inv-loop μ-loop
-same-length-4 c = on-long _ _ _ _ _ _ _ _ _ _ _ _ (c .before .loop .inv .2) .1
-
-returns-2 : tie.Need-returns-2 Inv-loop μ-loop
-returns-2 c =
-    let l = c .before .loop in
-    let p = c .before .before .before .before .before .before .before .pre in
-    let r = room-all _ _ _ _ (rw (p .1) at (l .inv .0)) in
-    on-end _ _ _ _ _ _ _ _ _ _ _ _ (r .0) (r .1) (omega (arith, c .loop-test .left, c .before .before .last-of .ensures)) (l .inv .2)
 
 pub run-spec : {M : Type 1} → statement M
 run-spec =
@@ -172,22 +181,20 @@ run-spec =
     μ-loop
     last-of-requires
     loop-holds
-    attempt-requires
+    next-row-requires
     enum-known-r
-    add-read
-    add-o
-    loop-less
-    loop-again
-    enum-known-find
+    add-t21
     same-length
     same-length-2
     returns
+    enum-known-at
+    add-read
+    same-length-3
+    same-length-4
+    returns-2
     put-found-requires
     add-n
     add-read-2
-    add-o-2
-    loop-less-2
-    loop-again-2
-    same-length-3
-    same-length-4
-    returns-2)
+    add-o
+    loop-less
+    loop-again)

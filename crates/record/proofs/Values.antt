@@ -23,6 +23,21 @@ pub small-length : (t n : ℕ) → t < 10 → bodyLength t ≡ Bytes n → n ≡
 unfolding bodyLength
 small-length t n h e = let z : Bytes (getD smallLengths t 0) ≡ Bytes n = simp (lt-ltb t 10 h) at e in cc
 
+-- the table by ranges
+pub below-five : (t : ℕ) → t < 5 → t ≡ getD smallLengths t 0
+below-five zero h = refl
+below-five (suc zero) h = refl
+below-five (suc (suc zero)) h = refl
+below-five (suc (suc (suc zero))) h = refl
+below-five (suc (suc (suc (suc zero)))) h = refl
+below-five (suc (suc (suc (suc (suc t))))) h = absurd (omega arith)
+
+pub six-seven : (t : ℕ) → 6 ≤ t → t < 8 → _≡_ {A = ℕ} 8 (getD smallLengths t 0)
+six-seven t lo hi = by-order t 7 (λ lt. let e : t ≡ 6 = omega arith in rw e) (λ ge. let e : t ≡ 7 = omega arith in rw e)
+
+pub eight-nine : (t : ℕ) → 8 ≤ t → t < 10 → _≡_ {A = ℕ} 0 (getD smallLengths t 0)
+eight-nine t lo hi = by-order t 9 (λ lt. let e : t ≡ 8 = omega arith in rw e) (λ ge. let e : t ≡ 9 = omega arith in rw e)
+
 abbrev AllMost : ℕ → List ℕ → Type 0
 AllMost m [] = Unit
 AllMost m (x ∷ xs) = T (leb x m) × AllMost m xs

@@ -58,13 +58,28 @@ pub enum Decoded {
     Nothing,
 }
 
-const SMALL_LENGTHS: [usize; 10] = [0, 1, 2, 3, 4, 6, 8, 8, 0, 0];
+// Of the types 0 to 9. A table would be built anew on the stack at each use.
+fn small_length(kind: u64) -> usize
+    requires { ⌜ kind < 10 ⌝ }
+    ensures { λ r. ⌜ r ≡ getD smallLengths kind 0 ⌝ }
+{
+    if kind < 5 {
+        return kind as usize;
+    }
+    if kind == 5 {
+        return 6;
+    }
+    if kind < 8 {
+        return 8;
+    }
+    0
+}
 
 pub fn body_length(kind: u64) -> Length
     ensures { λ r. ⌜ r ≡ bodyLength kind ⌝ }
 {
     if kind < 10 {
-        return Length::Bytes(SMALL_LENGTHS[kind as usize]);
+        return Length::Bytes(small_length(kind));
     }
     if kind < 12 {
         return Length::Reserved;

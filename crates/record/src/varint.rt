@@ -53,10 +53,17 @@ impl Cursor {
         self.varint(bytes)
     }
 
-    // and behind it stands a type for each column.
+    // and behind it stands a type for each column, most of one byte.
     pub fn serial_type(self, bytes: &[u8]) -> Varint
         ensures { λ r. ⌜ r ≡ varintAt (now (bytes .entry)) (self .at) ⌝ }
     {
+        let at = self.at;
+        if at < bytes.len() {
+            let first = wide(bytes[at]);
+            if first < 128 {
+                return Varint::Value(first, Cursor { at: at + 1 });
+            }
+        }
         self.varint(bytes)
     }
 }

@@ -6,15 +6,12 @@ use borrow.Author.Needs.{needs}
 use Rattle.record.proofs.record.body_length.Statement.{statement}
 use Rattle.record.proofs.record.body_length.Tie as tie
 
-mul-t5 : tie.Need-mul-t5
-mul-t5 c = search needs
-
-array-read-t8 : tie.Need-array-read-t8
-array-read-t8 c = search needs
+small-length-requires : tie.Need-small-length-requires
+small-length-requires c κs = search needs
 
 returns : tie.Need-returns
 unfolding bodyLength
-returns c = simp (lt-ltb _ _ (c .if1 .taken))
+returns c = simp (lt-ltb _ _ (c .before .if1 .taken), c .small-length .ensures)
 
 returns-2 : tie.Need-returns-2
 unfolding bodyLength
@@ -24,8 +21,8 @@ returns-3 : tie.Need-returns-3
 unfolding bodyLength
 returns-3 c = simp (le-ltb _ _ (c .before .before .if1 .left), le-ltb _ _ (c .before .if2 .left), eq-eqb _ _ (c .if3 .taken))
 
-sub-t9 : tie.Need-sub-t9
-sub-t9 c = search needs
+sub-t4 : tie.Need-sub-t4
+sub-t4 c = search needs
 
 returns-4 : tie.Need-returns-4
 unfolding bodyLength
@@ -33,4 +30,4 @@ returns-4 c = simp (le-ltb _ _ (c .before .before .if1 .left), le-ltb _ _ (c .be
 
 pub body-length-spec : {M : Type 1} → statement M
 body-length-spec =
-    tie.close (tie.spec mul-t5 array-read-t8 returns returns-2 returns-3 sub-t9 returns-4)
+    tie.close (tie.spec small-length-requires returns returns-2 returns-3 sub-t4 returns-4)

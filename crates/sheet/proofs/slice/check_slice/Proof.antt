@@ -1,17 +1,17 @@
--- `scan::schema_sig::check` meets its contract: each way out rewrites the definition by the tests on the way.
+-- `sheet::slice::check_slice` meets its contract: each way out rewrites the definition by the tests on the way.
 -- Assumes nothing.
-use mathlib.Core.Bool.{cond, not}
-use lib.ListN.{length}
-use denote.Ref.{now}
-use Rattle.sheet.specs.Limits.{countFits, hintsKnown}
-use Rattle.sheet.specs.declared.refusal.Checked.{Checked}
-use Rattle.sheet.specs.declared.refusal.Checked.the-variants.{Refused}
-use Rattle.sheet.specs.declared.refusal.Refusal.the-variants.{ColumnCount, Malformed}
 use mathlib.Core.Path.{_≡_, sym, _∙_}
-use borrow.Author.Tests.{lt-ltb, le-ltb, not-true, not-false}
+use mathlib.Core.Bool.{cond, not}
 use borrow.Author.Needs.{needs}
-use Rattle.scan.proofs.schema_sig.check.Statement.{statement}
-use Rattle.scan.proofs.schema_sig.check.Tie as tie
+use borrow.Author.Tests.{lt-ltb, le-ltb, not-true, not-false}
+use denote.Ref.{now}
+use lib.ListN.{length}
+use Rattle.sheet.proofs.slice.check_slice.Statement.{statement}
+use Rattle.sheet.proofs.slice.check_slice.Tie as tie
+use Rattle.sheet.specs.Limits.{countFits, hintsKnown}
+use Rattle.sheet.specs.declared.refusal.Checked.{Checked}
+use Rattle.sheet.specs.declared.refusal.Checked.the-variants.{Refused}
+use Rattle.sheet.specs.declared.refusal.Refusal.the-variants.{ColumnCount, Malformed}
 
 -- past the tests of the hints, the rest of the list decides
 ready : (c : tie.Else2) {x y : Checked} →
@@ -44,8 +44,8 @@ returns-4 c = ready (c .before .before) (simp (le-ltb _ _ (c .before .if3 .left)
 returns-5 : tie.Need-returns-5
 returns-5 c = ready (c .before .before) (simp (le-ltb _ _ (c .before .if3 .left), le-ltb _ _ (c .if4 .left)))
 
-pub check-spec : {M : Type 1} → statement M
-check-spec =
+pub check-slice-spec : {M : Type 1} → statement M
+check-slice-spec =
     tie.close
     (tie.spec
     hint-count-fits-requires

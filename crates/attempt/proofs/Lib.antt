@@ -3,6 +3,7 @@ mod Bodies
 pub mod Judging
 pub mod Laws
 pub mod ReadBack
+pub mod Shifts
 pub mod Types
 pub mod Unique
 mod Writing

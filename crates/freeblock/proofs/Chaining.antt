@@ -13,8 +13,8 @@ use borrow.Author.Tests.{lt-ltb, le-ltb, ltb-false, eqb-true, eq-eqb, ne-eqb}
 use lib.Dec.{ltb, eqb}
 use lib.ListN.{length, getD, set, replicate, length-set, length-replicate, getD-replicate}
 use lib.Seq.{getD-set-same, getD-set-other}
-use Rattle.freeblock.specs.Freeblock.{Block, chainEnds, blocksFrom, freeblocks}
-use Rattle.page.specs.Page.{among, firstFreeblock, blockNext, blockSize}
+use Rattle.freeblock.specs.Freeblock.{chainEnds, blocksFrom, freeblocks}
+use Rattle.page.specs.Page.{among, firstFreeblock, blockNext, blockSize, Block}
 
 -- ---- where it ends
 neither : (a b : Bool) → (a || b) ≡ false → (a ≡ false) × (b ≡ false)

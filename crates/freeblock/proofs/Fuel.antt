@@ -9,9 +9,9 @@ use native.Mathlib.Decide.{ℕ-discrete}
 use native.Mathlib.Omega.{arith}
 use borrow.Author.Tests.{eq-eqb, ne-eqb}
 use lib.ListN.{length}
-use Rattle.freeblock.specs.Freeblock.{Block, chainEnds, blocksFrom, freeblocks}
+use Rattle.freeblock.specs.Freeblock.{chainEnds, blocksFrom, freeblocks}
 use Rattle.freeblock.proofs.Chaining.{blocks-end, blocks-seen, blocks-on, lies}
-use Rattle.page.specs.Page.{among, firstFreeblock, blockNext, blockSize}
+use Rattle.page.specs.Page.{among, firstFreeblock, blockNext, blockSize, Block}
 
 -- how many places below n were not seen
 unfoldable free : ℕ → List ℕ → ℕ

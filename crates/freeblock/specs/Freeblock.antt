@@ -1,25 +1,20 @@
 -- The freeblocks of a page, and the rows that are carved out of them (rules 10.1 to 10.4).
 -- Assumes nothing.
-use Prim.Native.Nat.{ℕ, zero, suc, _+_, _-_, min}
+use Prim.Native.Nat.{ℕ, zero, suc, _+_, min}
 use mathlib.Core.Bool.{Bool, cond, _||_}
 use mathlib.Core.List.{List, [], _∷_, _++_}
 use lib.Dec.{ltb, eqb}
-use lib.ListN.{length, take, drop}
+use lib.ListN.{length, drop}
 use Rattle.attempt.specs.Attempt.{Found, Tried, miss, hit, attemptAt}
-use Rattle.page.specs.Page.{among, startOf, pageOf, headOf, firstFreeblock, blockNext, blockSize}
+use Rattle.hit.specs.Hit.{rowAt, hitOf}
+use Rattle.hit.specs.declared.inner.Spot.{Spot}
+use Rattle.page.specs.Page.{among, firstFreeblock, blockNext, blockSize, Block, payloadOf}
 use Rattle.sheet.specs.Confidence.{share, freedShare}
-use Rattle.sheet.specs.declared.columns.Column.{Column}
-use Rattle.sheet.specs.declared.columns.Column.the-variants.{Body, Unfit, Lost, Unused}
-use Rattle.sheet.specs.declared.row.Mode.the-variants.{Plain}
-use Rattle.sheet.specs.declared.row.Row.{Row}
 use Rattle.sheet.specs.declared.row.RowId.the-variants.{Absent}
 use Rattle.sheet.specs.declared.row.Source.the-variants.{Freelist}
-use Rattle.walk.specs.Carve.{Hit, Carver}
+use Rattle.walk.specs.Carve.{Hit}
 
 -- ---- the chain
-pub record Block : Type 0 where
-  pub at : ℕ
-  pub size : ℕ
 
 -- Rule 10.1: the chain ends at 0, below the b-tree header + 8, past the page, and at a size below 4 or past the page
 unfoldable pub chainEnds : List ℕ → ℕ → ℕ → Bool
@@ -38,10 +33,6 @@ unfoldable pub freeblocks : List ℕ → ℕ → List Block
 freeblocks page head = blocksFrom (length page) page head [] (firstFreeblock page head)
 
 -- ---- one block
-
--- Rule 10.2: its payload is what stands behind its first four bytes
-abbrev pub payloadOf : List ℕ → Block → List ℕ
-payloadOf page b = take (b .size - 4) (drop (b .at + 4) page)
 
 -- Rule 10.2: so many starts are tried at the most
 abbrev pub mostStarts : ℕ
@@ -64,50 +55,21 @@ firstFrom (suc k) payload hints v = firstOr v (firstFrom k payload hints (suc v)
 unfoldable pub firstStart : List ℕ → List ℕ → First
 firstStart payload hints = firstFrom (min mostStarts (length payload)) payload hints 0
 
--- columns of a part of a slice, said of the slice
-abbrev pub movedOne : ℕ → Column → Column
-movedOne by (Body kind start len) = Body kind (by + start) len
-movedOne by (Unfit kind) = Unfit kind
-movedOne by Lost = Lost
-movedOne by Unused = Unused
+-- Rules 10.3 and 5.4: the row that is found at the place o of a page
+abbrev pub hitAt : Spot → ℕ → ℕ → Found → Hit
+hitAt spot columns o x = hitOf spot (rowAt spot o (x .consumed) Absent Freelist (freedShare (share (x .matched) columns))) o (x .columns)
 
-abbrev pub moved : ℕ → List Column → List Column
-moved by [] = []
-moved by (c ∷ cs) = movedOne by c ∷ moved by cs
+abbrev pub firstHits : Spot → ℕ → ℕ → First → List Hit
+firstHits spot columns from nowhere = []
+firstHits spot columns from (startAt v x) = hitAt spot columns (from + v) x ∷ []
 
--- Rules 10.3 and 5.4: the row that is found at the place o of a page; the page's first byte has the absolute offset `base`, and the place
--- `start` in the lent slice
-abbrev pub hitAt : ℕ → ℕ → ℕ → ℕ → ℕ → Found → Hit
-hitAt base start table columns o x =
-    record {
-      row =
-          record {
-            offset = base + o;
-            consumed = x .consumed;
-            id = Absent;
-            source = Freelist;
-            confidence = freedShare (share (x .matched) columns);
-            mode = Plain;
-            table = table;
-          };
-      columns = moved (start + o) (x .columns);
-    }
-
-abbrev pub firstHits : ℕ → ℕ → ℕ → ℕ → ℕ → First → List Hit
-firstHits base start table columns from nowhere = []
-firstHits base start table columns from (startAt v x) = hitAt base start table columns (from + v) x ∷ []
-
-unfoldable pub blockHits : List ℕ → List ℕ → ℕ → ℕ → ℕ → Block → List Hit
-blockHits page hints base start table b = firstHits base start table (length hints) (b .at + 4) (firstStart (payloadOf page b) hints)
+unfoldable pub blockHits : List ℕ → List ℕ → Spot → Block → List Hit
+blockHits page hints spot b = firstHits spot (length hints) (b .at + 4) (firstStart (payloadOf page b) hints)
 
 -- ---- Rule 10.4: a page, block by block
-abbrev pub blocksHits : List ℕ → List ℕ → ℕ → ℕ → ℕ → List Block → List Hit
-blocksHits page hints base start table [] = []
-blocksHits page hints base start table (b ∷ bs) = blockHits page hints base start table b ++ blocksHits page hints base start table bs
+abbrev pub blocksHits : List ℕ → List ℕ → Spot → List Block → List Hit
+blocksHits page hints spot [] = []
+blocksHits page hints spot (b ∷ bs) = blockHits page hints spot b ++ blocksHits page hints spot bs
 
-unfoldable pub pageHits : List ℕ → ℕ → List ℕ → ℕ → ℕ → ℕ → List Hit
-pageHits page head hints base start table = blocksHits page hints base start table (freeblocks page head)
-
--- a page of a database: offsets and entries are said of the database
-unfoldable pub leafHits : List ℕ → ℕ → Carver
-leafHits db size table hints p = pageHits (pageOf db size p) (headOf p) hints (startOf size p) (startOf size p) table
+unfoldable pub pageHits : List ℕ → ℕ → List ℕ → Spot → List Hit
+pageHits page head hints spot = blocksHits page hints spot (freeblocks page head)

@@ -2,12 +2,12 @@
 use attempt::inner::Find;
 use attempt::inner::Verdict;
 use attempt::inner::attempt;
-use attempt::inner::put_columns;
-use sheet::WORDS_PER_ENTRY;
+use hit::inner::Head;
+use hit::inner::Lent;
+use hit::inner::Spot;
+use hit::inner::add_hit;
 use sheet::confidence::freed;
 use sheet::confidence::suited_share;
-use sheet::inner::put_row;
-use sheet::inner::put_unused;
 use sheet::row::Mode;
 use sheet::row::Row;
 use sheet::row::RowId;
@@ -15,23 +15,13 @@ use sheet::row::Source;
 use walk::inner::Carved;
 ghost use mathlib.Core.Path.{_≡_};
 ghost use mathlib.Core.Bool.{false};
-ghost use Prim.Native.Nat.{_+_, _*_, _≤_, min};
+ghost use Prim.Native.Nat.{_+_, _≤_, min};
 ghost use lib.ListN.{length};
-ghost use lib.Seq.{sets};
-ghost use Rattle.attempt.specs.Inner.{foundAt};
-ghost use Rattle.freeblock.specs.Freeblock.{mostStarts, firstStart, hitAt, firstHits, blockHits};
-ghost use Rattle.freeblock.specs.Inner.{Starts, Ready, Fitting};
-ghost use Rattle.sheet.specs.Limits.{wordsPerRow, wordsPerEntry, largestRegion};
-ghost use Rattle.sheet.specs.Row.{rowWords};
-ghost use Rattle.walk.specs.Carve.{groupWords};
+ghost use Rattle.freeblock.specs.Freeblock.{mostStarts, firstStart, firstHits, blockHits};
+ghost use Rattle.freeblock.specs.Inner.{Starts};
+ghost use Rattle.hit.specs.Inner.{Ready};
+ghost use Rattle.sheet.specs.Limits.{largestRegion};
 ghost use Rattle.walk.specs.Inner.{carvedAs, Carves};
-
-// Of a page: the absolute offset of its first byte, where it starts in the lent slice, and its table's index.
-pub struct Spot {
-    pub base: u64,
-    pub start: usize,
-    pub table: u16,
-}
 
 // The first start at which there is a row, and the row.
 pub enum Start {
@@ -62,24 +52,27 @@ fn first_start(payload: &[u8], hints: &[u8]) -> Start
     Start::Nothing
 }
 
-// Writes the row that stands at the start of a part, which is at o in its page, as the row n of both lists.
-fn put_freed(
-    part: &[u8],
-    find: Find,
-    columns: usize,
-    spot: Spot,
+// Carves a payload that is at o in its page.
+fn carve_payload(
+    payload: &[u8],
     o: usize,
-    width: usize,
+    hints: &[u8],
+    spot: Spot,
+    lent: Lent,
     n: usize,
     rows: &mut [u64],
     cols: &mut [u64],
-)
-    requires { ⌜ Fitting (now part) find columns spot o width n (length (now rows)) (length (now cols)) ⌝ }
-    ensures rows { λ _. ⌜ now (rows .exit) ≡ sets (now (rows .entry)) (n * wordsPerRow) (rowWords (hitAt (spot .base) (spot .start) (spot .table) columns o (foundAt (now (part .entry)) 0 find) .row)) ⌝ }
-    ensures cols { λ _. ⌜ now (cols .exit) ≡ sets (now (cols .entry)) (n * (wordsPerEntry * width)) (groupWords width (hitAt (spot .base) (spot .start) (spot .table) columns o (foundAt (now (part .entry)) 0 find))) ⌝ }
+) -> Carved
+    requires { ⌜ Ready (o + length (now payload)) (length (now hints)) spot lent n (length (now rows)) (length (now cols)) ⌝ }
+    ensures { λ r. ⌜ Carves (lent .width) (lent .room) n (firstHits spot (length (now (hints .entry))) o (firstStart (now (payload .entry)) (now (hints .entry)))) false (now (rows .entry)) (now (cols .entry)) (carvedAs r) (now (rows .exit)) (now (cols .exit)) ⌝ }
 {
+    let Start::At { v, find } = first_start(payload, hints) else {
+        return Carved::On(n);
+    };
+    let columns = hints.len();
+    let place = o + v;
     let row = Row {
-        offset: spot.base + o as u64,
+        offset: spot.base + place as u64,
         consumed: find.consumed as u64,
         id: RowId::Absent,
         source: Source::Freelist,
@@ -87,45 +80,13 @@ fn put_freed(
         mode: Mode::Plain,
         table: spot.table,
     };
-    put_row(rows, n, row);
-    let group = n * (WORDS_PER_ENTRY * width);
-    put_columns(part, 0, find.head, find.from, spot.start + o, cols, group);
-    put_unused(cols, group + WORDS_PER_ENTRY * columns, width - columns);
-}
-
-// Carves a payload that is at o in its page.
-fn carve_payload(
-    payload: &[u8],
-    o: usize,
-    hints: &[u8],
-    spot: Spot,
-    width: usize,
-    room: usize,
-    n: usize,
-    rows: &mut [u64],
-    cols: &mut [u64],
-) -> Carved
-    requires { ⌜ Ready (o + length (now payload)) (length (now hints)) spot width room n (length (now rows)) (length (now cols)) ⌝ }
-    ensures { λ r. ⌜ Carves width room n (firstHits (spot .base) (spot .start) (spot .table) (length (now (hints .entry))) o (firstStart (now (payload .entry)) (now (hints .entry)))) false (now (rows .entry)) (now (cols .entry)) (carvedAs r) (now (rows .exit)) (now (cols .exit)) ⌝ }
-{
-    let Start::At { v, find } = first_start(payload, hints) else {
-        return Carved::On(n);
+    let at = Head {
+        o: 0,
+        head: find.head,
+        from: find.from,
+        by: spot.start + place,
     };
-    if n >= room {
-        return Carved::Full;
-    }
-    put_freed(
-        &payload[v..],
-        find,
-        hints.len(),
-        spot,
-        o + v,
-        width,
-        n,
-        rows,
-        cols,
-    );
-    Carved::On(n + 1)
+    add_hit(&payload[v..], at, columns, row, lent, n, rows, cols)
 }
 
 // Carves the block of so many bytes at a place of a page.
@@ -135,27 +96,16 @@ pub fn carve_block(
     size: usize,
     hints: &[u8],
     spot: Spot,
-    width: usize,
-    room: usize,
+    lent: Lent,
     n: usize,
     rows: &mut [u64],
     cols: &mut [u64],
 ) -> Carved
     requires { ⌜ (4 ≤ size) × (at + size ≤ length (now page)) ⌝ }
-    requires { ⌜ Ready (length (now page)) (length (now hints)) spot width room n (length (now rows)) (length (now cols)) ⌝ }
-    ensures { λ r. ⌜ Carves width room n (blockHits (now (page .entry)) (now (hints .entry)) (spot .base) (spot .start) (spot .table) (record { at = at; size = size })) false (now (rows .entry)) (now (cols .entry)) (carvedAs r) (now (rows .exit)) (now (cols .exit)) ⌝ }
+    requires { ⌜ Ready (length (now page)) (length (now hints)) spot lent n (length (now rows)) (length (now cols)) ⌝ }
+    ensures { λ r. ⌜ Carves (lent .width) (lent .room) n (blockHits (now (page .entry)) (now (hints .entry)) spot (record { at = at; size = size })) false (now (rows .entry)) (now (cols .entry)) (carvedAs r) (now (rows .exit)) (now (cols .exit)) ⌝ }
 {
     let from = at + 4;
     let end = at + size;
-    carve_payload(
-        &page[from..end],
-        from,
-        hints,
-        spot,
-        width,
-        room,
-        n,
-        rows,
-        cols,
-    )
+    carve_payload(&page[from..end], from, hints, spot, lent, n, rows, cols)
 }

@@ -1,4 +1,4 @@
-// Rows in the freeblocks of a page: their chain, one block, and the calls.
+// Rows in the freeblocks of a page: their chain, one block, and the page.
 mod block;
 mod chain;
-pub mod freeblock;
+pub mod inner;

@@ -19,7 +19,8 @@ use Rattle.sheet.specs.Refusal.{after}
 use Rattle.sheet.specs.declared.refusal.Checked.{Checked}
 use Rattle.sheet.specs.declared.refusal.Checked.the-variants.{Passed, Refused as Held}
 
--- ---- a run
+-- ---- a run, attempt by attempt
+pub use Rattle.scan.proofs.Running.{scan-missed, scan-found, scan-end}
 
 -- where it found no room, if it did: from lo on, and in the region
 abbrev FullFrom : ℕ → ℕ → Run → Type 0

@@ -1,7 +1,7 @@
 -- The region scan (rules 4.8 to 4.11).
 -- Assumes nothing.
 use Prim.Native.Nat.{ℕ, zero, suc, _+_, _-_}
-use mathlib.Core.Bool.{cond, not}
+use mathlib.Core.Bool.{cond}
 use mathlib.Core.List.{List, [], _∷_, _++_}
 use lib.ListN.{length}
 use lib.Dec.{ltb}
@@ -11,11 +11,11 @@ use Rattle.scan.specs.declared.schema_sig.Scanned.{Scanned}
 use Rattle.scan.specs.declared.schema_sig.Scanned.the-variants.{Done, Full, Refused}
 use Rattle.sheet.specs.Columns.{roomOf}
 use Rattle.sheet.specs.Confidence.{share}
-use Rattle.sheet.specs.Limits.{largestRegion, largestBase, countFits, hintsKnown}
-use Rattle.sheet.specs.Refusal.{Check, firstHeld, refusalNumber, after, afterOr0, afterOrKept}
+use Rattle.sheet.specs.Refusal.{firstHeld, refusalNumber, after, afterOr0, afterOrKept}
 use Rattle.sheet.specs.Sheet.{overlay, rowsWords, columnsWords}
+use Rattle.sheet.specs.Slice.{sliceChecks}
 use Rattle.sheet.specs.declared.refusal.Checked.{Checked}
-use Rattle.sheet.specs.declared.refusal.Refusal.the-variants.{ColumnCount, Malformed, TooLarge, BaseTooFar, NoRoom}
+use Rattle.sheet.specs.declared.refusal.Refusal.the-variants.{NoRoom}
 use Rattle.sheet.specs.declared.row.Mode.the-variants.{Plain}
 use Rattle.sheet.specs.declared.row.Row.{Row}
 use Rattle.sheet.specs.declared.row.RowId.the-variants.{Absent}
@@ -116,17 +116,8 @@ answerOf s t = endOf (length s) (rowCount t) (length (finishedPlaces s t)) t
 
 -- ---- the call
 
--- the checks of a region of so many bytes, in rising order of their numbers
-abbrev pub scanChecks : ℕ → List ℕ → ℕ → List Check
-scanChecks len hints base =
-    record { refusal = ColumnCount; holds = not (countFits (length hints)) }
-    ∷ record { refusal = Malformed; holds = not (hintsKnown hints) }
-    ∷ record { refusal = TooLarge; holds = ltb largestRegion len }
-    ∷ record { refusal = BaseTooFar; holds = ltb largestBase base }
-    ∷ []
-
 abbrev pub scanChecked : List ℕ → List ℕ → ℕ → Checked
-scanChecked s hints base = firstHeld (scanChecks (length s) hints base)
+scanChecked s hints base = firstHeld (sliceChecks (length s) hints base)
 
 -- the run of a call whose lists have so many words
 abbrev pub scanRun : List ℕ → List ℕ → ℕ → ℕ → ℕ → Run

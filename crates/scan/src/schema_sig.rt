@@ -6,13 +6,9 @@ use attempt::inner::put_columns;
 use filter::inner::High;
 use filter::inner::Next;
 use filter::inner::next_row;
-use sheet::LARGEST_BASE;
-use sheet::LARGEST_REGION;
 use sheet::WORDS_PER_ENTRY;
 use sheet::columns::room;
 use sheet::confidence::suited_share;
-use sheet::hint::hint_count_fits;
-use sheet::hint::hints_known;
 use sheet::inner::put_row;
 use sheet::refusal::Checked;
 use sheet::refusal::FULL;
@@ -22,6 +18,7 @@ use sheet::row::Mode;
 use sheet::row::Row;
 use sheet::row::RowId;
 use sheet::row::Source;
+use sheet::slice::check_slice;
 ghost use mathlib.Core.Path.{_≡_};
 ghost use Prim.Native.Nat.{_+_, _-_, _*_, _≤_};
 ghost use lib.ListN.{length};
@@ -30,10 +27,9 @@ ghost use Rattle.attempt.specs.Attempt.{kinds};
 ghost use Rattle.attempt.specs.Inner.{sizes, findTypes, Headed, foundAt};
 ghost use Rattle.scan.specs.Inner.{Fit, RoomFor, Ran, Once};
 ghost use Rattle.scan.specs.Once.{onceAnswer, onceRows, onceCols, onceNumberOf, onceWrittenOf, onceNumber, onceWritten};
-ghost use Rattle.scan.specs.Scan.{rowOf, scanChecks, scanAnswer, scanRows, scanCols, numberOf, writtenOf, placeOf, readOf, scanNumber, scanWritten, scanPlace, scanCount};
+ghost use Rattle.scan.specs.Scan.{rowOf, scanAnswer, scanRows, scanCols, numberOf, writtenOf, placeOf, readOf, scanNumber, scanWritten, scanPlace, scanCount};
 ghost use Rattle.sheet.specs.Columns.{roomOf};
 ghost use Rattle.sheet.specs.Limits.{wordsPerRow, wordsPerEntry, mostColumns, largestRegion, largestBase};
-ghost use Rattle.sheet.specs.Refusal.{firstHeld};
 ghost use Rattle.sheet.specs.Row.{rowWords};
 ghost use Rattle.sheet.specs.Sheet.{columnsWords};
 
@@ -224,25 +220,6 @@ fn run(
     }
 }
 
-// The checks before a scan, in rising order of their numbers.
-fn check(len: usize, hints: &[u8], base: u64) -> Checked
-    ensures { λ r. ⌜ r ≡ firstHeld (scanChecks len (now (hints .entry)) base) ⌝ }
-{
-    if !hint_count_fits(hints.len()) {
-        return Checked::Refused(Refusal::ColumnCount);
-    }
-    if !hints_known(hints) {
-        return Checked::Refused(Refusal::Malformed);
-    }
-    if len > LARGEST_REGION {
-        return Checked::Refused(Refusal::TooLarge);
-    }
-    if base > LARGEST_BASE {
-        return Checked::Refused(Refusal::BaseTooFar);
-    }
-    Checked::Passed
-}
-
 pub fn scan_region(
     region: &[u8],
     hints: &[u8],
@@ -259,7 +236,7 @@ pub fn scan_region(
     ensures place { λ r. ⌜ placeOf r ≡ scanPlace (now (region .entry)) (now (hints .entry)) base start (length (now (rows .entry))) (length (now (cols .entry))) ⌝ }
     ensures count { λ r. ⌜ readOf r ≡ scanCount (now (region .entry)) (now (hints .entry)) base start (length (now (rows .entry))) (length (now (cols .entry))) ⌝ }
 {
-    match check(region.len(), hints, base) {
+    match check_slice(region.len(), hints, base) {
         Checked::Refused(refusal) => Scanned::Refused(refusal),
         Checked::Passed => {
             let room = room(rows.len(), cols.len(), hints.len());
@@ -309,7 +286,7 @@ pub fn try_parse_record(
     ensures number { λ r. ⌜ onceNumberOf r ≡ onceNumber (now (region .entry)) (now (hints .entry)) base offset (length (now (rows .entry))) (length (now (cols .entry))) ⌝ }
     ensures written { λ r. ⌜ onceWrittenOf r ≡ onceWritten (now (region .entry)) (now (hints .entry)) base offset (length (now (rows .entry))) (length (now (cols .entry))) ⌝ }
 {
-    match check(region.len(), hints, base) {
+    match check_slice(region.len(), hints, base) {
         Checked::Refused(refusal) => Attempted::Refused(refusal),
         Checked::Passed => {
             let room = room(rows.len(), cols.len(), hints.len());

@@ -7,17 +7,18 @@ use mathlib.Core.List.{List, [], _∷_, _++_}
 use native.Mathlib.Nat.{add-zero, add-suc, suc-add, suc-mul, min-le-left, min-le-right, min-eq-left, min-eq-right, le-of-lt, le-trans, le-div-iff-mul-le}
 use native.Mathlib.Numerals.{add-one}
 use native.Mathlib.Omega.{arith}
-use borrow.Author.Tests.{leb-true, ne-eqb, le-leb, lt-leb, le-ltb, lt-ltb}
+use borrow.Author.Tests.{leb-true, ltb-false, not-false, ne-eqb, le-leb, lt-leb, le-ltb, lt-ltb}
 use lib.Dec.{leb, ltb, eqb, lit≤}
 use lib.ListN.{length, drop, set, getD, length-append, length-drop}
 use lib.Seq.{sets, sets-eq, take-append-seam, drop-append-add, drop-cons, drop-drop}
 use Rattle.record.proofs.Numbers.{by-order}
 use Rattle.sheet.specs.Columns.{columnWords, unusedWords, roomOf}
 use Rattle.sheet.specs.Filled.{filledNumber, filledWritten, filledBy, writtenAfter}
-use Rattle.sheet.specs.Limits.{mostColumns, wordsPerRow, wordsPerEntry, highestHint, countFits, hintsKnown}
+use Rattle.sheet.specs.Limits.{mostColumns, wordsPerRow, wordsPerEntry, largestRegion, largestBase, highestHint, countFits, hintsKnown}
 use Rattle.sheet.specs.Refusal.{refusalNumber, Check, firstHeld}
 use Rattle.sheet.specs.Row.{rowWords}
 use Rattle.sheet.specs.Sheet.{overlay, rowsWords, columnsWords}
+use Rattle.sheet.specs.Slice.{sliceChecks}
 use Rattle.sheet.specs.declared.columns.Column.{Column}
 use Rattle.sheet.specs.declared.columns.Column.the-variants.{Body, Unfit, Lost, Unused}
 use Rattle.sheet.specs.declared.filled.Filled.{Filled}
@@ -60,6 +61,19 @@ unfolding countFits
 count-fits n h =
     let b = and-eq-true-iff (leb 1 n) (leb n mostColumns) .0 h in
     (leb-true 1 n (b .0), leb-true n mostColumns (b .1))
+
+-- THE LAW: what passed the checks of a slice
+pub record SliceFits (len columns base : ℕ) : Type 0 where
+  pub small : len ≤ largestRegion
+  pub some : 1 ≤ columns
+  pub few : columns ≤ mostColumns
+  pub near : base ≤ largestBase
+
+pub slice-fits : (len : ℕ) (hints : List ℕ) (base : ℕ) → firstHeld (sliceChecks len hints base) ≡ Passed → SliceFits len (length hints) base
+slice-fits len hints base e =
+    let n = none-holds (sliceChecks len hints base) e in
+    let k = count-fits (length hints) (not-false _ (n .0)) in
+    record { small = ltb-false largestRegion len (n .1 .1 .0); some = k .0; few = k .1; near = ltb-false largestBase base (n .1 .1 .1 .0) }
 
 -- THE LAW: of known hints each is at most 5
 pub hints-known : (hs : List ℕ) → hintsKnown hs ≡ true → (i : ℕ) → getD hs i 0 ≤ highestHint

@@ -5,3 +5,4 @@ pub mod Limits
 pub mod Refusal
 pub mod Row
 pub mod Sheet
+pub mod Slice

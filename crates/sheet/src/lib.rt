@@ -7,6 +7,7 @@ pub mod hint;
 pub mod inner;
 pub mod refusal;
 pub mod row;
+pub mod slice;
 
 // The numbers that the paper fixes.
 pub const MOST_COLUMNS: usize = 126;

@@ -11,9 +11,10 @@ use Rattle.attempt.specs.Attempt.{attemptAt}
 use Rattle.attempt.specs.Inner.{Tells}
 use Rattle.attempt.specs.Places.{attemptPlaces}
 use Rattle.freeblock.specs.Freeblock.{mostStarts}
-use Rattle.freeblock.proofs.Starting.{part-is, Looks, looks-start, looks-hit, looks-more, looks-end}
+use Rattle.freeblock.proofs.Starting.{Looks, looks-start, looks-hit, looks-more, looks-end}
 use Rattle.freeblock.proofs.block.first_start.Statement.{statement}
 use Rattle.freeblock.proofs.block.first_start.Tie as tie
+use Rattle.hit.proofs.Laws.{part-is}
 
 abbrev Inv-loop : tie.InvT-loop
 Inv-loop payload hints starts v₀ v = (starts ≤ length payload) × (v ≤ starts) × Looks payload hints starts v

@@ -14,10 +14,10 @@ use Rattle.scan.proofs.schema_sig.scan_region.Tie as tie
 checked : (c : tie.After-enum-told) →
     let a = c .before .before .before .before .before .before .before .args in
     scanChecked (now (a .region)) (now (a .hints)) (a .base) ≡ Passed
-checked c = sym (c .before .before .check .ensures) ∙ c .enum-told .given .1
+checked c = sym (c .before .before .check-slice .ensures) ∙ c .enum-told .given .1
 
-check-requires : tie.Need-check-requires
-check-requires c κs = search needs
+check-slice-requires : tie.Need-check-slice-requires
+check-slice-requires c κs = search needs
 
 enum-known-refusal : tie.Need-enum-known-refusal
 enum-known-refusal c = search needs
@@ -32,7 +32,7 @@ run-requires : tie.Need-run-requires
 run-requires c κs = (passed _ _ _ (checked (c .before .before .before)), c .before .before .room .ensures)
 
 returns : tie.Need-returns
-returns c = scan-refused _ _ _ _ _ _ _ (sym (c .before .before .before .check .ensures) ∙ c .before .refusal .given .1)
+returns c = scan-refused _ _ _ _ _ _ _ (sym (c .before .before .before .check-slice .ensures) ∙ c .before .refusal .given .1)
 
 same-length : tie.Need-same-length
 same-length c = search needs
@@ -49,7 +49,7 @@ pub scan-region-spec : {M : Type 1} → statement M
 scan-region-spec =
     tie.close
     (tie.spec
-    check-requires
+    check-slice-requires
     enum-known-refusal
     enum-told
     room-requires

@@ -1,0 +1,4 @@
+mod Chaining
+mod Gaps
+mod Going
+mod Regions

@@ -1,0 +1,109 @@
+-- What other crates rest on: they cite these laws and unfold no definition of this one.
+-- Assumes nothing.
+use Prim.Native.Nat.{ℕ, suc, _+_, _-_, _*_, _≤_, _<_}
+use mathlib.Core.Path.{_≡_, refl, ap, _∙_}
+use mathlib.Core.Bool.{Bool, false}
+use mathlib.Core.List.{List, [], _∷_, _++_}
+use native.Mathlib.Nat.{add-assoc}
+use native.Mathlib.Omega.{arith}
+use lib.ListN.{length, take, drop, length-drop}
+use lib.Seq.{sets, take-all, length-sets}
+use Rattle.attempt.proofs.Laws.{columns-at-length}
+use Rattle.attempt.specs.Attempt.{Tried, kinds}
+use Rattle.attempt.specs.Inner.{bodySize, columnsAt, findTypes, foundAt, HitIs}
+use Rattle.attempt.specs.declared.inner.Find.{Find}
+use Rattle.hit.specs.Hit.{moved, hitOf}
+use Rattle.hit.specs.Inner.{kindsAt, hitThere, Laid, Fitting, Space, Ready}
+use Rattle.hit.specs.declared.inner.Head.{Head}
+use Rattle.hit.specs.declared.inner.Lent.{Lent}
+use Rattle.hit.specs.declared.inner.Spot.{Spot}
+use Rattle.sheet.proofs.Laws.{sets-append, columns-words-length, room-rows, room-cols}
+use Rattle.sheet.specs.Columns.{unusedWords}
+use Rattle.sheet.specs.Limits.{wordsPerRow, wordsPerEntry, largestRegion}
+use Rattle.sheet.specs.Sheet.{rowsWords, columnsWords}
+use Rattle.sheet.specs.declared.row.Row.{Row}
+use Rattle.walk.proofs.Carving.{told-on}
+use Rattle.walk.specs.Carve.{Hit, rowsOf, groupWords, groupsWords}
+use Rattle.walk.specs.Inner.{on, Told, Carves}
+
+-- a part that goes on to the end
+pub part-is : (l : List ℕ) (v : ℕ) → take (length l - v) (drop v l) ≡ drop v l
+part-is l v = take-all (length l - v) (drop v l) (rw length-drop (omega arith))
+
+-- ---- columns
+
+-- THE LAW: columns of a part are those of the slice, laid from further on
+pub moved-at : (by at : ℕ) (ts : List ℕ) → moved by (columnsAt at ts) ≡ columnsAt (by + at) ts
+moved-at by at [] = refl
+moved-at by at (t ∷ ts) = rw (moved-at by (at + bodySize t) ts, ← add-assoc by at (bodySize t))
+
+-- the columns, and behind them what pads the group
+pub group-is : (cols : List ℕ) (group width columns : ℕ) (h : Hit) → length (h .columns) ≡ columns
+    → sets (sets cols group (columnsWords (h .columns))) (group + wordsPerEntry * columns) (unusedWords (width - columns)) ≡ sets cols group (groupWords width h)
+group-is cols group width columns h e =
+    let words : length (columnsWords (h .columns)) ≡ wordsPerEntry * columns = columns-words-length (h .columns) ∙ ap (λ (k : ℕ). wordsPerEntry * k) e in
+    rw (e, ← words) (sets-append cols group (columnsWords (h .columns)) (unusedWords (width - columns)))
+
+-- ---- a row that was found
+
+-- where the header of a find stands: at o of bytes that lie `by` bytes into the lent slice
+abbrev pub headAt : ℕ → Find → ℕ → Head
+headAt o x by = record { o = o; head = x .head; from = x .from; by = by }
+
+-- THE LAW: what an attempt tells of is laid in the bytes,
+pub find-laid : (s hints : List ℕ) (o : ℕ) (t : Tried) (p : List ℕ) (x : Find) (by : ℕ) → HitIs s hints o t p x → by + length s ≤ largestRegion
+    → Laid s (headAt o x by) (length hints)
+find-laid s hints o t p x by is in′ =
+    record {
+      headed = is .headed;
+      bodies = omega (arith, is .bodies, is .inside);
+      counts = is .columns;
+      inside = in′;
+    }
+
+-- and written it is the row that was found, said of the lent slice: its bytes begin at `part` of a page
+pub there-is : (s : List ℕ) (spot : Spot) (row : Row) (part o : ℕ) (x : Find)
+    → hitThere s (headAt o x (spot .start + part)) row ≡ hitOf spot row part (foundAt s o x .columns)
+there-is s spot row part o x = rw (moved-at (spot .start + part) (o + x .head) (kinds (findTypes s o x)))
+
+pub there-length : (s : List ℕ) (h : Head) (row : Row) (columns : ℕ) → Laid s h columns → length (hitThere s h row .columns) ≡ columns
+there-length s h row columns l = columns-at-length (h .by + (h .o + h .head)) (kindsAt s h) ∙ l .counts
+
+-- ---- room
+pub space-fits : (columns : ℕ) (lent : Lent) (n rows cols : ℕ) → Space columns lent n rows cols → n < lent .room → Fitting columns (lent .width) n rows cols
+space-fits columns lent n rows cols s h =
+    let below = rw (s .room-is) at h in
+    record {
+      narrow = s .narrow;
+      row = room-rows rows cols (lent .width) n below;
+      group = room-cols rows cols (lent .width) n below;
+    }
+
+-- THE LAW: rows that are written keep the lists as long as they were,
+module _ (width room n : ℕ) (hs : List Hit) (full : Bool) (rows cols : List ℕ) (r : Told) (rows′ cols′ : List ℕ) (x : Carves width room n hs full rows cols r rows′ cols′) where
+  pub carves-long : length rows′ ≡ length rows
+  carves-long = ap (λ (l : List ℕ). length l) (x .puts .rows-are) ∙ length-sets rows (n * wordsPerRow) (rowsWords (rowsOf (take (room - n) hs)))
+
+  pub carves-wide : length cols′ ≡ length cols
+  carves-wide = ap (λ (l : List ℕ). length l) (x .puts .cols-are) ∙ length-sets cols (n * (wordsPerEntry * width)) (groupsWords width (take (room - n) hs))
+
+-- and where no row is left over there is space behind them
+module _ (columns : ℕ) (lent : Lent) (n : ℕ) (hs : List Hit) (rows cols : List ℕ) (k : ℕ) (rows′ cols′ : List ℕ)
+    (x : Carves (lent .width) (lent .room) n hs false rows cols (on k) rows′ cols′) where
+  pub space-next : Space columns lent n (length rows) (length cols) → Space columns lent k (length rows′) (length cols′)
+  space-next s =
+      let t = told-on (lent .room) n (length hs) k false (x .answer) in
+      record {
+        narrow = s .narrow;
+        room-is = rw (carves-long (lent .width) (lent .room) n hs false rows cols (on k) rows′ cols′ x, carves-wide (lent .width) (lent .room) n hs false rows cols (on k) rows′ cols′ x) (s .room-is);
+        fits = omega (arith, t .0, t .1);
+      }
+
+  pub ready-next : (len : ℕ) (spot : Spot) → Ready len columns spot lent n (length rows) (length cols) → Ready len columns spot lent k (length rows′) (length cols′)
+  ready-next len spot r = record { inside = r .inside; near = r .near; some = r .some; few = r .few; space = space-next (r .space) }
+
+-- a part of a page is ready where the page is
+pub ready-part : (len len′ columns : ℕ) (spot : Spot) (lent : Lent) (n rows cols : ℕ) → len′ ≤ len → Ready len columns spot lent n rows cols
+    → Ready len′ columns spot lent n rows cols
+ready-part len len′ columns spot lent n rows cols h r =
+    record { inside = omega (arith, r .inside); near = r .near; some = r .some; few = r .few; space = r .space }

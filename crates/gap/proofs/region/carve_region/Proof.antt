@@ -15,16 +15,16 @@ use Rattle.gap.proofs.region.carve_region.Statement.{statement}
 use Rattle.gap.proofs.region.carve_region.Tie as tie
 
 abbrev Inv-loop : tie.InvT-loop
-Inv-loop bytes from hints spot lent n rows₀ cols₀ columns o₀ m₀ rows cols o m = (o ≤ length bytes) × Scanning bytes from hints spot lent n rows₀ cols₀ rows cols o m
+Inv-loop bytes from hints spot lent n rows₀ cols₀ o₀ m₀ rows cols o m = (o ≤ length bytes) × Scanning bytes from hints spot lent n rows₀ cols₀ rows cols o m
 
 abbrev μ-loop : tie.MeasureT-loop
-μ-loop bytes from hints spot lent n rows₀ cols₀ columns o₀ m₀ rows cols o m = length bytes - o
+μ-loop bytes from hints spot lent n rows₀ cols₀ o₀ m₀ rows cols o m = length bytes - o
 
 -- what an attempt that failed says
 missed : (c : tie.After-enum-told Inv-loop μ-loop) →
     let l = c .before .before .before .before .loop in
     let a = c .before .before .before .before .before .before .before .before .before .args in
-    MissIs (attemptAt (now (a .bytes)) (now (a .hints)) (l .o)) (attemptPlaces (now (a .bytes)) (l .o)) _
+    MissIs (attemptAt (now (a .bytes)) (now (a .hints)) (l .o)) (attemptPlaces (now (a .bytes)) (l .o)) (c .enum-told .given .0 .0)
 missed c = rw (c .enum-told .given .1) at (c .before .before .attempt .ensures)
 
 -- and what one that found a row says
@@ -61,13 +61,7 @@ enum-known-find : tie.Need-enum-known-find Inv-loop μ-loop
 enum-known-find c = search needs
 
 add-row-requires : tie.Need-add-row-requires Inv-loop μ-loop
-add-row-requires c κs =
-    let h = found (c .before .before) in
-    let p = c .before .before .before .before .before .before .before .before .before .before .before .before .pre in
-    let w = c .before .before .before .before .before .before .before .loop .inv .1 in (
-      record { headed = h .headed; bodies = omega (arith, h .bodies, h .inside); counts = h .columns; inside = omega (arith, p .inside) },
-      going-ready _ _ _ _ _ _ _ _ _ (w .going) _ _ _ p,
-    )
+add-row-requires c κs = (found (c .before .before), going-ready _ _ _ _ _ _ _ _ _ (c .before .before .before .before .before .before .before .loop .inv .1 .going) _ _ _ (c .before .before .before .before .before .before .before .before .before .before .before .before .pre))
 
 enum-known-next : tie.Need-enum-known-next Inv-loop μ-loop
 enum-known-next c = search needs

@@ -103,9 +103,18 @@ fn carve_region(
                 o = o + 1;
             }
             Verdict::Hit(find) => {
-                let Carved::On(next) =
-                    add_row(bytes, from, o, find, hints, spot, lent, m, rows, cols)
-                else {
+                let Carved::On(next) = add_row(
+                    bytes,
+                    from,
+                    o,
+                    find,
+                    hints,
+                    spot,
+                    lent,
+                    m,
+                    rows,
+                    cols,
+                ) else {
                     return Carved::Full;
                 };
                 m = next;

@@ -1,13 +1,13 @@
 -- A region scanned as by the scan, attempt by attempt: there is always room in the definition, since no more rows were found than bytes passed.
 -- Assumes nothing.
 use Prim.Native.Nat.{ℕ, zero, suc, _+_, _-_, _≤_, _<_}
-use mathlib.Core.Path.{_≡_, refl, sym, ap, _∙_}
-use mathlib.Core.Bool.{Bool, true, false, cond}
+use mathlib.Core.Path.{_≡_, ap}
+use mathlib.Core.Bool.{false}
 use mathlib.Core.List.{List, [], _∷_, _++_}
 use native.Mathlib.Omega.{arith}
 use lib.ListN.{length}
 use Rattle.attempt.proofs.Laws.{hit-takes}
-use Rattle.attempt.specs.Attempt.{Found, Tried, miss, hit, attemptAt}
+use Rattle.attempt.specs.Attempt.{Found, miss, hit, attemptAt}
 use Rattle.attempt.specs.Inner.{foundAt}
 use Rattle.attempt.specs.declared.inner.Find.{Find}
 use Rattle.gap.specs.Gap.{regionHit, runHits, regionHits}

@@ -55,7 +55,7 @@ loop-less c = search needs
 loop-again : tie.Need-loop-again Inv-loop μ-loop
 loop-again c =
     let t = c .before .before .before .loop-test .taken in
-    (omega (arith, t), scanning-missed _ _ _ _ _ _ _ _ _ _ _ _ (c .before .before .before .before .loop .inv .1) t (missed c .misses))
+    (omega (arith, t), scanning-missed _ _ _ _ _ _ _ _ _ _ _ _ (c .before .before .before .before .loop .inv .1) (omega (arith, t)) (missed c .misses))
 
 enum-known-find : tie.Need-enum-known-find Inv-loop μ-loop
 enum-known-find c = search needs
@@ -77,7 +77,7 @@ same-length-2 c = c .before .before .before .before .before .before .add-row .ke
 
 returns : tie.Need-returns Inv-loop μ-loop
 returns c =
-    scanning-full _ _ _ _ _ _ _ _ _ _ _ _ (c .before .before .before .before .before .before .before .before .before .before .before .before .before .before .loop .inv .1) (c .before .before .before .before .before .before .before .before .before .before .before .before .before .loop-test .taken) _ (found (c .before .before .before .before .before .before .before .before .before) .hits) _ _
+    scanning-full _ _ _ _ _ _ _ _ _ _ _ _ (c .before .before .before .before .before .before .before .before .before .before .before .before .before .before .loop .inv .1) (omega (arith, c .before .before .before .before .before .before .before .before .before .before .before .before .before .loop-test .taken)) _ (found (c .before .before .before .before .before .before .before .before .before) .hits) _ _
     (rw (c .enum-told2 .given .1) at (c .before .before .before .before .before .before .add-row .ensures))
 
 add-o-2 : tie.Need-add-o-2 Inv-loop μ-loop
@@ -90,7 +90,7 @@ loop-again-2 : tie.Need-loop-again-2 Inv-loop μ-loop
 loop-again-2 c =
     let h = found (c .before .before .before .before .before .before .before .before .before .before .before) in (
       h .inside,
-      scanning-found _ _ _ _ _ _ _ _ _ _ _ _ (c .before .before .before .before .before .before .before .before .before .before .before .before .before .before .before .before .loop .inv .1) (c .before .before .before .before .before .before .before .before .before .before .before .before .before .before .before .loop-test .taken) _ (h .hits) _ _ _
+      scanning-found _ _ _ _ _ _ _ _ _ _ _ _ (c .before .before .before .before .before .before .before .before .before .before .before .before .before .before .before .before .loop .inv .1) (omega (arith, c .before .before .before .before .before .before .before .before .before .before .before .before .before .before .before .loop-test .taken)) _ (h .hits) _ _ _
           (rw (c .before .before .next .given .1) at (c .before .before .before .before .before .before .before .before .add-row .ensures)),
     )
 

@@ -10,8 +10,8 @@ use borrow.Author.Tests.{lt-ltb, le-ltb}
 use lib.Dec.{ltb}
 use lib.ListN.{length, drop, length-drop}
 use Rattle.attempt.proofs.Shifts.{back-moved, given, movedTried, oneLonger, given-moved, made-up, made-up-cut}
-use Rattle.attempt.specs.Attempt.{Found, Tried, miss, hit, kinds, judgedWhole, mostBytes}
-use Rattle.attempt.specs.Inner.{columnsAt, headerTypes, findTypes, foundAt, HitIs}
+use Rattle.attempt.specs.Attempt.{Tried, miss, hit, kinds, mostBytes}
+use Rattle.attempt.specs.Inner.{columnsAt, findTypes, HitIs}
 use Rattle.attempt.specs.Moved.{moved, back}
 use Rattle.attempt.specs.declared.inner.Find.{Find}
 use Rattle.cells.specs.Cells.{withoutByte, oneByte, rebuiltHit, startHits}
@@ -24,13 +24,11 @@ use Rattle.hit.specs.declared.inner.Spot.{Spot}
 use Rattle.record.proofs.Shifts.{part-rest}
 use Rattle.sheet.specs.Confidence.{share, rebuiltShare, percentOf}
 use Rattle.sheet.specs.Limits.{mostColumns}
-use Rattle.sheet.specs.declared.columns.Column.{Column}
 use Rattle.sheet.specs.declared.row.Row.{Row}
 use Rattle.sheet.specs.declared.row.RowId.the-variants.{Absent}
 use Rattle.sheet.specs.declared.row.Source.the-variants.{CarvedIntraPage}
 use Rattle.walk.proofs.Carving.{carves-none}
-use Rattle.walk.specs.Carve.{Hit}
-use Rattle.walk.specs.Inner.{Told, on, over, Carves}
+use Rattle.walk.specs.Inner.{Told, on, Carves}
 
 -- what was found at v, said of the bytes from v on
 abbrev pub seenFrom : ℕ → Tried → Tried
@@ -84,6 +82,9 @@ module _ (d hints : List ℕ) (v : ℕ) (start : v ≤ length d) (some : 1 ≤ l
       rebuilt-is q = seen ∙ simp (lt-ltb (x .consumed) mostBytes (omega arith))
 
 -- ---- one start is carved
+pub start-next : (k : ℕ) (passed : Bool) → passed ≡ false → k ≡ nextRow k passed
+start-next k passed e = rw e
+
 moved-twice : (a b : ℕ) (at : ℕ) (ts : List ℕ) → moved a (columnsAt (b + at) ts) ≡ moved (a + b) (columnsAt at ts)
 moved-twice a b at ts = moved-at a (b + at) ts ∙ rw (← add-assoc a b at) (sym (moved-at (a + b) at ts))
 
@@ -112,9 +113,6 @@ module _ (d hints : List ℕ) (v : ℕ) (spot : Spot) (o : ℕ) (lent : Lent) (k
   start-passed e = rw e (none, omega arith)
 
   module _ (e : passed ≡ false) where
-    pub start-next : k ≡ nextRow k passed
-    start-next = rw e
-
     pub start-none : oneByte d hints v ≡ miss → Started (on n) rows cols
     start-none m = rw (e, m) none
 

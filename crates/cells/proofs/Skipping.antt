@@ -2,19 +2,18 @@
 -- Assumes nothing.
 use Prim.Native.Nat.{ℕ, zero, suc, _+_, _-_, _*_, _≤_, _<_}
 use mathlib.Core.Path.{_≡_, refl, sym, ap, _∙_}
-use mathlib.Core.Bool.{Bool, true, false, _&&_, _||_}
+use mathlib.Core.Bool.{true, false, and-eq-true-iff}
 use mathlib.Core.List.{List, [], _∷_, _++_}
 use mathlib.Core.Logic.{by-cases}
 use native.Mathlib.Decide.{ℕ-discrete}
 use native.Mathlib.Omega.{arith}
-use borrow.Author.Tests.{lt-ltb, le-ltb, eq-eqb, ne-eqb}
+use borrow.Author.Tests.{lt-ltb, le-ltb, eq-eqb, ne-eqb, ltb-true}
 use lib.Dec.{ltb, eqb}
-use lib.ListN.{length, take, drop, getD, set, length-append}
+use lib.ListN.{length, take, drop, getD, set}
 use lib.Seq.{sets, length-sets, getD-set-same, getD-set-other, take-all}
 use Rattle.cells.specs.Cells.{CellRow, Looked, noCell, cell, cellAt, cellsFrom, cellsOf, cellHit, cellHits, startsOf}
 use Rattle.cells.specs.Inner.{cellsThere, nextPlace, isCell, nextRow, Standing}
 use Rattle.cells.proofs.Looking.{cell-from, cells-none, cells-end, cells-on}
-use Rattle.hit.specs.declared.inner.Lent.{Lent}
 use Rattle.hit.specs.declared.inner.Spot.{Spot}
 use Rattle.page.specs.Page.{among}
 use Rattle.record.proofs.Numbers.{by-order}
@@ -23,7 +22,6 @@ use Rattle.sheet.specs.Columns.{roomOf}
 use Rattle.sheet.specs.Limits.{wordsPerRow}
 use Rattle.sheet.specs.Row.{rowWords}
 use Rattle.sheet.specs.Sheet.{rowsWords}
-use Rattle.sheet.specs.declared.row.Row.{Row}
 use Rattle.walk.proofs.Carving.{told-on}
 use Rattle.walk.specs.Carve.{Hit, rowsOf}
 use Rattle.walk.specs.Inner.{on, Told, Carves}
@@ -64,6 +62,7 @@ module _ (spot : Spot) (o : ℕ) (rows : List ℕ) (cells v : ℕ) where
 
   -- THE LAW
   pub next-decides : (k : ℕ) (l : List ℕ) → Standing spot o rows cells k l → Rising v l → isCell rows k cells (spot .base + (o + v)) ≡ among v l
+  unfolding isCell
   next-decides k [] s r = simp (le-ltb k cells (omega arith))
   next-decides k (a ∷ bs) s r =
       by-cases (ℕ-discrete v a)
@@ -100,6 +99,10 @@ module _ (spot : Spot) (o : ℕ) (S rows : List ℕ) (cells v k : ℕ) (w : Pass
       rw (next-decides spot o rows cells v k (w .left) (w .standing) (w .rising))
       (record { left = n .0; standing = n .1; rising = n .2; same = λ u h. w .same u (omega arith) ∙ n .3 u h })
 
+pub cell-below : (rows : List ℕ) (k cells offset : ℕ) → isCell rows k cells offset ≡ true → k < cells
+unfolding isCell
+cell-below rows k cells offset e = ltb-true k cells (and-eq-true-iff (ltb k cells) (eqb (getD rows (k * wordsPerRow) 0) offset) .0 e .0)
+
 -- ---- words that are written elsewhere
 getD-sets-before : (l : List ℕ) (i : ℕ) (vs : List ℕ) (j : ℕ) → j < i → getD (sets l i vs) j 0 ≡ getD l j 0
 getD-sets-before l i [] j h = refl
@@ -123,7 +126,7 @@ pub passing-kept : (spot : Spot) (o : ℕ) (S : List ℕ) (rows cols : List ℕ)
 passing-kept spot o S rows cols cells v k width room m hs r rows′ cols′ h x w =
     record {
       left = w .left;
-      standing = rw (x .puts .rows-are) (standing-kept spot o rows cells m _ h k (w .left) (w .standing));
+      standing = rw (x .puts .rows-are) (standing-kept spot o rows cells m (rowsWords (rowsOf (take (room - m) hs))) h k (w .left) (w .standing));
       rising = w .rising;
       same = w .same;
     }

@@ -1,22 +1,22 @@
 -- Starts one after the other: what was carved at those before v, with what the others give, is the whole.
 -- Assumes nothing.
-use Prim.Native.Nat.{ℕ, zero, suc, _+_, _-_, _≤_, _<_}
-use mathlib.Core.Path.{_≡_, refl, sym, ap, _∙_}
-use mathlib.Core.Bool.{Bool, false}
-use mathlib.Core.List.{List, [], _∷_, _++_}
+use Prim.Native.Nat.{ℕ, zero, suc, _+_, _≤_, _<_}
+use mathlib.Core.Path.{_≡_, refl}
+use mathlib.Core.Bool.{false}
+use mathlib.Core.List.{List, _++_}
 use native.Mathlib.Numerals.{add-one}
 use native.Mathlib.Omega.{arith}
 use lib.ListN.{length}
-use Rattle.cells.specs.Cells.{Rebuilder, oneByte, cellsOf, startsOf, startHits, rebuiltFrom}
+use Rattle.cells.specs.Cells.{Rebuilder, oneByte, cellsOf, cellHits, startsOf, rebuiltStarts, startHits, rebuiltFrom, payloadHits}
 use Rattle.cells.specs.Inner.{isCell, nextRow, Standing}
 use Rattle.cells.proofs.Along.{Along, along-start, along-end, along-on, along-full}
 use Rattle.cells.proofs.Skipping.{Passing, passing-start, passing-is, passing-on, passing-kept}
 use Rattle.hit.specs.declared.inner.Lent.{Lent}
 use Rattle.hit.specs.declared.inner.Spot.{Spot}
 use Rattle.page.specs.Page.{among}
-use Rattle.walk.proofs.Carving.{told-on}
+use Rattle.walk.proofs.Carving.{told-on, carves-more, carves-stop}
 use Rattle.walk.specs.Carve.{Hit}
-use Rattle.walk.specs.Inner.{on, over, Carves}
+use Rattle.walk.specs.Inner.{Told, on, over, Carves}
 
 rebuilt-step : (j : ℕ) (rebuild : Rebuilder) (spot : Spot) (o : ℕ) (S d hints : List ℕ) (v : ℕ)
     → rebuiltFrom (suc j) rebuild spot o S d hints v ≡ startHits spot (length hints) o v (among v S) (rebuild d hints v) ++ rebuiltFrom j rebuild spot o S d hints (suc v)
@@ -81,3 +81,16 @@ module _ (d hints : List ℕ) (spot : Spot) (o : ℕ) (lent : Lent) (cells start
 
         pub starting-full : Carves (lent .width) (lent .room) n there false rows cols over rows′ cols′ → Carves (lent .width) (lent .room) cells whole false rows₀ cols₀ over rows′ cols′
         starting-full x = along-full lent cells whole rows₀ cols₀ rows cols n there _ (later .2) rows′ cols′ x
+
+-- ---- cells first, then what is rebuilt
+module _ (d hints : List ℕ) (spot : Spot) (o : ℕ) (lent : Lent) (n : ℕ) (rows cols rows′ cols′ : List ℕ) where
+  pub payload-full : Carves (lent .width) (lent .room) n (cellHits spot (length hints) o (cellsOf d hints)) false rows cols over rows′ cols′
+      → Carves (lent .width) (lent .room) n (payloadHits oneByte spot o d hints) false rows cols over rows′ cols′
+  unfolding payloadHits
+  payload-full x = carves-stop (lent .width) (lent .room) n (cellHits spot (length hints) o (cellsOf d hints)) _ rows cols rows′ cols′ false false x
+
+  pub payload-both : (cells : ℕ) (r : Told) (rows″ cols″ : List ℕ) → Carves (lent .width) (lent .room) n (cellHits spot (length hints) o (cellsOf d hints)) false rows cols (on cells) rows′ cols′
+      → Carves (lent .width) (lent .room) cells (rebuiltFrom (rebuiltStarts (length d) (length hints)) oneByte spot o (startsOf (cellsOf d hints)) d hints 0) false rows′ cols′ r rows″ cols″
+      → Carves (lent .width) (lent .room) n (payloadHits oneByte spot o d hints) false rows cols r rows″ cols″
+  unfolding payloadHits
+  payload-both cells r rows″ cols″ x y = carves-more (lent .width) (lent .room) n _ _ rows cols rows′ cols′ cells false r rows″ cols″ x y

@@ -10,7 +10,7 @@ use Rattle.attempt.specs.Attempt.{Found, hit, miss, kinds, judgedWhole, attempt
 use Rattle.attempt.specs.Inner.{columnsAt, headerTypes, findTypes, foundAt, HitIs}
 use Rattle.attempt.specs.Places.{typePlaces, attemptPlaces}
 use Rattle.attempt.specs.declared.inner.Find.{Find}
-use Rattle.cells.specs.Cells.{CellRow, Looked, noCell, cell, cellAt, cellHits, oneByte}
+use Rattle.cells.specs.Cells.{CellRow, Looked, noCell, cell, cellAt, oneByte}
 use Rattle.cells.specs.declared.cell.Cell.{Cell}
 use Rattle.cells.specs.declared.cell.Cell.the-variants.{At, Nothing}
 use Rattle.cells.specs.declared.rebuilt.Rebuilt.{Rebuilt}
@@ -73,7 +73,7 @@ RebuiltIs d hints v (Row x) = RebuiltFound d hints v x
 RebuiltIs d hints v None = oneByte d hints v ≡ miss
 
 -- the row k of a list is one of the first `cells`, and has that offset
-abbrev pub isCell : List ℕ → ℕ → ℕ → ℕ → Bool
+unfoldable pub isCell : List ℕ → ℕ → ℕ → ℕ → Bool
 isCell rows k cells offset = ltb k cells && eqb (getD rows (k * wordsPerRow) 0) offset
 
 -- the next row, if a start was passed over

@@ -130,18 +130,8 @@ fn carve_start(
     let Rebuilt::Found(find) = rebuild(payload, hints, v) else {
         return Turn::On { next: k, n };
     };
-    let Carved::On(m) = add_rebuilt(
-        payload,
-        v,
-        find,
-        hints.len(),
-        spot,
-        o,
-        lent,
-        n,
-        rows,
-        cols,
-    ) else {
+    let Carved::On(m) = add_rebuilt(payload, v, find, hints.len(), spot, o, lent, n, rows, cols)
+    else {
         return Turn::Full;
     };
     Turn::On { next: k, n: m }

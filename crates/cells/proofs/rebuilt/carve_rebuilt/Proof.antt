@@ -1,71 +1,73 @@
+-- `cells::rebuilt::carve_rebuilt` meets its contract: what the loop has carved are the starts so far (`Starting`).
+-- Assumes nothing.
+use Prim.Native.Nat.{_-_}
+use mathlib.Core.Path.{_≡_, _∙_}
+use native.Mathlib.Omega.{arith}
+use lib.ListN.{length}
+use Rattle.cells.specs.Cells.{rebuiltStarts}
+use Rattle.cells.proofs.Along.{along-ready, along-long}
+use Rattle.cells.proofs.Starting.{Starting, starting-start, starting-on, starting-full, starting-end}
+use borrow.Author.Needs.{needs}
 use Rattle.cells.proofs.rebuilt.carve_rebuilt.Statement.{statement}
 use Rattle.cells.proofs.rebuilt.carve_rebuilt.Tie as tie
-use Rattle.cells.proofs.rebuilt.carve_rebuilt.Reads as reads
-use Rattle.cells.proofs.rebuilt.carve_rebuilt.Lts as lts
-use Rattle.cells.proofs.rebuilt.carve_start.Reads as carve-start-reads
-use Rattle.cells.proofs.rebuilt.starts_of.Reads as starts-of-reads
 
 abbrev Inv-loop : tie.InvT-loop
-Inv-loop payload hints spot o lent first cells rows₀ cols₀ starts v₀ k₀ m₀ rows cols v k m = ?
+Inv-loop payload hints spot o lent first cells rows₀ cols₀ starts v₀ k₀ m₀ rows cols v k m =
+    (starts ≡ rebuiltStarts (length payload) (length hints)) × Starting payload hints spot o lent cells starts rows₀ cols₀ rows cols v k m
 
 abbrev μ-loop : tie.MeasureT-loop
-μ-loop payload hints spot o lent first cells rows₀ cols₀ starts v₀ k₀ m₀ rows cols v k m = ?
+μ-loop payload hints spot o lent first cells rows₀ cols₀ starts v₀ k₀ m₀ rows cols v k m = starts - v
 
--- src/rebuilt.rt:178:9
 starts-of-requires : tie.Need-starts-of-requires Inv-loop μ-loop
-starts-of-requires c κs = ?
+starts-of-requires c κs = search needs
 
--- src/rebuilt.rt:182:5
 loop-holds : tie.Need-loop-holds Inv-loop μ-loop
-loop-holds c = ?
+loop-holds c = let s = c .before .before .before .before .before in (c .starts-of .ensures, starting-start _ _ _ _ _ _ _ _ _ _ (s .pre .0 .space .fits) (s .pre .1))
 
--- src/rebuilt.rt:183:36
 carve-start-requires : tie.Need-carve-start-requires Inv-loop μ-loop
-carve-start-requires c κs = ?
+carve-start-requires c κs =
+    let i = c .before .before .before .loop .inv in
+    let s = c .before .before .before .before .before .before .before .before .before in
+    ((omega (arith, i .0), i .1 .behind), along-ready _ _ _ _ _ _ _ _ _ _ _ _ (i .1 .along) (s .pre .0))
 
--- src/rebuilt.rt:183:24
 enum-known-next : tie.Need-enum-known-next Inv-loop μ-loop
-enum-known-next c = ?
+enum-known-next c = search needs
 
--- src/rebuilt.rt:196:13
 enum-told : tie.Need-enum-told Inv-loop μ-loop
-enum-told c = ?
+enum-told c = search needs
 
--- src/rebuilt.rt:196:13
 same-length : tie.Need-same-length Inv-loop μ-loop
-same-length c = ?
+same-length c = c .before .before .before .before .before .before .carve-start .kept .1 .1 .1 .1 .1 .1 .1 .1 .1 .0 ∙ along-long _ _ _ _ _ _ _ _ _ (c .before .before .before .before .before .before .before .before .before .before .loop .inv .1 .along) .0
 
--- src/rebuilt.rt:196:13
 same-length-2 : tie.Need-same-length-2 Inv-loop μ-loop
-same-length-2 c = ?
+same-length-2 c = c .before .before .before .before .before .before .carve-start .kept .1 .1 .1 .1 .1 .1 .1 .1 .1 .1 .0 ∙ along-long _ _ _ _ _ _ _ _ _ (c .before .before .before .before .before .before .before .before .before .before .loop .inv .1 .along) .1
 
--- src/rebuilt.rt:196:13
 returns : tie.Need-returns Inv-loop μ-loop
-returns c = ?
+returns c =
+    let i = c .before .before .before .before .before .before .before .before .before .before .loop .inv in
+    let x = rw (c .enum-told .given .1) at (c .before .before .before .before .before .before .carve-start .ensures) in
+    rw (i .0) at (starting-full _ _ _ _ _ _ _ _ _ _ _ _ _ _ (i .1) (c .before .before .before .before .before .before .before .before .before .loop-test .taken) _ _ (x .0))
 
--- src/rebuilt.rt:200:13
 add-v : tie.Need-add-v Inv-loop μ-loop
-add-v c = ?
+add-v c = omega (arith, c .before .before .before .before .before .before .before .before .before .before .before .loop .inv .0, c .before .before .before .before .before .before .before .before .before .before .before .before .before .before .before .before .before .pre .0 .inside)
 
--- src/rebuilt.rt:182:5
 loop-less : tie.Need-loop-less Inv-loop μ-loop
-loop-less c = ?
+loop-less c = search needs
 
--- src/rebuilt.rt:182:5
 loop-again : tie.Need-loop-again Inv-loop μ-loop
-loop-again c = ?
+loop-again c =
+    let i = c .before .before .before .before .before .before .before .before .before .before .before .loop .inv in
+    let x = rw (c .before .next .given .1) at (c .before .before .before .before .before .before .before .carve-start .ensures) in
+    (i .0, starting-on _ _ _ _ _ _ _ _ _ _ _ _ _ _ (i .1) (c .before .before .before .before .before .before .before .before .before .before .loop-test .taken) _ _ _ _ (x .1) (x .0))
 
--- src/rebuilt.rt:163:1
 same-length-3 : tie.Need-same-length-3 Inv-loop μ-loop
-same-length-3 c = ?
+same-length-3 c = along-long _ _ _ _ _ _ _ _ _ (c .before .loop .inv .1 .along) .0
 
--- src/rebuilt.rt:163:1
 same-length-4 : tie.Need-same-length-4 Inv-loop μ-loop
-same-length-4 c = ?
+same-length-4 c = along-long _ _ _ _ _ _ _ _ _ (c .before .loop .inv .1 .along) .1
 
--- src/rebuilt.rt:163:1
 returns-2 : tie.Need-returns-2 Inv-loop μ-loop
-returns-2 c = ?
+returns-2 c = let i = c .before .loop .inv in rw (i .0) at (starting-end _ _ _ _ _ _ _ _ _ _ _ _ _ _ (i .1) (c .loop-test .left))
 
 pub carve-rebuilt-spec : {M : Type 1} → statement M
 carve-rebuilt-spec =

@@ -1,28 +1,27 @@
+-- `cells::rebuilt::is_cell` meets its contract: both tests, in this order.
+-- Assumes nothing.
+use borrow.Author.Tests.{lt-ltb, le-ltb}
 use borrow.Author.Needs.{needs}
+use Rattle.cells.specs.Inner.{isCell}
 use Rattle.cells.proofs.rebuilt.is_cell.Statement.{statement}
 use Rattle.cells.proofs.rebuilt.is_cell.Tie as tie
-use Rattle.cells.proofs.rebuilt.is_cell.Reads as reads
-use Rattle.cells.proofs.rebuilt.is_cell.Lts as lts
 
--- src/rebuilt.rt:102:9
 returns : tie.Need-returns
-returns c = ?
+unfolding isCell
+returns c = simp (le-ltb _ _ (c .if1 .taken))
 
--- src/rebuilt.rt:104:10
 mul-result : tie.Need-mul-result
 mul-result c = search needs
 
--- src/rebuilt.rt:104:5
 mul-result-2 : tie.Need-mul-result-2
 mul-result-2 c = search needs
 
--- src/rebuilt.rt:104:5
 shared-slice-read-result : tie.Need-shared-slice-read-result
 shared-slice-read-result c = search needs
 
--- src/rebuilt.rt:97:1
 returns-2 : tie.Need-returns-2
-returns-2 c = ?
+unfolding isCell
+returns-2 c = simp (lt-ltb _ _ (c .before .if1 .left))
 
 pub is-cell-spec : {M : Type 1} → statement M
 is-cell-spec =

@@ -1,4 +1,4 @@
--- Worked cases as a table that is computed at once. The page: block 8 goes on to block 24 and has a byte before its row; block 24 has its
+-- Worked cases as a table that is computed at once. The page, which the calls' cases take too: block 8 goes on to block 24 and has a byte before its row; block 24 has its
 -- row at the start, and goes back to block 8, where the chain ends.
 -- Assumes nothing.
 use Prim.Native.Nat.{ℕ, _+_}
@@ -23,17 +23,17 @@ record Outcome : Type 0 where
   rows : List ℕ
   cols : List ℕ
 
-page : List ℕ
+unfoldable pub page : List ℕ
 page =
     (0x0d ∷ 0 ∷ 8 ∷ 0 ∷ 0 ∷ 0 ∷ 0 ∷ 0 ∷ [])
     ++ (0 ∷ 24 ∷ 0 ∷ 16 ∷ 0xff ∷ 0x03 ∷ 0x01 ∷ 0x17 ∷ 0x2a ∷ 0x68 ∷ 0x69 ∷ 0x70 ∷ 0x69 ∷ 0x6b ∷ 0 ∷ 0 ∷ [])
     ++ (0 ∷ 8 ∷ 0 ∷ 13 ∷ 0x03 ∷ 0x01 ∷ 0x17 ∷ 0x2b ∷ 0x68 ∷ 0x65 ∷ 0x6c ∷ 0x6c ∷ 0x6f ∷ [])
 
 -- a row of 9 bytes whose confidence is 0.6, and its entries
-row : ℕ → ℕ → List ℕ
+unfoldable pub row : ℕ → ℕ → List ℕ
 row offset table = offset ∷ 9 ∷ 0 ∷ 0 ∷ 1 ∷ 0 ∷ 0x3f19999a ∷ table ∷ []
 
-pair : ℕ → List ℕ
+unfoldable pub pair : ℕ → List ℕ
 pair o = 0 ∷ 1 ∷ (o + 3) ∷ 1 ∷ 0 ∷ 23 ∷ (o + 4) ∷ 5 ∷ []
 
 -- ---- hints, the header's place, and the page's own: with the header at 1 the first freeblock is 2048; at 100 there is no header

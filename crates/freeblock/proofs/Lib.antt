@@ -1,5 +1,5 @@
 mod Blocks
-mod Cases
+pub mod Cases
 mod Chaining
 pub mod Fuel
 mod Starting

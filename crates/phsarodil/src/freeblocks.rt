@@ -1,12 +1,12 @@
 // Rows in the freeblocks of pages: of tables, of a page by its number, and of a page slice.
-use freeblock::freeblock::recover_freeblocks;
-use freeblock::freeblock::recover_page_freeblocks;
-use freeblock::freeblock::recover_slice_freeblocks;
+use carving::freeblocks::recover_freeblocks;
+use carving::freeblocks::recover_page_freeblocks;
+use carving::freeblocks::recover_slice_freeblocks;
 ghost use mathlib.Core.Path.{_≡_};
 ghost use mathlib.Core.List.{[], _∷_};
 ghost use lib.ListN.{length};
-ghost use Rattle.freeblock.specs.Calls.{sliceRows, sliceCols, sliceNumber, sliceWritten, numberedRows, numberedCols, numberedNumber, numberedWritten};
-ghost use Rattle.freeblock.specs.Freeblock.{leafHits};
+ghost use Rattle.carving.specs.Calls.{leafHits, sliceRows, sliceCols, sliceNumber, sliceWritten, numberedRows, numberedCols, numberedNumber, numberedWritten};
+ghost use Rattle.carving.specs.declared.inner.Carving.the-variants.{Freeblocks};
 ghost use Rattle.sheet.specs.Refusal.{firstHeld};
 ghost use Rattle.walk.specs.Carve.{tableChecks, carvedRows, carvedCols, carvedNumber, carvedWritten};
 ghost use Rattle.walk.specs.Collect.{clearedUnless};
@@ -24,10 +24,10 @@ pub extern "C" fn phs_recover_freeblocks(
     cols: &mut [u64],
     out: &mut [u64; 1],
 ) -> u64
-    ensures number { λ r. ⌜ r ≡ carvedNumber (leafHits (now (db .entry)) size) (now (db .entry)) size (now (roots .entry)) (now (counts .entry)) (now (hints .entry)) (length (now (flags .entry))) (length (now (stack .entry))) (length (now (rows .entry))) (length (now (cols .entry))) ⌝ }
-    ensures out { λ _. ⌜ now (out .exit) ≡ carvedWritten (leafHits (now (db .entry)) size) (now (db .entry)) size (now (roots .entry)) (now (counts .entry)) (now (hints .entry)) (length (now (flags .entry))) (length (now (stack .entry))) (length (now (rows .entry))) (length (now (cols .entry))) ∷ [] ⌝ }
-    ensures rows { λ _. ⌜ now (rows .exit) ≡ carvedRows (leafHits (now (db .entry)) size) (now (db .entry)) size (now (roots .entry)) (now (counts .entry)) (now (hints .entry)) (length (now (flags .entry))) (length (now (stack .entry))) (now (rows .entry)) (now (cols .entry)) ⌝ }
-    ensures cols { λ _. ⌜ now (cols .exit) ≡ carvedCols (leafHits (now (db .entry)) size) (now (db .entry)) size (now (roots .entry)) (now (counts .entry)) (now (hints .entry)) (length (now (flags .entry))) (length (now (stack .entry))) (now (rows .entry)) (now (cols .entry)) ⌝ }
+    ensures number { λ r. ⌜ r ≡ carvedNumber (leafHits Freeblocks (now (db .entry)) size) (now (db .entry)) size (now (roots .entry)) (now (counts .entry)) (now (hints .entry)) (length (now (flags .entry))) (length (now (stack .entry))) (length (now (rows .entry))) (length (now (cols .entry))) ⌝ }
+    ensures out { λ _. ⌜ now (out .exit) ≡ carvedWritten (leafHits Freeblocks (now (db .entry)) size) (now (db .entry)) size (now (roots .entry)) (now (counts .entry)) (now (hints .entry)) (length (now (flags .entry))) (length (now (stack .entry))) (length (now (rows .entry))) (length (now (cols .entry))) ∷ [] ⌝ }
+    ensures rows { λ _. ⌜ now (rows .exit) ≡ carvedRows (leafHits Freeblocks (now (db .entry)) size) (now (db .entry)) size (now (roots .entry)) (now (counts .entry)) (now (hints .entry)) (length (now (flags .entry))) (length (now (stack .entry))) (now (rows .entry)) (now (cols .entry)) ⌝ }
+    ensures cols { λ _. ⌜ now (cols .exit) ≡ carvedCols (leafHits Freeblocks (now (db .entry)) size) (now (db .entry)) size (now (roots .entry)) (now (counts .entry)) (now (hints .entry)) (length (now (flags .entry))) (length (now (stack .entry))) (now (rows .entry)) (now (cols .entry)) ⌝ }
     ensures flags { λ _. ⌜ now (flags .exit) ≡ clearedUnless (firstHeld (tableChecks (length (now (db .entry))) size (now (roots .entry)) (now (counts .entry)) (now (hints .entry)))) (now (flags .entry)) ⌝ }
     ensures stack { λ _. ⌜ now (stack .exit) ≡ clearedUnless (firstHeld (tableChecks (length (now (db .entry))) size (now (roots .entry)) (now (counts .entry)) (now (hints .entry)))) (now (stack .entry)) ⌝ }
 {
@@ -46,10 +46,10 @@ pub extern "C" fn phs_recover_page_freeblocks(
     cols: &mut [u64],
     out: &mut [u64; 1],
 ) -> u64
-    ensures number { λ r. ⌜ r ≡ numberedNumber (now (db .entry)) size page (now (hints .entry)) (length (now (rows .entry))) (length (now (cols .entry))) ⌝ }
-    ensures out { λ _. ⌜ now (out .exit) ≡ numberedWritten (now (db .entry)) size page (now (hints .entry)) (length (now (rows .entry))) (length (now (cols .entry))) ∷ [] ⌝ }
-    ensures rows { λ _. ⌜ now (rows .exit) ≡ numberedRows (now (db .entry)) size page (now (hints .entry)) (now (rows .entry)) (now (cols .entry)) ⌝ }
-    ensures cols { λ _. ⌜ now (cols .exit) ≡ numberedCols (now (db .entry)) size page (now (hints .entry)) (now (rows .entry)) (now (cols .entry)) ⌝ }
+    ensures number { λ r. ⌜ r ≡ numberedNumber Freeblocks (now (db .entry)) size page (now (hints .entry)) (length (now (rows .entry))) (length (now (cols .entry))) ⌝ }
+    ensures out { λ _. ⌜ now (out .exit) ≡ numberedWritten Freeblocks (now (db .entry)) size page (now (hints .entry)) (length (now (rows .entry))) (length (now (cols .entry))) ∷ [] ⌝ }
+    ensures rows { λ _. ⌜ now (rows .exit) ≡ numberedRows Freeblocks (now (db .entry)) size page (now (hints .entry)) (now (rows .entry)) (now (cols .entry)) ⌝ }
+    ensures cols { λ _. ⌜ now (cols .exit) ≡ numberedCols Freeblocks (now (db .entry)) size page (now (hints .entry)) (now (rows .entry)) (now (cols .entry)) ⌝ }
 {
     let filled = recover_page_freeblocks(db, size, page, hints, rows, cols);
     *out = [filled.written()];
@@ -66,10 +66,10 @@ pub extern "C" fn phs_recover_slice_freeblocks(
     cols: &mut [u64],
     out: &mut [u64; 1],
 ) -> u64
-    ensures number { λ r. ⌜ r ≡ sliceNumber (now (page .entry)) head base (now (hints .entry)) (length (now (rows .entry))) (length (now (cols .entry))) ⌝ }
-    ensures out { λ _. ⌜ now (out .exit) ≡ sliceWritten (now (page .entry)) head base (now (hints .entry)) (length (now (rows .entry))) (length (now (cols .entry))) ∷ [] ⌝ }
-    ensures rows { λ _. ⌜ now (rows .exit) ≡ sliceRows (now (page .entry)) head base (now (hints .entry)) (now (rows .entry)) (now (cols .entry)) ⌝ }
-    ensures cols { λ _. ⌜ now (cols .exit) ≡ sliceCols (now (page .entry)) head base (now (hints .entry)) (now (rows .entry)) (now (cols .entry)) ⌝ }
+    ensures number { λ r. ⌜ r ≡ sliceNumber Freeblocks (now (page .entry)) head base (now (hints .entry)) (length (now (rows .entry))) (length (now (cols .entry))) ⌝ }
+    ensures out { λ _. ⌜ now (out .exit) ≡ sliceWritten Freeblocks (now (page .entry)) head base (now (hints .entry)) (length (now (rows .entry))) (length (now (cols .entry))) ∷ [] ⌝ }
+    ensures rows { λ _. ⌜ now (rows .exit) ≡ sliceRows Freeblocks (now (page .entry)) head base (now (hints .entry)) (now (rows .entry)) (now (cols .entry)) ⌝ }
+    ensures cols { λ _. ⌜ now (cols .exit) ≡ sliceCols Freeblocks (now (page .entry)) head base (now (hints .entry)) (now (rows .entry)) (now (cols .entry)) ⌝ }
 {
     let filled = recover_slice_freeblocks(page, head, base, hints, rows, cols);
     *out = [filled.written()];

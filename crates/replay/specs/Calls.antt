@@ -5,7 +5,8 @@ use mathlib.Core.Bool.{Bool, _&&_}
 use mathlib.Core.List.{List, [], _∷_}
 use lib.ListN.{length}
 use Rattle.phsarodil.specs.Door.{varintWords, lengthWords, decodedWords, entryOf, entryWords, viewWords, scanWords, pagedWords}
-use Rattle.freeblock.specs.Calls.{sliceRows, sliceCols, sliceNumber, sliceWritten, numberedRows, numberedCols, numberedNumber, numberedWritten}
+use Rattle.carving.specs.Calls.{sliceRows, sliceCols, sliceNumber, sliceWritten, numberedRows, numberedCols, numberedNumber, numberedWritten}
+use Rattle.carving.specs.declared.inner.Carving.the-variants.{Freeblocks}
 use Rattle.page.specs.Page.{pageAnswer, pagedNumber}
 use Rattle.record.specs.Entry.{readEntry, refusalOf, entryBytes}
 use Rattle.record.specs.Value.{bodyLength, decodeAt}
@@ -63,26 +64,26 @@ secondHolds h b l = holds freshWord l b (cellsAt h + 8 * sizeAt h 80) (sizeAt h 
 abbrev pub attemptsNumber : Attempts → List ℕ → List ℕ → ℕ → ℕ → List ℕ → List ℕ → ℕ
 attemptsNumber One s hints base at rows cols = onceNumber s hints base at (length rows) (length cols)
 attemptsNumber All s hints base at rows cols = scanNumber s hints base at (length rows) (length cols)
-attemptsNumber Page s hints size page rows cols = numberedNumber s size page hints (length rows) (length cols)
-attemptsNumber Slice s hints head base rows cols = sliceNumber s head base hints (length rows) (length cols)
+attemptsNumber Page s hints size page rows cols = numberedNumber Freeblocks s size page hints (length rows) (length cols)
+attemptsNumber Slice s hints head base rows cols = sliceNumber Freeblocks s head base hints (length rows) (length cols)
 
 abbrev pub attemptsWords : Attempts → List ℕ → List ℕ → ℕ → ℕ → List ℕ → List ℕ → List ℕ
 attemptsWords One s hints base at rows cols = onceWritten s hints base at (length rows) (length cols) ∷ 0 ∷ 0 ∷ []
 attemptsWords All s hints base at rows cols = scanWords s hints base at (length rows) (length cols)
-attemptsWords Page s hints size page rows cols = numberedWritten s size page hints (length rows) (length cols) ∷ 0 ∷ 0 ∷ []
-attemptsWords Slice s hints head base rows cols = sliceWritten s head base hints (length rows) (length cols) ∷ 0 ∷ 0 ∷ []
+attemptsWords Page s hints size page rows cols = numberedWritten Freeblocks s size page hints (length rows) (length cols) ∷ 0 ∷ 0 ∷ []
+attemptsWords Slice s hints head base rows cols = sliceWritten Freeblocks s head base hints (length rows) (length cols) ∷ 0 ∷ 0 ∷ []
 
 abbrev pub attemptsRows : Attempts → List ℕ → List ℕ → ℕ → ℕ → List ℕ → List ℕ → List ℕ
 attemptsRows One s hints base at rows cols = onceRows s hints base at rows cols
 attemptsRows All s hints base at rows cols = scanRows s hints base at rows cols
-attemptsRows Page s hints size page rows cols = numberedRows s size page hints rows cols
-attemptsRows Slice s hints head base rows cols = sliceRows s head base hints rows cols
+attemptsRows Page s hints size page rows cols = numberedRows Freeblocks s size page hints rows cols
+attemptsRows Slice s hints head base rows cols = sliceRows Freeblocks s head base hints rows cols
 
 abbrev pub attemptsCols : Attempts → List ℕ → List ℕ → ℕ → ℕ → List ℕ → List ℕ → List ℕ
 attemptsCols One s hints base at rows cols = onceCols s hints base at rows cols
 attemptsCols All s hints base at rows cols = scanCols s hints base at rows cols
-attemptsCols Page s hints size page rows cols = numberedCols s size page hints rows cols
-attemptsCols Slice s hints head base rows cols = sliceCols s head base hints rows cols
+attemptsCols Page s hints size page rows cols = numberedCols Freeblocks s size page hints rows cols
+attemptsCols Slice s hints head base rows cols = sliceCols Freeblocks s head base hints rows cols
 
 -- a call with what the case gives
 abbrev pub onCase : {A : Type 0} → (List ℕ → List ℕ → ℕ → ℕ → A) → List ℕ → List ℕ → A

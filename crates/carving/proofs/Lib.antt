@@ -1,0 +1,3 @@
+mod Callers
+mod Cases
+pub mod Unique

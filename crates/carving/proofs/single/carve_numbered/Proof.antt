@@ -1,0 +1,120 @@
+-- `carving::single::carve_numbered` meets its contract: a check refuses, or the page is carved where it lies.
+-- Assumes nothing.
+use mathlib.Core.Path.{_≡_, sym, _∙_}
+use mathlib.Core.Bool.{true}
+use native.Mathlib.Omega.{arith}
+use borrow.Author.Needs.{needs}
+use borrow.Author.Tests.{not-true, not-false}
+use denote.Ref.{now}
+use lib.ListN.{length}
+use Rattle.carving.specs.Calls.{numberedChecks, numberedAnswer, numberedRows, numberedCols, numberedNumber, numberedWritten}
+use Rattle.carving.specs.Calls.{leafHits}
+use Rattle.carving.proofs.Callers.{bad-count, bad-hints, page-decides, page-filling, hits-are, part-long}
+use Rattle.carving.proofs.single.carve_numbered.Statement.{statement}
+use Rattle.carving.proofs.single.carve_numbered.Tie as tie
+use Rattle.page.proofs.Laws.{paged-refused, paged-at, PagedAt}
+use Rattle.page.specs.Page.{pageChecks}
+use Rattle.sheet.specs.Limits.{countFits}
+use Rattle.sheet.specs.Refusal.{firstHeld}
+use Rattle.walk.proofs.Promises.{page-refused, page-passed}
+
+hint-count-fits-requires : tie.Need-hint-count-fits-requires
+hint-count-fits-requires c κs = search needs
+
+returns : tie.Need-returns
+unfolding numberedAnswer numberedRows numberedCols numberedNumber numberedWritten
+returns c =
+    let a = c .before .before .before .before .before .before .args in
+    page-refused _ (leafHits (a .how) (now (a .db)) (a .size) 0 (now (a .hints)) (a .page)) (length (now (a .hints))) _ _ _
+    (bad-count (length (now (a .db))) (a .size) (a .page) (now (a .hints)) (sym (c .before .hint-count-fits .ensures) ∙ not-true _ (c .if1 .taken)))
+
+hints-known-requires : tie.Need-hints-known-requires
+hints-known-requires c κs = search needs
+
+-- the hints are few enough
+fit : (c : tie.Else1) → countFits (length (now (c .before .before .before .before .before .before .args .hints))) ≡ true
+fit c = sym (c .before .hint-count-fits .ensures) ∙ not-false _ (c .if1 .left)
+
+returns-2 : tie.Need-returns-2
+unfolding numberedAnswer numberedRows numberedCols numberedNumber numberedWritten
+returns-2 c =
+    let a = c .before .before .before .before .before .before .before .before .args in
+    page-refused _ (leafHits (a .how) (now (a .db)) (a .size) 0 (now (a .hints)) (a .page)) (length (now (a .hints))) _ _ _
+    (bad-hints (length (now (a .db))) (a .size) (a .page) (now (a .hints)) (fit (c .before .before)) (sym (c .before .hints-known .ensures) ∙ not-true _ (c .if2 .taken)))
+
+get-page-data-requires : tie.Need-get-page-data-requires
+get-page-data-requires c κs = search needs
+
+enum-known-refusal : tie.Need-enum-known-refusal
+enum-known-refusal c = search needs
+
+enum-known-start : tie.Need-enum-known-start
+enum-known-start c = search needs
+
+-- and known, so the page decides
+decides : (c : tie.Else2) →
+    let a = c .before .before .before .before .before .before .before .before .args in
+    firstHeld (numberedChecks (length (now (a .db))) (a .size) (a .page) (now (a .hints))) ≡ firstHeld (pageChecks (length (now (a .db))) (a .size) (a .page))
+decides c = let a = c .before .before .before .before .before .before .before .before .args in page-decides (length (now (a .db))) (a .size) (a .page) (now (a .hints)) (fit (c .before .before)) (sym (c .before .hints-known .ensures) ∙ not-false _ (c .if2 .left))
+
+-- the page lies where it should
+lies : (c : tie.After-known-told2) →
+    let a = c .before .before .before .before .before .before .before .before .before .before .before .before .args in
+    PagedAt (length (now (a .db))) (a .size) (a .page) (c .before .start .given .0 .0) (c .before .start .given .0 .1 .0) (c .before .start .given .0 .1 .1 .0)
+lies c = paged-at _ _ _ _ _ _ (sym (c .before .before .before .get-page-data .ensures .0) ∙ c .before .start .given .1)
+
+add-end : tie.Need-add-end
+add-end c = omega (arith, lies c .inside, lies c .small)
+
+sub-fill : tie.Need-sub-fill
+sub-fill c = search needs
+
+part-fill-start : tie.Need-part-fill-start
+part-fill-start c = search needs
+
+part-fill-end : tie.Need-part-fill-end
+part-fill-end c = omega (arith, lies c .inside)
+
+fill-requires : tie.Need-fill-requires
+fill-requires c κs =
+    let l = lies (c .before .before .before) in
+    rw (part-long (now (c .before .before .before .before .before .before .before .before .before .before .before .before .before .before .before .args .db)) _ _ (l .inside)) (page-filling _ _ _ (now (c .before .before .before .before .before .before .before .before .before .before .before .before .before .before .before .args .hints)) (fit (c .before .before .before .before .before .before .before .before .before)) _ _ _ l)
+
+returns-3 : tie.Need-returns-3
+unfolding numberedAnswer numberedRows numberedCols numberedNumber numberedWritten
+returns-3 c = page-refused _ _ _ _ _ _ (decides (c .before .before .before .before) ∙ paged-refused _ _ _ _ (sym (c .before .before .before .get-page-data .ensures .0) ∙ c .before .refusal .given .1))
+
+same-length : tie.Need-same-length
+same-length c = search needs
+
+same-length-2 : tie.Need-same-length-2
+same-length-2 c = search needs
+
+returns-4 : tie.Need-returns-4
+unfolding numberedAnswer numberedRows numberedCols numberedNumber numberedWritten
+returns-4 c =
+    let a = c .before .before .before .before .before .before .before .before .before .before .before .before .before .before .before .before .before .before .before .before .args in
+    let l = lies (c .before .before .before .before .before .before .before .before) in
+    let h = hits-are (a .how) (now (a .db)) (a .size) (a .page) (now (a .hints)) 0 _ _ _ (l .starts) (l .long) (l .heads) in
+    page-passed _ _ _ _ _ _ _ _ (decides (c .before .before .before .before .before .before .before .before .before .before .before .before) ∙ l .passed) (rw h at (c .before .before .before .before .fill .ensures))
+
+pub carve-numbered-spec : {M : Type 1} → statement M
+carve-numbered-spec =
+    tie.close
+    (tie.spec
+    hint-count-fits-requires
+    returns
+    hints-known-requires
+    returns-2
+    get-page-data-requires
+    enum-known-refusal
+    enum-known-start
+    add-end
+    sub-fill
+    part-fill-start
+    part-fill-end
+    fill-requires
+    returns-3
+    same-length
+    same-length-2
+    returns-4)

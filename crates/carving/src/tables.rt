@@ -1,0 +1,212 @@
+// The leaves of tables, one table after the other.
+use crate::inner::Carving;
+use crate::inner::carve_page;
+use hit::inner::Lent;
+use hit::inner::Spot;
+use page::inner::head_of;
+use sheet::columns::room;
+use sheet::refusal::Checked;
+use walk::inner::Carved;
+use walk::inner::CarvedTable;
+use walk::inner::Next;
+use walk::inner::Pushed;
+use walk::inner::begin;
+use walk::inner::clear_flags;
+use walk::inner::clear_stack;
+use walk::inner::next_leaf;
+use walk::inner::tables::check;
+use walk::inner::tables::widest;
+use walk::walk::Walked;
+ghost use mathlib.Core.Path.{_≡_};
+ghost use mathlib.Core.Bool.{false};
+ghost use Prim.Native.Nat.{_/_, _≤_};
+ghost use lib.ListN.{length};
+ghost use Rattle.carving.specs.Calls.{leafHits};
+ghost use Rattle.carving.specs.Inner.{TableReady};
+ghost use Rattle.sheet.specs.Refusal.{firstHeld};
+ghost use Rattle.walk.specs.Carve.{tableChecks, carvedAnswer, carvedRows, carvedCols, carvedNumber, carvedWritten};
+ghost use Rattle.walk.specs.Collect.{walkedNumber, walkedWritten, clearedUnless};
+ghost use Rattle.walk.specs.Inner.{carvedAs, tableAs, Carves, Tabled, TablesFit};
+ghost use Rattle.walk.specs.Walk.{walk as walkOf, hitsOf, overflows};
+
+// Carves the leaf p of a database.
+fn carve_leaf(
+    how: Carving,
+    db: &[u8],
+    size: usize,
+    p: u64,
+    hints: &[u8],
+    table: u16,
+    lent: Lent,
+    n: usize,
+    rows: &mut [u64],
+    cols: &mut [u64],
+) -> Carved
+    requires { ⌜ (1 ≤ p) × (p ≤ length (now db) / size) ⌝ }
+    requires { ⌜ TableReady (length (now db)) size (length (now hints)) lent n (length (now rows)) (length (now cols)) ⌝ }
+    ensures { λ r. ⌜ Carves (lent .width) (lent .room) n (leafHits how (now (db .entry)) size table (now (hints .entry)) p) false (now (rows .entry)) (now (cols .entry)) (carvedAs r) (now (rows .exit)) (now (cols .exit)) ⌝ }
+{
+    let start = (p as usize - 1) * size;
+    let end = start + size;
+    let spot = Spot {
+        base: start as u64,
+        start,
+        table,
+    };
+    let head = head_of(p);
+    carve_page(how, &db[start..end], head, hints, spot, lent, n, rows, cols)
+}
+
+// Carves the leaves of one table.
+fn carve_table(
+    how: Carving,
+    db: &[u8],
+    size: usize,
+    root: u64,
+    hints: &[u8],
+    table: u16,
+    lent: Lent,
+    n: usize,
+    flags: &mut [u8],
+    stack: &mut [u64],
+    rows: &mut [u64],
+    cols: &mut [u64],
+) -> CarvedTable
+    requires { ⌜ length (now db) / size ≤ length (now flags) ⌝ }
+    requires { ⌜ TableReady (length (now db)) size (length (now hints)) lent n (length (now rows)) (length (now cols)) ⌝ }
+    ensures { λ r. ⌜ Carves (lent .width) (lent .room) n (hitsOf (leafHits how (now (db .entry)) size table (now (hints .entry))) (walkOf (now (db .entry)) size (length (now (stack .entry))) root)) (overflows (walkOf (now (db .entry)) size (length (now (stack .entry))) root)) (now (rows .entry)) (now (cols .entry)) (tableAs r) (now (rows .exit)) (now (cols .exit)) ⌝ }
+{
+    let Pushed::On(height) = begin(root, flags, stack) else {
+        return CarvedTable::Short(n);
+    };
+    let mut top = height;
+    let mut m = n;
+    loop {
+        match next_leaf(db, size, flags, stack, top) {
+            Next::Leaf { page, top: t } => {
+                let Carved::On(next) = carve_leaf(
+                    how,
+                    db,
+                    size,
+                    page,
+                    hints,
+                    table,
+                    lent,
+                    m,
+                    rows,
+                    cols,
+                ) else {
+                    return CarvedTable::Full;
+                };
+                m = next;
+                top = t;
+            }
+            Next::Done => {
+                return CarvedTable::On(m);
+            }
+            Next::Overflow => {
+                return CarvedTable::Short(m);
+            }
+        }
+    }
+}
+
+// Carves tables that have passed the checks.
+fn carve_checked(
+    how: Carving,
+    db: &[u8],
+    size: usize,
+    roots: &[u64],
+    counts: &[u64],
+    hints: &[u8],
+    flags: &mut [u8],
+    stack: &mut [u64],
+    rows: &mut [u64],
+    cols: &mut [u64],
+) -> Walked
+    requires { ⌜ TablesFit (length (now db)) size (now roots) (now counts) (now hints) ⌝ }
+    ensures { λ r. ⌜ Tabled (leafHits how (now (db .entry)) size) (now (db .entry)) size (now (roots .entry)) (now (counts .entry)) (now (hints .entry)) (length (now (flags .entry))) (length (now (stack .entry))) (now (rows .entry)) (now (cols .entry)) r (now (rows .exit)) (now (cols .exit)) ⌝ }
+{
+    if flags.len() < db.len() / size {
+        return Walked::Short(0);
+    }
+    let width = widest(counts);
+    let most = room(rows.len(), cols.len(), width);
+    let lent = Lent { width, room: most };
+    let mut t = 0;
+    let mut from = 0;
+    let mut n = 0;
+    while t < roots.len() {
+        let end = from + counts[t] as usize;
+        match carve_table(
+            how,
+            db,
+            size,
+            roots[t],
+            &hints[from..end],
+            t as u16,
+            lent,
+            n,
+            flags,
+            stack,
+            rows,
+            cols,
+        ) {
+            CarvedTable::On(next) => {
+                n = next;
+            }
+            CarvedTable::Full => {
+                return Walked::Full(most);
+            }
+            CarvedTable::Short(written) => {
+                return Walked::Short(written);
+            }
+        }
+        from = end;
+        t = t + 1;
+    }
+    Walked::Done(n)
+}
+
+// Tables are lent as roots, counts of columns, and all hints one after the other. Flags and stack may hold anything before.
+pub fn carve_tables(
+    how: Carving,
+    db: &[u8],
+    size: u64,
+    roots: &[u64],
+    counts: &[u64],
+    hints: &[u8],
+    flags: &mut [u8],
+    stack: &mut [u64],
+    rows: &mut [u64],
+    cols: &mut [u64],
+) -> Walked
+    ensures answer { λ r. ⌜ r ≡ carvedAnswer (leafHits how (now (db .entry)) size) (now (db .entry)) size (now (roots .entry)) (now (counts .entry)) (now (hints .entry)) (length (now (flags .entry))) (length (now (stack .entry))) (length (now (rows .entry))) (length (now (cols .entry))) ⌝ }
+    ensures rows { λ _. ⌜ now (rows .exit) ≡ carvedRows (leafHits how (now (db .entry)) size) (now (db .entry)) size (now (roots .entry)) (now (counts .entry)) (now (hints .entry)) (length (now (flags .entry))) (length (now (stack .entry))) (now (rows .entry)) (now (cols .entry)) ⌝ }
+    ensures cols { λ _. ⌜ now (cols .exit) ≡ carvedCols (leafHits how (now (db .entry)) size) (now (db .entry)) size (now (roots .entry)) (now (counts .entry)) (now (hints .entry)) (length (now (flags .entry))) (length (now (stack .entry))) (now (rows .entry)) (now (cols .entry)) ⌝ }
+    ensures flags { λ _. ⌜ now (flags .exit) ≡ clearedUnless (firstHeld (tableChecks (length (now (db .entry))) size (now (roots .entry)) (now (counts .entry)) (now (hints .entry)))) (now (flags .entry)) ⌝ }
+    ensures stack { λ _. ⌜ now (stack .exit) ≡ clearedUnless (firstHeld (tableChecks (length (now (db .entry))) size (now (roots .entry)) (now (counts .entry)) (now (hints .entry)))) (now (stack .entry)) ⌝ }
+    ensures number { λ r. ⌜ walkedNumber r ≡ carvedNumber (leafHits how (now (db .entry)) size) (now (db .entry)) size (now (roots .entry)) (now (counts .entry)) (now (hints .entry)) (length (now (flags .entry))) (length (now (stack .entry))) (length (now (rows .entry))) (length (now (cols .entry))) ⌝ }
+    ensures written { λ r. ⌜ walkedWritten r ≡ carvedWritten (leafHits how (now (db .entry)) size) (now (db .entry)) size (now (roots .entry)) (now (counts .entry)) (now (hints .entry)) (length (now (flags .entry))) (length (now (stack .entry))) (length (now (rows .entry))) (length (now (cols .entry))) ⌝ }
+{
+    match check(db.len(), size, roots, counts, hints) {
+        Checked::Refused(refusal) => Walked::Refused(refusal),
+        Checked::Passed => {
+            let answer = carve_checked(
+                how,
+                db,
+                size as usize,
+                roots,
+                counts,
+                hints,
+                flags,
+                stack,
+                rows,
+                cols,
+            );
+            clear_flags(flags);
+            clear_stack(stack);
+            answer
+        }
+    }
+}

@@ -6,15 +6,14 @@ use mathlib.Core.Bool.{Bool, true, false, cond, _||_}
 use mathlib.Core.List.{List, [], _∷_, _++_, append-nil}
 use native.Mathlib.Nat.{suc-sub-suc, sub-zero}
 use native.Mathlib.Omega.{arith}
-use borrow.Author.Tests.{eq-eqb, ne-eqb, le-leb, lt-leb, le-ltb, lt-ltb, ltb-false}
+use borrow.Author.Tests.{eq-eqb, ne-eqb, le-ltb, lt-ltb, ltb-false}
 use lib.Dec.{leb, ltb, eqb}
-use lib.ListN.{length, take, drop, length-take, length-drop}
+use lib.ListN.{length, take, drop}
 use Rattle.cells.specs.Cells.{oneByte, payloadHits}
 use Rattle.gap.specs.Gap.{blockThen, chainEnds, chainFrom, chain, mostSteps, blocksHits}
 use Rattle.gap.specs.Inner.{larger}
 use Rattle.hit.specs.declared.inner.Spot.{Spot}
 use Rattle.page.specs.Page.{Block, payloadOf, firstFreeblock, blockNext, blockSize}
-use Rattle.record.proofs.Numbers.{by-order}
 use Rattle.walk.specs.Carve.{Hit}
 
 module _ (page : List ℕ) where

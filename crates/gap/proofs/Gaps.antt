@@ -1,16 +1,16 @@
 -- The gap of a page, and the page whole.
 -- Assumes nothing.
-use Prim.Native.Nat.{ℕ, zero, suc, _+_, _-_, _≤_, _<_}
-use mathlib.Core.Path.{_≡_, refl, sym, ap, _∙_}
-use mathlib.Core.Bool.{Bool, true, false, cond}
-use mathlib.Core.List.{List, [], _∷_, _++_}
+use Prim.Native.Nat.{ℕ, _+_, _-_, _≤_, _<_}
+use mathlib.Core.Path.{_≡_}
+use mathlib.Core.Bool.{true, false}
+use mathlib.Core.List.{List, [], _++_}
 use native.Mathlib.Numerals.{add-one}
 use native.Mathlib.Omega.{arith}
-use borrow.Author.Tests.{eq-eqb, ne-eqb, le-leb, lt-leb, le-ltb, lt-ltb}
+use borrow.Author.Tests.{ne-eqb, le-leb, lt-leb, le-ltb, lt-ltb}
 use lib.ListN.{length, take, drop, getD}
 use lib.Seq.{drop-cons, drop-length}
 use Rattle.cells.specs.Cells.{oneByte}
-use Rattle.gap.specs.Gap.{gapFrom, gapTo, hasGap, gapOf, allZero, regionHits, gapHits, chain, blocksHits, pageHits}
+use Rattle.gap.specs.Gap.{gapFrom, gapTo, hasGap, allZero, regionHits, gapHits, chain, blocksHits, pageHits}
 use Rattle.hit.specs.declared.inner.Lent.{Lent}
 use Rattle.hit.specs.declared.inner.Spot.{Spot}
 use Rattle.walk.proofs.Carving.{carves-more, carves-stop}

@@ -1,44 +1,19 @@
 -- Hits carved one after the other: those so far, with those still to come, are the whole.
 -- Assumes nothing.
 use Prim.Native.Nat.{ℕ, _≤_}
-use mathlib.Core.Path.{_≡_, refl, sym, ap, _∙_}
+use mathlib.Core.Path.{_≡_, refl, sym, _∙_}
 use mathlib.Core.Bool.{false}
 use mathlib.Core.List.{List, [], _++_, append-nil, append-assoc}
-use native.Mathlib.Omega.{arith}
 use lib.ListN.{length}
-use lib.Seq.{length-sets}
+use Rattle.hit.proofs.Laws.{carves-long, carves-wide, ready-next}
 use Rattle.hit.specs.Inner.{Ready}
 use Rattle.hit.specs.declared.inner.Lent.{Lent}
 use Rattle.hit.specs.declared.inner.Spot.{Spot}
-use Rattle.walk.proofs.Carving.{carves-none, carves-more, carves-stop, told-on}
+use Rattle.walk.proofs.Carving.{carves-none, carves-more, carves-stop}
 use Rattle.walk.specs.Carve.{Hit}
 use Rattle.walk.specs.Inner.{on, over, Carves}
 
--- ---- lists behind what was carved
-module _ (lent : Lent) (n : ℕ) (hits : List Hit) (rows cols : List ℕ) (m : ℕ) (rows′ cols′ : List ℕ)
-    (x : Carves (lent .width) (lent .room) n hits false rows cols (on m) rows′ cols′) where
-  fits-behind : m ≤ lent .room
-  fits-behind = let t = told-on (lent .room) n (length hits) m false (x .answer) in omega (arith, t .0, t .1)
-
-  rows-behind : length rows′ ≡ length rows
-  rows-behind = ap length (x .puts .rows-are) ∙ simp length-sets
-
-  cols-behind : length cols′ ≡ length cols
-  cols-behind = ap length (x .puts .cols-are) ∙ simp length-sets
-
-  -- THE LAW: they are as ready as they were
-  pub ready-behind : (len columns : ℕ) (spot : Spot) → Ready len columns spot lent n (length rows) (length cols) → Ready len columns spot lent m (length rows′) (length cols′)
-  ready-behind len columns spot r =
-      rw (rows-behind, cols-behind)
-      (record {
-        inside = r .inside;
-        near = r .near;
-        some = r .some;
-        few = r .few;
-        space = record { narrow = r .space .narrow; room-is = r .space .room-is; fits = fits-behind };
-      })
-
--- ---- behind n₀ rows come the hits `whole`; there are m rows now, and `rest` is still to come
+-- behind n₀ rows come the hits `whole`; there are m rows now, and `rest` is still to come
 pub record Going (lent : Lent) (n₀ : ℕ) (rows₀ cols₀ : List ℕ) (whole rest : List Hit) (rows cols : List ℕ) (m : ℕ) : Type 0 where
   pub done : List Hit
   pub carved : Carves (lent .width) (lent .room) n₀ done false rows₀ cols₀ (on m) rows cols
@@ -50,14 +25,14 @@ module _ (lent : Lent) (n₀ : ℕ) (rows₀ cols₀ : List ℕ) (whole : List H
 
   module _ (rest : List Hit) (rows cols : List ℕ) (m : ℕ) (g : Going lent n₀ rows₀ cols₀ whole rest rows cols m) where
     pub going-rows : length rows ≡ length rows₀
-    going-rows = rows-behind lent n₀ (g .done) rows₀ cols₀ m rows cols (g .carved)
+    going-rows = carves-long (lent .width) (lent .room) n₀ (g .done) false rows₀ cols₀ (on m) rows cols (g .carved)
 
     pub going-cols : length cols ≡ length cols₀
-    going-cols = cols-behind lent n₀ (g .done) rows₀ cols₀ m rows cols (g .carved)
+    going-cols = carves-wide (lent .width) (lent .room) n₀ (g .done) false rows₀ cols₀ (on m) rows cols (g .carved)
 
     pub going-ready : (len columns : ℕ) (spot : Spot) → Ready len columns spot lent n₀ (length rows₀) (length cols₀)
         → Ready len columns spot lent m (length rows) (length cols)
-    going-ready = ready-behind lent n₀ (g .done) rows₀ cols₀ m rows cols (g .carved)
+    going-ready len columns = ready-next columns lent n₀ (g .done) rows₀ cols₀ m rows cols (g .carved) len
 
     pub going-end : rest ≡ [] → Carves (lent .width) (lent .room) n₀ whole false rows₀ cols₀ (on m) rows cols
     going-end e = rw (sym (append-nil (g .done)) ∙ rw e at (g .sum)) at (g .carved)

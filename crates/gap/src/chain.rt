@@ -26,7 +26,10 @@ fn chain_ends(page: &[u8], at: usize) -> bool
     requires { ⌜ at < 65536 ⌝ }
     ensures { λ r. ⌜ r ≡ chainEnds (now (page .entry)) at ⌝ }
 {
-    at == 0 || at + 4 > page.len()
+    if at == 0 {
+        return true;
+    }
+    at + 4 > page.len()
 }
 
 // Where the chain goes on; 0, which ends it, where the next place is not larger.

@@ -20,10 +20,11 @@ ghost use mathlib.Core.Bool.{false};
 ghost use mathlib.Core.List.{[], _∷_};
 ghost use Prim.Native.Nat.{_+_, _≤_};
 ghost use lib.ListN.{length};
-ghost use Rattle.attempt.specs.Inner.{foundAt};
+ghost use Rattle.attempt.specs.Attempt.{attemptAt};
+ghost use Rattle.attempt.specs.Inner.{foundAt, HitIs};
+ghost use Rattle.attempt.specs.Places.{attemptPlaces};
 ghost use Rattle.gap.specs.Gap.{allZero, gapFrom, gapTo, regionHit, regionHits, gapHits};
-ghost use Rattle.gap.specs.Inner.{headAt};
-ghost use Rattle.hit.specs.Inner.{Laid, Ready};
+ghost use Rattle.hit.specs.Inner.{Ready};
 ghost use Rattle.page.specs.Inner.{farthest};
 ghost use Rattle.walk.specs.Inner.{carvedAs, Carves};
 
@@ -49,17 +50,18 @@ fn add_row(
     from: usize,
     o: usize,
     find: Find,
-    columns: usize,
+    hints: &[u8],
     spot: Spot,
     lent: Lent,
     n: usize,
     rows: &mut [u64],
     cols: &mut [u64],
 ) -> Carved
-    requires { ⌜ Laid (now bytes) (headAt spot from o find) columns ⌝ }
-    requires { ⌜ Ready (from + length (now bytes)) columns spot lent n (length (now rows)) (length (now cols)) ⌝ }
-    ensures { λ r. ⌜ Carves (lent .width) (lent .room) n (regionHit spot columns from o (foundAt (now (bytes .entry)) o find) ∷ []) false (now (rows .entry)) (now (cols .entry)) (carvedAs r) (now (rows .exit)) (now (cols .exit)) ⌝ }
+    requires { ⌜ HitIs (now bytes) (now hints) o (attemptAt (now bytes) (now hints) o) (attemptPlaces (now bytes) o) find ⌝ }
+    requires { ⌜ Ready (from + length (now bytes)) (length (now hints)) spot lent n (length (now rows)) (length (now cols)) ⌝ }
+    ensures { λ r. ⌜ Carves (lent .width) (lent .room) n (regionHit spot (length (now (hints .entry))) from o (foundAt (now (bytes .entry)) o find) ∷ []) false (now (rows .entry)) (now (cols .entry)) (carvedAs r) (now (rows .exit)) (now (cols .exit)) ⌝ }
 {
+    let columns = hints.len();
     let confidence = suited_share(find.matched, columns as u16);
     let row = Row {
         offset: spot.base + (from + o) as u64,
@@ -93,7 +95,6 @@ fn carve_region(
     requires { ⌜ Ready (from + length (now bytes)) (length (now hints)) spot lent n (length (now rows)) (length (now cols)) ⌝ }
     ensures { λ r. ⌜ Carves (lent .width) (lent .room) n (regionHits spot from (now (bytes .entry)) (now (hints .entry))) false (now (rows .entry)) (now (cols .entry)) (carvedAs r) (now (rows .exit)) (now (cols .exit)) ⌝ }
 {
-    let columns = hints.len();
     let mut o = 0;
     let mut m = n;
     while o + 2 < bytes.len() {
@@ -102,9 +103,18 @@ fn carve_region(
                 o = o + 1;
             }
             Verdict::Hit(find) => {
-                let Carved::On(next) =
-                    add_row(bytes, from, o, find, columns, spot, lent, m, rows, cols)
-                else {
+                let Carved::On(next) = add_row(
+                    bytes,
+                    from,
+                    o,
+                    find,
+                    hints,
+                    spot,
+                    lent,
+                    m,
+                    rows,
+                    cols,
+                ) else {
                     return Carved::Full;
                 };
                 m = next;

@@ -1,13 +1,13 @@
 -- `gap::chain::carve_blocks` meets its contract: what the loop has carved, with what the chain still has, are the hits of all its blocks (`Going`).
 -- Assumes nothing.
-use Prim.Native.Nat.{_+_, _≤_, _<_}
+use Prim.Native.Nat.{_<_}
 use mathlib.Core.Path.{_≡_, sym, _∙_}
 use mathlib.Core.Bool.{false}
+use mathlib.Core.List.{[]}
 use native.Mathlib.Omega.{arith}
 use borrow.Author.Needs.{needs}
 use denote.Ref.{now}
-use lib.ListN.{length}
-use Rattle.gap.specs.Gap.{chainEnds, chainFrom, chain}
+use Rattle.gap.specs.Gap.{blockThen, chainEnds, chainFrom, chain}
 use Rattle.gap.proofs.Chaining.{hitsOf, lies, chain-start, chain-step, chain-end, chain-out}
 use Rattle.gap.proofs.Going.{Going, going-start, going-rows, going-cols, going-ready, going-end, going-on, going-full}
 use Rattle.gap.proofs.chain.carve_blocks.Statement.{statement}
@@ -78,10 +78,13 @@ loop-less c = search needs
 
 loop-again : tie.Need-loop-again Inv-loop μ-loop
 loop-again c =
+    let a = c .before .before .before .before .before .before .before .before .before .before .before .before .before .before .before .before .before .before .before .before .args in
+    let l = c .before .before .before .before .before .before .before .before .before .before .before .before .before .before .loop in
     let e = c .next-place .ensures in (
       e .1,
       rw (e .0)
-          (going-on _ _ _ _ _ _ _ _ _ (c .before .before .before .before .before .before .before .before .before .before .before .before .before .before .loop .inv .1) _ _ (chain-step _ _ _ _ _ (c .before .before .before .before .before .before .before .before .before .before .before .before .before .loop-test .taken) (on-chain (c .before .before .before .before .before .before .before .before .before .before .before))) _ _ _
+          (going-on _ _ _ _ _ _ _ _ _ (l .inv .1) (hitsOf (now (a .page)) (now (a .hints)) (a .spot) (blockThen (now (a .page)) (l .at) [])) _
+          (chain-step _ _ _ _ _ (c .before .before .before .before .before .before .before .before .before .before .before .before .before .loop-test .taken) (on-chain (c .before .before .before .before .before .before .before .before .before .before .before))) _ _ _
           (rw (c .before .before .next .given .1) at (c .before .before .before .before .before .before .before .before .carve-block .ensures))),
     )
 

@@ -5,10 +5,11 @@ use native.Mathlib.Omega.{arith}
 use borrow.Author.Needs.{needs}
 use denote.Ref.{now}
 use lib.ListN.{length}
+use Rattle.gap.specs.Gap.{gapHits}
 use Rattle.gap.proofs.Gaps.{page-short, page-full, page-more}
-use Rattle.gap.proofs.Going.{ready-behind}
 use Rattle.gap.proofs.inner.carve_page.Statement.{statement}
 use Rattle.gap.proofs.inner.carve_page.Tie as tie
+use Rattle.hit.proofs.Laws.{ready-next}
 use Rattle.walk.proofs.Carving.{carves-none}
 
 -- the page goes on behind its header
@@ -49,8 +50,9 @@ returns-3 c = page-full _ _ _ _ _ _ _ _ _ _ (long (c .before .before .before .be
 
 carve-blocks-requires : tie.Need-carve-blocks-requires
 carve-blocks-requires c κs =
+    let a = c .before .before .before .before .before .before .before .before .before .before .before .before .before .before .before .before .before .before .args in
     let x = rw (c .before .before .before .m .given .1) at (c .before .before .before .before .before .before .before .before .before .carve-gap .ensures) in
-    (long (c .before .before .before .before .before .before .before .before .before .before .before .before), ready-behind _ _ _ _ _ _ _ _ x _ _ _ (c .before .before .before .before .before .before .before .before .before .before .before .before .before .before .before .before .before .before .pre))
+    (long (c .before .before .before .before .before .before .before .before .before .before .before .before), ready-next _ _ _ (gapHits (now (a .page)) (a .head) (now (a .hints)) (a .spot)) _ _ _ _ _ x _ _ (c .before .before .before .before .before .before .before .before .before .before .before .before .before .before .before .before .before .before .pre))
 
 same-length-3 : tie.Need-same-length-3
 same-length-3 c = search needs

@@ -1,7 +1,6 @@
 -- `gap::region::carve_gap` meets its contract: each way out is a law of `proofs/Gaps.antt`.
 -- Assumes nothing.
 use mathlib.Core.Path.{sym, _∙_}
-use native.Mathlib.Omega.{arith}
 use borrow.Author.Needs.{needs}
 use denote.Ref.{now}
 use Rattle.gap.proofs.Gaps.{gap-none, gap-past, gap-zero, gap-some}

@@ -1,7 +1,7 @@
 -- `gap::region::carve_region` meets its contract: what the loop has carved, with what is left of the run, are the hits of the whole run (`Scanning`).
 -- Assumes nothing.
-use Prim.Native.Nat.{_+_, _-_, _≤_, _<_}
-use mathlib.Core.Path.{_≡_, _∙_}
+use Prim.Native.Nat.{_-_, _≤_}
+use mathlib.Core.Path.{_∙_}
 use native.Mathlib.Omega.{arith}
 use borrow.Author.Needs.{needs}
 use denote.Ref.{now}
@@ -15,16 +15,16 @@ use Rattle.gap.proofs.region.carve_region.Statement.{statement}
 use Rattle.gap.proofs.region.carve_region.Tie as tie
 
 abbrev Inv-loop : tie.InvT-loop
-Inv-loop bytes from hints spot lent n rows₀ cols₀ columns o₀ m₀ rows cols o m = (o ≤ length bytes) × Scanning bytes from hints spot lent n rows₀ cols₀ rows cols o m
+Inv-loop bytes from hints spot lent n rows₀ cols₀ o₀ m₀ rows cols o m = (o ≤ length bytes) × Scanning bytes from hints spot lent n rows₀ cols₀ rows cols o m
 
 abbrev μ-loop : tie.MeasureT-loop
-μ-loop bytes from hints spot lent n rows₀ cols₀ columns o₀ m₀ rows cols o m = length bytes - o
+μ-loop bytes from hints spot lent n rows₀ cols₀ o₀ m₀ rows cols o m = length bytes - o
 
 -- what an attempt that failed says
 missed : (c : tie.After-enum-told Inv-loop μ-loop) →
     let l = c .before .before .before .before .loop in
     let a = c .before .before .before .before .before .before .before .before .before .args in
-    MissIs (attemptAt (now (a .bytes)) (now (a .hints)) (l .o)) (attemptPlaces (now (a .bytes)) (l .o)) _
+    MissIs (attemptAt (now (a .bytes)) (now (a .hints)) (l .o)) (attemptPlaces (now (a .bytes)) (l .o)) (c .enum-told .given .0 .0)
 missed c = rw (c .enum-told .given .1) at (c .before .before .attempt .ensures)
 
 -- and what one that found a row says
@@ -55,19 +55,13 @@ loop-less c = search needs
 loop-again : tie.Need-loop-again Inv-loop μ-loop
 loop-again c =
     let t = c .before .before .before .loop-test .taken in
-    (omega (arith, t), scanning-missed _ _ _ _ _ _ _ _ _ _ _ _ (c .before .before .before .before .loop .inv .1) t (missed c .misses))
+    (omega (arith, t), scanning-missed _ _ _ _ _ _ _ _ _ _ _ _ (c .before .before .before .before .loop .inv .1) (omega (arith, t)) (missed c .misses))
 
 enum-known-find : tie.Need-enum-known-find Inv-loop μ-loop
 enum-known-find c = search needs
 
 add-row-requires : tie.Need-add-row-requires Inv-loop μ-loop
-add-row-requires c κs =
-    let h = found (c .before .before) in
-    let p = c .before .before .before .before .before .before .before .before .before .before .before .before .pre in
-    let w = c .before .before .before .before .before .before .before .loop .inv .1 in (
-      record { headed = h .headed; bodies = omega (arith, h .bodies, h .inside); counts = h .columns; inside = omega (arith, p .inside) },
-      going-ready _ _ _ _ _ _ _ _ _ (w .going) _ _ _ p,
-    )
+add-row-requires c κs = (found (c .before .before), going-ready _ _ _ _ _ _ _ _ _ (c .before .before .before .before .before .before .before .loop .inv .1 .going) _ _ _ (c .before .before .before .before .before .before .before .before .before .before .before .before .pre))
 
 enum-known-next : tie.Need-enum-known-next Inv-loop μ-loop
 enum-known-next c = search needs
@@ -83,7 +77,7 @@ same-length-2 c = c .before .before .before .before .before .before .add-row .ke
 
 returns : tie.Need-returns Inv-loop μ-loop
 returns c =
-    scanning-full _ _ _ _ _ _ _ _ _ _ _ _ (c .before .before .before .before .before .before .before .before .before .before .before .before .before .before .loop .inv .1) (c .before .before .before .before .before .before .before .before .before .before .before .before .before .loop-test .taken) _ (found (c .before .before .before .before .before .before .before .before .before) .hits) _ _
+    scanning-full _ _ _ _ _ _ _ _ _ _ _ _ (c .before .before .before .before .before .before .before .before .before .before .before .before .before .before .loop .inv .1) (omega (arith, c .before .before .before .before .before .before .before .before .before .before .before .before .before .loop-test .taken)) _ (found (c .before .before .before .before .before .before .before .before .before) .hits) _ _
     (rw (c .enum-told2 .given .1) at (c .before .before .before .before .before .before .add-row .ensures))
 
 add-o-2 : tie.Need-add-o-2 Inv-loop μ-loop
@@ -96,7 +90,7 @@ loop-again-2 : tie.Need-loop-again-2 Inv-loop μ-loop
 loop-again-2 c =
     let h = found (c .before .before .before .before .before .before .before .before .before .before .before) in (
       h .inside,
-      scanning-found _ _ _ _ _ _ _ _ _ _ _ _ (c .before .before .before .before .before .before .before .before .before .before .before .before .before .before .before .before .loop .inv .1) (c .before .before .before .before .before .before .before .before .before .before .before .before .before .before .before .loop-test .taken) _ (h .hits) _ _ _
+      scanning-found _ _ _ _ _ _ _ _ _ _ _ _ (c .before .before .before .before .before .before .before .before .before .before .before .before .before .before .before .before .loop .inv .1) (omega (arith, c .before .before .before .before .before .before .before .before .before .before .before .before .before .before .before .loop-test .taken)) _ (h .hits) _ _ _
           (rw (c .before .before .next .given .1) at (c .before .before .before .before .before .before .before .before .add-row .ensures)),
     )
 
@@ -107,7 +101,7 @@ same-length-4 : tie.Need-same-length-4 Inv-loop μ-loop
 same-length-4 c = going-cols _ _ _ _ _ _ _ _ _ (c .before .loop .inv .1 .going)
 
 returns-2 : tie.Need-returns-2 Inv-loop μ-loop
-returns-2 c = scanning-end _ _ _ _ _ _ _ _ _ _ _ _ (c .before .loop .inv .1) (c .loop-test .left)
+returns-2 c = scanning-end _ _ _ _ _ _ _ _ _ _ _ _ (c .before .loop .inv .1) (omega (arith, c .loop-test .left))
 
 pub carve-region-spec : {M : Type 1} → statement M
 carve-region-spec =

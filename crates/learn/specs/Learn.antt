@@ -1,11 +1,11 @@
 -- The rows to learn from, the hints that they give, and what the call answers and writes.
 -- Assumes nothing.
 use Prim.Native.Nat.{ℕ, zero, suc, _+_, _*_, _/_, max}
-use mathlib.Core.Bool.{Bool, false, cond, not, _&&_, _||_}
+use mathlib.Core.Bool.{Bool, true, false, cond, not, _&&_, _||_}
 use mathlib.Core.List.{List, [], _∷_, _++_}
 use lib.Dec.{ltb}
 use lib.ListN.{length, drop}
-use Rattle.record.specs.Entry.{unusedState, badEntry, readEntry}
+use Rattle.record.specs.Entry.{unusedState, readEntry}
 use Rattle.record.specs.declared.entry.Entry.{Entry}
 use Rattle.record.specs.declared.entry.EntryRead.{EntryRead}
 use Rattle.record.specs.declared.entry.EntryRead.the-variants.{Of, Refused as Bad}
@@ -45,10 +45,14 @@ unfoldable pub columnsOf : List Entry → ℕ
 columnsOf [] = 0
 columnsOf (e ∷ es) = cond (isUsed e) 1 0 + columnsOf es
 
--- Rule 3.2: an entry of the row is bad
+-- Rule 3.3: an entry of the row is bad, so reading it over the slice s is refused
+abbrev pub isRefused : EntryRead → Bool
+isRefused (Of v) = false
+isRefused Bad = true
+
 unfoldable pub anyBad : List ℕ → List Entry → Bool
 anyBad s [] = false
-anyBad s (e ∷ es) = badEntry e s || anyBad s es
+anyBad s (e ∷ es) = isRefused (readEntry e s) || anyBad s es
 
 -- Rule L.2: a used entry stands behind an unused one
 unfoldable pub gapped : List Entry → Bool

@@ -8,6 +8,19 @@ use sheet::WORDS_PER_ENTRY;
 use sheet::filled::Filled;
 use sheet::hint::hint_count_fits;
 use sheet::refusal::Refusal;
+ghost use mathlib.Core.Path.{_≡_};
+ghost use mathlib.Core.Bool.{cond};
+ghost use Prim.Native.Nat.{_+_, _*_, _≤_, _<_, max, min};
+ghost use lib.Dec.{eqb};
+ghost use lib.IntN.{pos};
+ghost use lib.ListN.{length, take, drop};
+ghost use Rattle.learn.specs.Inner.{judgedEntry, judgedRow, judgedRows, Lent, PutType, Counts};
+ghost use Rattle.learn.specs.Learn.{mostRows, rowsIn, given, columnTypes, hintOf, hintsBelow, learnNumber, learnWritten, learnAnswer, learnTypes};
+ghost use Rattle.learn.specs.Types.{widthType, integerType, valueType, countIn, better, commonestOf};
+ghost use Rattle.record.specs.Value.{lengthOf};
+ghost use Rattle.sheet.specs.Filled.{filledNumber, filledWritten, filledBy, laid};
+ghost use Rattle.sheet.specs.Limits.{mostColumns, wordsPerEntry, largestRegion};
+ghost use Rattle.sheet.specs.Sheet.{overlay, entryIn, entriesIn};
 
 pub const MOST_ROWS: usize = 1_024;
 
@@ -25,7 +38,9 @@ struct Leader {
 }
 
 // The type of n, and of -1 - n, which takes as many bits.
-fn width_type(n: u64) -> u64 {
+fn width_type(n: u64) -> u64
+    ensures { λ r. ⌜ r ≡ widthType (pos n) ⌝ }
+{
     if n < 0x80 {
         return 1;
     }
@@ -41,17 +56,23 @@ fn width_type(n: u64) -> u64 {
     6
 }
 
-fn integer_type(v: i64) -> u64 {
+fn integer_type(v: i64) -> u64
+    ensures { λ r. ⌜ r ≡ integerType v ⌝ }
+{
     if v < 0 {
         return width_type((-1 - v) as u64);
     }
-    if v < 2 {
+    let n = v as u64;
+    if n < 2 {
         return 8;
     }
-    width_type(v as u64)
+    width_type(n)
 }
 
-fn value_type(value: Value) -> u64 {
+fn value_type(value: Value) -> u64
+    requires { ⌜ lengthOf value ≤ largestRegion ⌝ }
+    ensures { λ r. ⌜ r ≡ valueType value ⌝ }
+{
     match value {
         Value::Null => 0,
         Value::Int(v) => integer_type(v),
@@ -61,7 +82,10 @@ fn value_type(value: Value) -> u64 {
     }
 }
 
-fn entry_at(entries: &[u64], at: usize) -> Entry {
+fn entry_at(entries: &[u64], at: usize) -> Entry
+    requires { ⌜ at + wordsPerEntry ≤ length (now entries) ⌝ }
+    ensures { λ r. ⌜ r ≡ entryIn (drop at (now (entries .entry))) ⌝ }
+{
     Entry {
         state: entries[at],
         kind: entries[at + 1],
@@ -71,11 +95,14 @@ fn entry_at(entries: &[u64], at: usize) -> Entry {
 }
 
 // The entry at index i of a row, behind n used ones.
-fn judge_entry(entry: Entry, bytes: &[u8], i: usize, n: usize) -> Judged {
-    let EntryRead::Of(_) = entry.read(bytes) else {
+fn judge_entry(e: Entry, bytes: &[u8], i: usize, n: usize) -> Judged
+    requires { ⌜ i < mostColumns ⌝ }
+    ensures { λ r. ⌜ r ≡ judgedEntry (now (bytes .entry)) e i n ⌝ }
+{
+    let EntryRead::Of(_) = e.read(bytes) else {
         return Judged::Bad;
     };
-    if entry.state >= UNUSED {
+    if e.state >= UNUSED {
         return Judged::Columns(n);
     }
     // An unused entry stands before it.
@@ -85,7 +112,11 @@ fn judge_entry(entry: Entry, bytes: &[u8], i: usize, n: usize) -> Judged {
     Judged::Columns(i + 1)
 }
 
-fn judge_row(bytes: &[u8], entries: &[u64], from: usize, width: usize) -> Judged {
+fn judge_row(bytes: &[u8], entries: &[u64], from: usize, width: usize) -> Judged
+    requires { ⌜ width ≤ mostColumns ⌝ }
+    requires { ⌜ from + wordsPerEntry * width ≤ length (now entries) ⌝ }
+    ensures { λ r. ⌜ r ≡ judgedRow (now (bytes .entry)) (entriesIn width (drop from (now (entries .entry)))) ⌝ }
+{
     let mut at = from;
     let mut i = 0;
     let mut n = 0;
@@ -100,12 +131,18 @@ fn judge_row(bytes: &[u8], entries: &[u64], from: usize, width: usize) -> Judged
     Judged::Columns(n)
 }
 
-fn larger(a: usize, b: usize) -> usize {
+fn larger(a: usize, b: usize) -> usize
+    ensures { λ r. ⌜ r ≡ max a b ⌝ }
+{
     if a < b { b } else { a }
 }
 
 // The columns of the longest of so many rows.
-fn judge_rows(bytes: &[u8], entries: &[u64], width: usize, rows: usize) -> Judged {
+fn judge_rows(bytes: &[u8], entries: &[u64], width: usize, rows: usize) -> Judged
+    requires { ⌜ width ≤ mostColumns ⌝ }
+    requires { ⌜ rows * (wordsPerEntry * width) ≤ length (now entries) ⌝ }
+    ensures { λ r. ⌜ r ≡ judgedRows (now (bytes .entry)) (rowsIn rows width (now (entries .entry))) 0 ⌝ }
+{
     let mut at = 0;
     let mut left = rows;
     let mut most = 0;
@@ -121,31 +158,46 @@ fn judge_rows(bytes: &[u8], entries: &[u64], width: usize, rows: usize) -> Judge
 }
 
 // Writes the entry's type behind n others, if it is used; the answer is how many there are then.
-fn put_type(bytes: &[u8], entry: Entry, kinds: &mut [u64], n: usize) -> usize {
-    if entry.state >= UNUSED {
+fn put_type(bytes: &[u8], e: Entry, kinds: &mut [u64], n: usize) -> usize
+    requires { ⌜ length (now bytes) ≤ largestRegion ⌝ }
+    requires { ⌜ n < length (now kinds) ⌝ }
+    ensures { λ r. ⌜ PutType (given (now (bytes .entry)) e) n (now (kinds .entry)) r (now (kinds .exit)) ⌝ }
+{
+    if e.state >= UNUSED {
         return n;
     }
-    let EntryRead::Of(value) = entry.read(bytes) else {
+    let EntryRead::Of(value) = e.read(bytes) else {
         return n;
     };
     kinds[n] = value_type(value);
     n + 1
 }
 
-// Writes the types of a column, whose entries stand `skip` words behind their row's start.
+// Writes the types of a column.
 fn gather(
     bytes: &[u8],
     entries: &[u64],
     width: usize,
     rows: usize,
-    skip: usize,
+    column: usize,
     kinds: &mut [u64],
-) -> usize {
+) -> usize
+    requires { ⌜ Lent (now bytes) (now entries) width rows ⌝ }
+    requires { ⌜ column < width ⌝ }
+    requires { ⌜ length (now kinds) ≡ mostRows ⌝ }
+    ensures { λ r. ⌜ take r (now (kinds .exit)) ≡ columnTypes (now (bytes .entry)) column (rowsIn rows width (now (entries .entry))) ⌝ }
+    ensures small { λ r. ⌜ r ≤ mostRows ⌝ }
+{
     let mut at = 0;
     let mut left = rows;
     let mut n = 0;
     while left > 0 {
-        n = put_type(bytes, entry_at(entries, at + skip), kinds, n);
+        n = put_type(
+            bytes,
+            entry_at(entries, at + WORDS_PER_ENTRY * column),
+            kinds,
+            n,
+        );
         at = at + WORDS_PER_ENTRY * width;
         left = left - 1;
     }
@@ -153,11 +205,16 @@ fn gather(
 }
 
 // 1 for equal numbers, 0 for others.
-fn same(a: u64, b: u64) -> usize {
+fn same(a: u64, b: u64) -> usize
+    ensures { λ r. ⌜ r ≡ cond (eqb a b) 1 0 ⌝ }
+    ensures small { λ r. ⌜ r ≤ 1 ⌝ }
+{
     if a == b { 1 } else { 0 }
 }
 
-fn count_of(kinds: &[u64], kind: u64) -> usize {
+fn count_of(kinds: &[u64], kind: u64) -> usize
+    ensures { λ r. ⌜ r ≡ countIn kind (now (kinds .entry)) ⌝ }
+{
     let mut n = 0;
     let mut i = 0;
     while i < kinds.len() {
@@ -168,7 +225,11 @@ fn count_of(kinds: &[u64], kind: u64) -> usize {
 }
 
 // The leader, or the type that comes before it.
-fn challenge(kinds: &[u64], leader: Leader, kind: u64) -> Leader {
+fn challenge(kinds: &[u64], leader: Leader, kind: u64) -> Leader
+    requires { ⌜ Counts (now kinds) leader ⌝ }
+    ensures { λ r. ⌜ r .kind ≡ better (now (kinds .entry)) (leader .kind) kind ⌝ }
+    ensures counts { λ r. ⌜ Counts (now (kinds .entry)) r ⌝ }
+{
     // It is counted already.
     if kind == leader.kind {
         return leader;
@@ -177,15 +238,18 @@ fn challenge(kinds: &[u64], leader: Leader, kind: u64) -> Leader {
     if count < leader.count {
         return leader;
     }
-    if count == leader.count {
-        if kind > leader.kind {
-            return leader;
-        }
+    if count > leader.count {
+        return Leader { kind, count };
+    }
+    if kind > leader.kind {
+        return leader;
     }
     Leader { kind, count }
 }
 
-fn commonest(kinds: &[u64]) -> u64 {
+fn commonest(kinds: &[u64]) -> u64
+    ensures { λ r. ⌜ r ≡ commonestOf (now (kinds .entry)) ⌝ }
+{
     let mut leader = Leader {
         kind: 0,
         count: count_of(kinds, 0),
@@ -205,8 +269,13 @@ fn hint_of(
     rows: usize,
     column: usize,
     kinds: &mut [u64],
-) -> u64 {
-    let n = gather(bytes, entries, width, rows, WORDS_PER_ENTRY * column, kinds);
+) -> u64
+    requires { ⌜ Lent (now bytes) (now entries) width rows ⌝ }
+    requires { ⌜ column < width ⌝ }
+    requires { ⌜ length (now kinds) ≡ mostRows ⌝ }
+    ensures { λ r. ⌜ r ≡ hintOf (now (bytes .entry)) column (rowsIn rows width (now (entries .entry))) ⌝ }
+{
+    let n = gather(bytes, entries, width, rows, column, kinds);
     commonest(&kinds[..n])
 }
 
@@ -219,7 +288,13 @@ fn put_hints(
     columns: usize,
     types: &mut [u64],
     kinds: &mut [u64],
-) {
+)
+    requires { ⌜ Lent (now bytes) (now entries) width rows ⌝ }
+    requires { ⌜ columns ≤ width ⌝ }
+    requires { ⌜ columns ≤ length (now types) ⌝ }
+    requires { ⌜ length (now kinds) ≡ mostRows ⌝ }
+    ensures { λ _. ⌜ now (types .exit) ≡ overlay (hintsBelow (now (bytes .entry)) columns (rowsIn rows width (now (entries .entry)))) (now (types .entry)) ⌝ }
+{
     let mut c = 0;
     while c < columns {
         types[c] = hint_of(bytes, entries, width, rows, c, kinds);
@@ -227,7 +302,9 @@ fn put_hints(
     }
 }
 
-fn smaller(a: usize, b: usize) -> usize {
+fn smaller(a: usize, b: usize) -> usize
+    ensures { λ r. ⌜ r ≡ min a b ⌝ }
+{
     if a < b { a } else { b }
 }
 
@@ -239,7 +316,12 @@ fn learn_columns(
     rows: usize,
     columns: usize,
     types: &mut [u64],
-) -> Filled {
+) -> Filled
+    requires { ⌜ Lent (now bytes) (now entries) width rows ⌝ }
+    requires { ⌜ columns ≤ width ⌝ }
+    ensures { λ r. ⌜ r ≡ filledBy columns (length (now (types .entry))) ⌝ }
+    ensures list { λ _. ⌜ now (types .exit) ≡ laid (hintsBelow (now (bytes .entry)) columns (rowsIn rows width (now (entries .entry)))) (now (types .entry)) ⌝ }
+{
     let room = types.len();
     let mut kinds = [0; MOST_ROWS];
     put_hints(
@@ -257,7 +339,12 @@ fn learn_columns(
     Filled::Done(columns)
 }
 
-pub fn learn_signatures(bytes: &[u8], width: usize, entries: &[u64], types: &mut [u64]) -> Filled {
+pub fn learn_signatures(bytes: &[u8], width: usize, entries: &[u64], types: &mut [u64]) -> Filled
+    ensures answer { λ r. ⌜ r ≡ learnAnswer (now (bytes .entry)) width (now (entries .entry)) (length (now (types .entry))) ⌝ }
+    ensures number { λ r. ⌜ filledNumber r ≡ learnNumber (now (bytes .entry)) width (now (entries .entry)) (length (now (types .entry))) ⌝ }
+    ensures written { λ r. ⌜ filledWritten r ≡ learnWritten (now (bytes .entry)) width (now (entries .entry)) (length (now (types .entry))) ⌝ }
+    ensures list { λ _. ⌜ now (types .exit) ≡ learnTypes (now (bytes .entry)) width (now (entries .entry)) (now (types .entry)) ⌝ }
+{
     if !hint_count_fits(width) {
         return Filled::Refused(Refusal::ColumnCount);
     }

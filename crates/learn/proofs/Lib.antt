@@ -1,0 +1,3 @@
+pub mod Counting
+mod Learning
+mod Rows

@@ -52,12 +52,13 @@ module _ (s : List ℕ) (rows : List (List Entry)) where
       (take-all m (hintsBelow s m rows) (omega (arith, hints-length m)))
       (λ n h e. take-append-le m (hintsBelow s n rows) (hintOf s n rows ∷ []) (omega (arith, hints-length n)) ∙ e)
 
-  -- THE LAW: as many hints as fit are those of the first columns
-  pub hints-laid : (n : ℕ) (old : List ℕ) → overlay (hintsBelow s (min n (length old)) rows) old ≡ laid (hintsBelow s n rows) old
-  hints-laid n old =
-      by-order (length old) n
-      (λ more. rw (min-eq-right (le-of-lt more), hints-take (length old) n (le-of-lt more)))
-      (λ fit. rw (min-eq-left fit, take-all (length old) (hintsBelow s n rows) (omega (arith, hints-length n))))
+  -- THE LAW: the hints of as many columns as fit are the first of all
+  pub hints-laid : (n : ℕ) (old : List ℕ) {k : ℕ} {list : List ℕ} → k ≡ min n (length old) → list ≡ overlay (hintsBelow s k rows) old → list ≡ laid (hintsBelow s n rows) old
+  hints-laid n old e l =
+      l
+      ∙ by-order (length old) n
+      (λ more. rw (e, min-eq-right (le-of-lt more), hints-take (length old) n (le-of-lt more)))
+      (λ fit. rw (e, min-eq-left fit, take-all (length old) (hintsBelow s n rows) (omega (arith, hints-length n))))
 
 -- the hints of the first c columns lie over what the list held
 pub record PutTo (s : List ℕ) (rows : List (List Entry)) (columns : ℕ) (old : List ℕ) (c : ℕ) (types : List ℕ) : Type 0 where

@@ -21,6 +21,7 @@ use Rattle.sheet.specs.Sheet.{entryIn, entriesIn}
 use Rattle.learn.specs.Inner.{judgedEntry, judgedFrom, judgedRow, judgedRows, PutType}
 use Rattle.learn.specs.Learn.{rowsIn, isRefused, isUsed, columnsOf, anyBad, gapped, badRow, badRows, given, givenAt, columnTypes, longest}
 use Rattle.learn.specs.Types.{valueType}
+use Rattle.learn.specs.declared.learn.Judged.{Judged}
 use Rattle.learn.specs.declared.learn.Judged.the-variants.{Columns, Bad}
 
 -- ---- entries among the words
@@ -158,15 +159,15 @@ module _ {s words : List ℕ} {from width : ℕ} where
       row-next : entriesIn (width - i) (drop at words) ≡ e ∷ entriesIn (width - (i + 1)) (drop (at + wordsPerEntry) words)
       row-next = rw is (entries-next words at (width - i) (width - (i + 1)) (omega arith))
 
-      pub row-step : {m : ℕ} → judgedEntry s e i n ≡ Columns m → RowTo s words from width (at + wordsPerEntry) (i + 1) m
-      row-step h = record {
+      pub row-step : {r : Judged} {m : ℕ} → r ≡ judgedEntry s e i n → r ≡ Columns m → RowTo s words from width (at + wordsPerEntry) (i + 1) m
+      row-step got h = record {
         inside = omega arith;
         place = omega (arith, t .place);
-        judged = sym (judged-on s e _ i n _ h) ∙ rw row-next at (t .judged);
+        judged = sym (judged-on s e _ i n _ (sym got ∙ h)) ∙ rw row-next at (t .judged);
       }
 
-      pub row-refused : judgedEntry s e i n ≡ Bad → Bad ≡ judgedRow s (entriesIn width (drop from words))
-      row-refused h = sym (judged-bad s e _ i n h) ∙ rw row-next at (t .judged)
+      pub row-refused : {r : Judged} → r ≡ judgedEntry s e i n → r ≡ Bad → Bad ≡ judgedRow s (entriesIn width (drop from words))
+      row-refused got h = sym (judged-bad s e _ i n (sym got ∙ h)) ∙ rw row-next at (t .judged)
 
     pub row-end : width ≤ i → Columns n ≡ judgedRow s (entriesIn width (drop from words))
     unfolding judgedFrom
@@ -185,19 +186,19 @@ module _ {s words : List ℕ} {width rows : ℕ} where
     pub rows-place : 0 < left → at + wordsPerEntry * width ≤ length words
     rows-place h = omega (arith, t .place, groups-next (wordsPerEntry * width) left (left - 1) (omega arith))
 
-    pub rows-step : {n k : ℕ} → 0 < left → judgedRow s (entriesIn width (drop at words)) ≡ Columns n → k ≡ max most n →
+    pub rows-step : {r : Judged} {n k : ℕ} → 0 < left → r ≡ judgedRow s (entriesIn width (drop at words)) → r ≡ Columns n → k ≡ max most n →
         RowsTo s words width rows (at + wordsPerEntry * width) (left - 1) k
-    rows-step some h e =
+    rows-step some got h e =
         let next : left ≡ suc (left - 1) = omega arith in
         record {
           place = omega (arith, t .place, groups-next (wordsPerEntry * width) left (left - 1) next);
-          judged = rw e (sym (rows-on s _ _ most _ h) ∙ rw (rows-next words width at left (left - 1) next) at (t .judged));
+          judged = rw e (sym (rows-on s _ _ most _ (sym got ∙ h)) ∙ rw (rows-next words width at left (left - 1) next) at (t .judged));
         }
 
-    pub rows-refused : 0 < left → judgedRow s (entriesIn width (drop at words)) ≡ Bad → Bad ≡ judgedRows s (rowsIn rows width words) 0
-    rows-refused some h =
+    pub rows-refused : {r : Judged} → 0 < left → r ≡ judgedRow s (entriesIn width (drop at words)) → r ≡ Bad → Bad ≡ judgedRows s (rowsIn rows width words) 0
+    rows-refused some got h =
         let next : left ≡ suc (left - 1) = omega arith in
-        sym (rows-bad s _ _ most h) ∙ rw (rows-next words width at left (left - 1) next) at (t .judged)
+        sym (rows-bad s _ _ most (sym got ∙ h)) ∙ rw (rows-next words width at left (left - 1) next) at (t .judged)
 
     pub rows-ended : left ≡ 0 → Columns most ≡ judgedRows s (rowsIn rows width words) 0
     unfolding rowsIn

@@ -1,7 +1,6 @@
 -- `learn::learn::judge_row` meets its contract. The loop's invariant: the entries before index i are judged, and n of them are used.
 -- Assumes nothing.
 use Prim.Native.Nat.{_-_}
-use mathlib.Core.Path.{sym, _∙_}
 use native.Mathlib.Omega.{arith}
 use borrow.Author.Needs.{needs}
 use Rattle.learn.proofs.Rows.{RowTo, row-start, row-step, row-refused, row-end}
@@ -32,7 +31,7 @@ enum-told c = search needs
 returns : tie.Need-returns Inv-loop μ-loop
 returns c = let j = c .before .before in
     let l = j .before .before .before in
-    row-refused (l .loop .inv) _ (j .before .entry-at .ensures) (search needs) (sym (j .judge-entry .ensures) ∙ c .enum-told .given .1)
+    row-refused (l .loop .inv) _ (j .before .entry-at .ensures) (search needs) (j .judge-entry .ensures) (c .enum-told .given .1)
 
 add-at : tie.Need-add-at Inv-loop μ-loop
 add-at c = omega arith
@@ -46,7 +45,7 @@ loop-less c = search needs
 loop-again : tie.Need-loop-again Inv-loop μ-loop
 loop-again c = let j = c .before .before .before in
     let l = j .before .before .before in
-    row-step (l .loop .inv) _ (j .before .entry-at .ensures) (search needs) (sym (j .judge-entry .ensures) ∙ c .before .used .given .1)
+    row-step (l .loop .inv) _ (j .before .entry-at .ensures) (search needs) (j .judge-entry .ensures) (c .before .used .given .1)
 
 returns-2 : tie.Need-returns-2 Inv-loop μ-loop
 returns-2 c = row-end (c .before .loop .inv) (search needs)

@@ -1,6 +1,5 @@
 -- `learn::learn::judge_rows` meets its contract. The loop's invariant: the rows before `at` are judged, and the longest has so many columns.
 -- Assumes nothing.
-use mathlib.Core.Path.{sym, _∙_}
 use native.Mathlib.Omega.{arith}
 use borrow.Author.Needs.{needs}
 use Rattle.learn.proofs.Rows.{RowsTo, rows-start, rows-place, rows-step, rows-refused, rows-ended}
@@ -27,7 +26,7 @@ enum-told c = search needs
 
 returns : tie.Need-returns Inv-loop μ-loop
 returns c = let j = c .before .before in
-    rows-refused (j .before .before .loop .inv) (search needs) (sym (j .judge-row .ensures) ∙ c .enum-told .given .1)
+    rows-refused (j .before .before .loop .inv) (search needs) (j .judge-row .ensures) (c .enum-told .given .1)
 
 larger-requires : tie.Need-larger-requires Inv-loop μ-loop
 larger-requires c κs = search needs
@@ -46,7 +45,7 @@ loop-less c = search needs
 
 loop-again : tie.Need-loop-again Inv-loop μ-loop
 loop-again c = let j = c .before .before .before .before in
-    rows-step (j .before .before .loop .inv) (search needs) (sym (j .judge-row .ensures) ∙ c .before .before .n .given .1) (c .larger .ensures)
+    rows-step (j .before .before .loop .inv) (search needs) (j .judge-row .ensures) (c .before .before .n .given .1) (c .larger .ensures)
 
 returns-2 : tie.Need-returns-2 Inv-loop μ-loop
 returns-2 c = rows-ended (c .before .loop .inv) (search needs)

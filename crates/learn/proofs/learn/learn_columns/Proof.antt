@@ -1,7 +1,7 @@
 -- `learn::learn::learn_columns` meets its contract: so many hints are written as there are columns, or cells.
 -- Assumes nothing.
 use borrow.Author.Needs.{needs}
-use mathlib.Core.Path.{_≡_, _∙_}
+use mathlib.Core.Path.{_≡_}
 use borrow.Author.Tests.{le-leb, lt-leb}
 use denote.Ref.{now}
 use Rattle.learn.specs.Learn.{rowsIn, hintsBelow}
@@ -14,10 +14,7 @@ use Rattle.learn.proofs.learn.learn_columns.Tie as tie
 lie : (c : tie.After-put-hints) →
     let a = c .before .before .before .before .before .before .before .args in
     c .put-hints .last .1 .1 .1 .1 .1 .0 ≡ laid (hintsBelow (now (a .bytes)) (a .columns) (rowsIn (a .rows) (a .width) (now (a .entries)))) (now (a .types))
-lie c =
-    let a = c .before .before .before .before .before .before .before .args in
-    c .put-hints .ensures
-    ∙ rw (c .before .before .before .smaller .ensures) (hints-laid (now (a .bytes)) (rowsIn (a .rows) (a .width) (now (a .entries))) (a .columns) (now (a .types)))
+lie c = hints-laid _ _ _ _ (c .before .before .before .smaller .ensures) (c .put-hints .ensures)
 
 smaller-requires : tie.Need-smaller-requires
 smaller-requires c κs = search needs

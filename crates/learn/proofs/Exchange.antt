@@ -13,7 +13,7 @@ use Rattle.record.specs.declared.entry.Entry.{Entry}
 use Rattle.sheet.specs.Limits.{wordsPerEntry, countFits}
 use Rattle.sheet.specs.Sheet.{entryIn, entriesIn}
 use Rattle.sheet.proofs.Laws.{count-fits}
-use Rattle.learn.specs.Learn.{rowCount, rowsIn, rowsOf, columnsOf, badRow, badRows, givenAt, columnTypes, hintOf, hintsBelow, longest, hintsOf, learnChecks, learnAnswer, learnTypes}
+use Rattle.learn.specs.Learn.{rowCount, rowsIn, rowsOf, badRow, badRows, givenAt, columnTypes, hintOf, hintsBelow, longest, hintsOf, learnChecks, learnAnswer, learnTypes}
 use Rattle.learn.specs.Types.{countIn}
 use Rattle.learn.proofs.Counting.{count-append, commonest-same}
 

@@ -1,25 +1,25 @@
 -- Laws of the call: the hints as they are written, and the answer from what the code found.
 -- Assumes nothing.
-use Prim.Native.Nat.{ℕ, zero, suc, _+_, _*_, _≤_, _<_, max, min}
+use Prim.Native.Nat.{ℕ, zero, suc, _+_, _≤_, _<_, max, min}
 use mathlib.Core.Path.{_≡_, refl, sym, ap, _∙_}
-use mathlib.Core.Bool.{Bool, true, false, cond, not, _||_, or-true}
+use mathlib.Core.Bool.{Bool, true, false, cond, or-true}
 use mathlib.Core.List.{List, [], _∷_, _++_}
 use native.Mathlib.Decide.{le-ind}
 use native.Mathlib.Nat.{min-eq-left, min-eq-right, le-of-lt}
 use native.Mathlib.Numerals.{add-one}
 use native.Mathlib.Omega.{arith}
-use borrow.Author.Tests.{lt-ltb, le-ltb, le-leb, lt-leb}
+use borrow.Author.Tests.{lt-ltb, le-ltb}
 use lib.Dec.{ltb}
 use lib.ListN.{length, take, set, length-append}
 use lib.Seq.{take-all, take-append-le}
 use Rattle.record.proofs.Numbers.{by-order}
 use Rattle.record.specs.declared.entry.Entry.{Entry}
 use Rattle.sheet.specs.Filled.{filledNumber, filledWritten, filledBy, writtenAfter, laid}
-use Rattle.sheet.specs.Limits.{mostColumns, wordsPerEntry, largestRegion, countFits}
+use Rattle.sheet.specs.Limits.{largestRegion, countFits}
 use Rattle.sheet.specs.Refusal.{firstHeld, after}
 use Rattle.sheet.specs.Sheet.{overlay}
 use Rattle.sheet.specs.declared.filled.Filled.{Filled}
-use Rattle.sheet.specs.declared.filled.Filled.the-variants.{Done, Full, Refused}
+use Rattle.sheet.specs.declared.filled.Filled.the-variants.{Refused}
 use Rattle.sheet.specs.declared.refusal.Checked.{Checked}
 use Rattle.sheet.specs.declared.refusal.Checked.the-variants.{Passed, Refused as Stopped}
 use Rattle.sheet.specs.declared.refusal.Refusal.{Refusal}

@@ -50,10 +50,7 @@ fn width_type(n: u64) -> u64
     if n < 0x80_0000 {
         return 3;
     }
-    if n < 0x8000_0000 {
-        return 4;
-    }
-    6
+    if n < 0x8000_0000 { 4 } else { 6 }
 }
 
 fn integer_type(v: i64) -> u64

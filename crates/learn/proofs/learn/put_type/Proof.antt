@@ -1,15 +1,12 @@
 -- `learn::learn::put_type` meets its contract.
 -- Assumes nothing.
 use borrow.Author.Needs.{needs}
-use Prim.Native.Nat.{_≤_}
 use mathlib.Core.Path.{_≡_, sym, _∙_}
 use native.Mathlib.Omega.{arith}
 use denote.Ref.{now}
 use Rattle.record.specs.Entry.{readEntry}
-use Rattle.record.specs.Value.{lengthOf}
 use Rattle.record.specs.declared.entry.EntryRead.the-variants.{Of}
 use Rattle.record.proofs.Bodies.{entry-inside}
-use Rattle.sheet.specs.Limits.{largestRegion}
 use Rattle.learn.proofs.Rows.{given-unused, given-value, given-bad, put-none, put-one}
 use Rattle.learn.proofs.learn.put_type.Statement.{statement}
 use Rattle.learn.proofs.learn.put_type.Tie as tie

@@ -3,6 +3,7 @@
 use borrow.Author.Needs.{needs}
 use mathlib.Core.Path.{_≡_, sym, ap, _∙_}
 use mathlib.Core.Bool.{false}
+use native.Mathlib.Omega.{arith}
 use borrow.Author.Tests.{lt-ltb, le-ltb, eq-eqb, ne-eqb}
 use denote.Ref.{now}
 use Rattle.record.specs.Entry.{readEntry}
@@ -30,13 +31,17 @@ returns-2 : tie.Need-returns-2
 returns-2 c = simp (good (c .before .before), le-ltb _ _ (c .if1 .taken))
 
 returns-3 : tie.Need-returns-3
-returns-3 c = simp (good (c .before .before .before), lt-ltb _ _ (c .before .if1 .left), ne-eqb _ _ (c .if2 .taken))
+returns-3 c = let k = c .before .before .before in
+    let a = k .before .before .before .before .args in
+    simp (good k, lt-ltb _ _ (c .before .if1 .left), ne-eqb (a .n) (a .i) (λ z. omega arith))
 
 add-t7 : tie.Need-add-t7
 add-t7 c = search needs
 
 returns-4 : tie.Need-returns-4
-returns-4 c = simp (good (c .before .before .before), lt-ltb _ _ (c .before .if1 .left), eq-eqb _ _ (c .if2 .left))
+returns-4 c = let k = c .before .before .before in
+    let a = k .before .before .before .before .args in
+    simp (good k, lt-ltb _ _ (c .before .if1 .left), eq-eqb (a .n) (a .i) (omega arith))
 
 pub judge-entry-spec : {M : Type 1} → statement M
 judge-entry-spec =

@@ -111,7 +111,7 @@ rows-append (suc n) m width a b h =
     rw (suc-add, entries-append width a b (omega arith), drop-append-le group a b (omega arith))
     (ap (λ rows. entriesIn width a ∷ rows) (rows-append n m width (drop group a) b (omega (arith, length-drop group a))))
 
--- a block of n whole rows
+-- a block of n whole rows; one row is a block, too
 abbrev pub Rows : ℕ → List ℕ → ℕ → Type 0
 Rows width words n = length words ≡ n * (wordsPerEntry * width)
 

@@ -41,7 +41,7 @@ module _ (s : List ℕ) (rows : List (List Entry)) where
   hints-length (suc n) = simp (length-append, hints-length n) (omega arith)
 
   -- THE LAW: one more hint behind the first c
-  pub hints-put : (c : ℕ) (old : List ℕ) → c < length old → set (overlay (hintsBelow s c rows) old) c (hintOf s c rows) ≡ overlay (hintsBelow s (c + 1) rows) old
+  hints-put : (c : ℕ) (old : List ℕ) → c < length old → set (overlay (hintsBelow s c rows) old) c (hintOf s c rows) ≡ overlay (hintsBelow s (c + 1) rows) old
   unfolding hintsBelow
   hints-put c old h = rw add-one (put-next (hintsBelow s c rows) old c (hintOf s c rows) (hints-length c) h)
 

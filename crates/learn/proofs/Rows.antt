@@ -7,11 +7,11 @@ use mathlib.Core.List.{List, [], _∷_, _++_, append-nil, append-assoc}
 use native.Mathlib.Nat.{suc-mul, sub-zero}
 use native.Mathlib.Numerals.{add-one}
 use native.Mathlib.Omega.{arith}
-use borrow.Author.Tests.{lt-ltb, le-ltb, eq-eqb, ne-eqb}
+use borrow.Author.Tests.{lt-ltb, le-ltb, eq-eqb, ne-eqb, ltb-false}
 use lib.Dec.{ltb}
 use lib.ListN.{length, take, drop, set}
 use lib.Seq.{drop-drop, take-suc-set}
-use Rattle.record.proofs.Numbers.{by-order, by-test}
+use Rattle.record.proofs.Numbers.{by-test}
 use Rattle.record.specs.Entry.{unusedState, readEntry}
 use Rattle.record.specs.declared.entry.Entry.{Entry}
 use Rattle.record.specs.declared.entry.EntryRead.the-variants.{Of, Refused}
@@ -25,17 +25,17 @@ use Rattle.learn.specs.declared.learn.Judged.{Judged}
 use Rattle.learn.specs.declared.learn.Judged.the-variants.{Columns, Bad}
 
 -- ---- entries among the words
-pub entries-next : (words : List ℕ) (at left next : ℕ) → left ≡ suc next →
+entries-next : (words : List ℕ) (at left next : ℕ) → left ≡ suc next →
     entriesIn left (drop at words) ≡ entryIn (drop at words) ∷ entriesIn next (drop (at + wordsPerEntry) words)
 entries-next words at left next e = rw (e, ← drop-drop wordsPerEntry at words)
 
-pub rows-next : (words : List ℕ) (width at left next : ℕ) → left ≡ suc next →
+rows-next : (words : List ℕ) (width at left next : ℕ) → left ≡ suc next →
     rowsIn left width (drop at words) ≡ entriesIn width (drop at words) ∷ rowsIn next width (drop (at + wordsPerEntry * width) words)
 unfolding rowsIn
 rows-next words width at left next e = rw (e, ← drop-drop (wordsPerEntry * width) at words)
 
 -- so many groups of so many words, less one
-pub groups-next : (group left next : ℕ) → left ≡ suc next → left * group ≡ next * group + group
+groups-next : (group left next : ℕ) → left ≡ suc next → left * group ≡ next * group + group
 groups-next group left next e = rw (e, suc-mul)
 
 -- ---- judging
@@ -66,11 +66,11 @@ none-gapped (x ∷ es) e =
 
 module _ (s : List ℕ) where
   module _ (e : Entry) (es : List Entry) (i n : ℕ) where
-    pub judged-on : (m : ℕ) → judgedEntry s e i n ≡ Columns m → judgedFrom s (e ∷ es) i n ≡ judgedFrom s es (i + 1) m
+    judged-on : (m : ℕ) → judgedEntry s e i n ≡ Columns m → judgedFrom s (e ∷ es) i n ≡ judgedFrom s es (i + 1) m
     unfolding judgedFrom
     judged-on m h = rw h
 
-    pub judged-bad : judgedEntry s e i n ≡ Bad → judgedFrom s (e ∷ es) i n ≡ Bad
+    judged-bad : judgedEntry s e i n ≡ Bad → judgedFrom s (e ∷ es) i n ≡ Bad
     unfolding judgedFrom
     judged-bad h = rw h
 
@@ -114,16 +114,16 @@ module _ (s : List ℕ) where
       rest =
           again (anyBad s es) (ltb 0 (columnsOf es)) (gapped es) (i + columnsOf es)
           (λ f.
-          let z : columnsOf es ≡ 0 = by-order 0 (columnsOf es) (λ h. let b : true ≡ false = sym (lt-ltb 0 (columnsOf es) h) ∙ f in let z : _≡_ {A = ℕ} 0 1 = cc in absurd (omega arith)) (λ h. omega arith) in
+          let z : columnsOf es ≡ 0 = omega (arith, ltb-false 0 (columnsOf es) f) in
           (none-gapped es z, omega arith))
 
   -- THE LAW: entry by entry a row is judged as a whole,
-  pub judged-row : (es : List Entry) → judgedFrom s es 0 0 ≡ judgedRow s es
+  judged-row : (es : List Entry) → judgedFrom s es 0 0 ≡ judgedRow s es
   judged-row es = let z : 0 + columnsOf es ≡ columnsOf es = omega arith in judged-used es 0 ∙ rw z
 
   -- and row by row all are
   module _ (r : List Entry) (rs : List (List Entry)) (most : ℕ) where
-    pub rows-on : (n : ℕ) → judgedRow s r ≡ Columns n → judgedRows s (r ∷ rs) most ≡ judgedRows s rs (max most n)
+    rows-on : (n : ℕ) → judgedRow s r ≡ Columns n → judgedRows s (r ∷ rs) most ≡ judgedRows s rs (max most n)
     unfolding badRows longest
     rows-on n h =
         by-test (badRow s r)
@@ -134,13 +134,13 @@ module _ (s : List ℕ) where
         let m : max most (max n (longest rs)) ≡ max (max most n) (longest rs) = omega arith in
         rw (b, e, m))
 
-    pub rows-bad : judgedRow s r ≡ Bad → judgedRows s (r ∷ rs) most ≡ Bad
+    rows-bad : judgedRow s r ≡ Bad → judgedRows s (r ∷ rs) most ≡ Bad
     unfolding badRows
     rows-bad h =
         by-test (badRow s r) (λ b. rw b)
         (λ b. let no : Columns (columnsOf r) ≡ Bad = rw b at h in let z : _≡_ {A = ℕ} 0 1 = cc in absurd (omega arith))
 
-  pub rows-end : (most : ℕ) → judgedRows s [] most ≡ Columns most
+  rows-end : (most : ℕ) → judgedRows s [] most ≡ Columns most
   unfolding badRows longest
   rows-end most = let z : max most 0 ≡ most = omega arith in rw z
 
@@ -225,7 +225,7 @@ pub put-one : {types kinds : List ℕ} {n v : ℕ} → types ≡ v ∷ [] → n 
 put-one {types} {kinds} {n} {v} e h = record { most = omega arith; list = rw (e, add-one) (take-suc-set kinds n v h) }
 
 module _ (s : List ℕ) where
-  pub given-at : (c width : ℕ) (words : List ℕ) → c < width → givenAt s c (entriesIn width words) ≡ given s (entryIn (drop (wordsPerEntry * c) words))
+  given-at : (c width : ℕ) (words : List ℕ) → c < width → givenAt s c (entriesIn width words) ≡ given s (entryIn (drop (wordsPerEntry * c) words))
   unfolding givenAt
   given-at c zero words h = absurd (omega arith)
   given-at zero (suc w) words h = refl

@@ -14,16 +14,28 @@ count-of-requires : tie.Need-count-of-requires
 count-of-requires c κs = search needs
 
 returns-2 : tie.Need-returns-2
-returns-2 c = let o = c .before .before in let p = o .before .before .before .before .pre in (sym (better-old _ _ _ (omega (arith, p, o .count-of .ensures))), p)
+returns-2 c =
+    let o = c .before .before in
+    let p = o .before .before .before .before .pre in
+    (sym (better-old _ _ _ (omega (arith, p, o .count-of .ensures))), p)
 
 returns-3 : tie.Need-returns-3
-returns-3 c = let o = c .before .before .before .before in let n = o .count-of .ensures in (sym (better-new _ _ _ (omega (arith, o .before .before .before .before .pre))), n)
+returns-3 c =
+    let o = c .before .before .before .before in
+    let n = o .count-of .ensures in
+    (sym (better-new _ _ _ (omega (arith, o .before .before .before .before .pre))), n)
 
 returns-4 : tie.Need-returns-4
-returns-4 c = let o = c .before .before .before .before .before .before in let p = o .before .before .before .before .pre in (sym (better-left _ _ _ (omega (arith, p, o .count-of .ensures)) (omega arith)), p)
+returns-4 c =
+    let o = c .before .before .before .before .before .before in
+    let p = o .before .before .before .before .pre in
+    (sym (better-left _ _ _ (omega (arith, p, o .count-of .ensures)) (omega arith)), p)
 
 returns-5 : tie.Need-returns-5
-returns-5 c = let o = c .before .before .before .before .before .before in let n = o .count-of .ensures in (sym (better-right _ _ _ (omega (arith, o .before .before .before .before .pre)) (omega arith)), n)
+returns-5 c =
+    let o = c .before .before .before .before .before .before in
+    let n = o .count-of .ensures in
+    (sym (better-right _ _ _ (omega (arith, o .before .before .before .before .pre)) (omega arith)), n)
 
 pub challenge-spec : {M : Type 1} → statement M
 challenge-spec =

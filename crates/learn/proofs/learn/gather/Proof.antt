@@ -42,7 +42,8 @@ loop-less : tie.Need-loop-less Inv-loop μ-loop
 loop-less c = search needs
 
 loop-again : tie.Need-loop-again Inv-loop μ-loop
-loop-again c = let p = c .before .before in
+loop-again c =
+    let p = c .before .before in
     let l = p .before .before .before .before in
     let put = rw (p .before .before .entry-at .ensures) at (p .put-type .ensures) in (
       p .put-type .kept .1 .1 .0 ∙ l .loop .inv .0,

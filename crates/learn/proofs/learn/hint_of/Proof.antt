@@ -16,7 +16,8 @@ slice-reshare-prefix-commonest : tie.Need-slice-reshare-prefix-commonest
 slice-reshare-prefix-commonest c = search needs
 
 slice-aggregate-commonest : tie.Need-slice-aggregate-commonest
-slice-aggregate-commonest c = let g = c .before .before .before in
+slice-aggregate-commonest c =
+    let g = c .before .before .before in
     sym (length-take-le _ _ (omega (arith, g .gather .ensures .1, g .gather .kept .1 .1 .1 .1 .1 .0, g .before .before .before .before .before .pre .1 .1)))
 
 commonest-requires : tie.Need-commonest-requires

@@ -31,7 +31,8 @@ returns-2 : tie.Need-returns-2
 returns-2 c = simp (good (c .before .before), le-ltb _ _ (c .if1 .taken))
 
 returns-3 : tie.Need-returns-3
-returns-3 c = let k = c .before .before .before in
+returns-3 c =
+    let k = c .before .before .before in
     let a = k .before .before .before .before .args in
     simp (good k, lt-ltb _ _ (c .before .if1 .left), ne-eqb (a .n) (a .i) (λ z. omega arith))
 
@@ -39,7 +40,8 @@ add-t7 : tie.Need-add-t7
 add-t7 c = search needs
 
 returns-4 : tie.Need-returns-4
-returns-4 c = let k = c .before .before .before in
+returns-4 c =
+    let k = c .before .before .before in
     let a = k .before .before .before .before .args in
     simp (good k, lt-ltb _ _ (c .before .if1 .left), eq-eqb (a .n) (a .i) (omega arith))
 

@@ -29,7 +29,8 @@ enum-told : tie.Need-enum-told Inv-loop μ-loop
 enum-told c = search needs
 
 returns : tie.Need-returns Inv-loop μ-loop
-returns c = let j = c .before .before in
+returns c =
+    let j = c .before .before in
     let l = j .before .before .before in
     row-refused (l .loop .inv) _ (j .before .entry-at .ensures) (search needs) (j .judge-entry .ensures) (c .enum-told .given .1)
 
@@ -43,7 +44,8 @@ loop-less : tie.Need-loop-less Inv-loop μ-loop
 loop-less c = search needs
 
 loop-again : tie.Need-loop-again Inv-loop μ-loop
-loop-again c = let j = c .before .before .before in
+loop-again c =
+    let j = c .before .before .before in
     let l = j .before .before .before in
     row-step (l .loop .inv) _ (j .before .entry-at .ensures) (search needs) (j .judge-entry .ensures) (c .before .used .given .1)
 

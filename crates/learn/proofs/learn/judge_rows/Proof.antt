@@ -25,7 +25,8 @@ enum-told : tie.Need-enum-told Inv-loop μ-loop
 enum-told c = search needs
 
 returns : tie.Need-returns Inv-loop μ-loop
-returns c = let j = c .before .before in
+returns c =
+    let j = c .before .before in
     rows-refused (j .before .before .loop .inv) (search needs) (j .judge-row .ensures) (c .enum-told .given .1)
 
 larger-requires : tie.Need-larger-requires Inv-loop μ-loop
@@ -44,7 +45,8 @@ loop-less : tie.Need-loop-less Inv-loop μ-loop
 loop-less c = search needs
 
 loop-again : tie.Need-loop-again Inv-loop μ-loop
-loop-again c = let j = c .before .before .before .before in
+loop-again c =
+    let j = c .before .before .before .before in
     rows-step (j .before .before .loop .inv) (search needs) (j .judge-row .ensures) (c .before .before .n .given .1) (c .larger .ensures)
 
 returns-2 : tie.Need-returns-2 Inv-loop μ-loop

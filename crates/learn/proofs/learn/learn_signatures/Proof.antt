@@ -58,7 +58,8 @@ returns-4 : tie.Need-returns-4
 returns-4 c = let k = c .before .before in too-many _ _ _ _ (fits (k .before .before .before .before)) (good k) (c .if3 .taken)
 
 learn-columns-requires : tie.Need-learn-columns-requires
-learn-columns-requires c κs = let k = c .before .before .before in
+learn-columns-requires c κs =
+    let k = c .before .before .before in
     let f = fits (k .before .before .before .before) in
     let a = k .before .before .before .before .before .before .before .before .before .args in
     (record { small = search needs; narrow = count-fits _ f .1; few = search needs; whole = div-mul-le-self _ _ }, columns-fit _ _ (now (a .entries)) (good k))
@@ -67,7 +68,8 @@ same-length : tie.Need-same-length
 same-length c = search needs
 
 returns-5 : tie.Need-returns-5
-returns-5 c = let r = c .before .before in
+returns-5 c =
+    let r = c .before .before in
     let k = r .before .before .before .before in
     all-good _ _ _ _ (fits (k .before .before .before .before)) (good k) (search needs) (search needs) (r .learn-columns .ensures .0) (r .learn-columns .ensures .1)
 

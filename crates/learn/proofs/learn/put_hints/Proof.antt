@@ -22,11 +22,15 @@ loop-holds c = (refl, put-start _ _ _ _)
 hint-of-requires : tie.Need-hint-of-requires Inv-loop μ-loop
 hint-of-requires c κs = let p = c .before .before .before .before .before .before .before .pre in (p .0, (search needs, c .before .before .loop .inv .0 ∙ p .1 .1 .1))
 
+-- the list keeps its length
+kept : (c : tie.At-loop Inv-loop μ-loop) → length (c .loop .types) ≡ length (c .before .before .before .before .before .args .types .now)
+kept c = put-kept (c .loop .inv .1) (c .before .before .before .before .before .pre .1 .1 .0)
+
 mul-types : tie.Need-mul-types Inv-loop μ-loop
-mul-types c = omega (arith, put-kept (c .before .before .before .before .before .loop .inv .1) (c .before .before .before .before .before .before .before .before .before .before .pre .1 .1 .0))
+mul-types c = omega (arith, kept (c .before .before .before .before .before))
 
 slice-write-types : tie.Need-slice-write-types Inv-loop μ-loop
-slice-write-types c = omega (arith, put-kept (c .before .before .before .before .before .loop .inv .1) (c .before .before .before .before .before .before .before .before .before .before .pre .1 .1 .0))
+slice-write-types c = omega (arith, kept (c .before .before .before .before .before))
 
 add-c : tie.Need-add-c Inv-loop μ-loop
 add-c c = search needs
@@ -35,14 +39,15 @@ loop-less : tie.Need-loop-less Inv-loop μ-loop
 loop-less c = search needs
 
 loop-again : tie.Need-loop-again Inv-loop μ-loop
-loop-again c = let h = c .before .before in
+loop-again c =
+    let h = c .before .before in
     let l = h .before .before .before in (
       h .hint-of .kept .1 .1 .1 .1 .1 .0 ∙ l .loop .inv .0,
       put-more (l .loop .inv .1) (l .before .before .before .before .before .pre .1 .1 .0) (search needs) (h .hint-of .ensures),
     )
 
 same-length : tie.Need-same-length Inv-loop μ-loop
-same-length c = put-kept (c .before .loop .inv .1) (c .before .before .before .before .before .before .pre .1 .1 .0)
+same-length c = kept (c .before)
 
 same-length-2 : tie.Need-same-length-2 Inv-loop μ-loop
 same-length-2 c = c .before .loop .inv .0

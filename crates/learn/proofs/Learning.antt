@@ -1,0 +1,165 @@
+-- Laws of the call: the hints as they are written, and the answer from what the code found.
+-- Assumes nothing.
+use Prim.Native.Nat.{ℕ, zero, suc, _+_, _≤_, _<_, max, min}
+use mathlib.Core.Path.{_≡_, refl, sym, ap, _∙_}
+use mathlib.Core.Bool.{Bool, true, false, cond, or-true}
+use mathlib.Core.List.{List, [], _∷_, _++_}
+use native.Mathlib.Decide.{le-ind}
+use native.Mathlib.Nat.{min-eq-left, min-eq-right, le-of-lt}
+use native.Mathlib.Numerals.{add-one}
+use native.Mathlib.Omega.{arith}
+use borrow.Author.Tests.{lt-ltb, le-ltb}
+use lib.Dec.{ltb}
+use lib.ListN.{length, take, set, length-append}
+use lib.Seq.{take-all, take-append-le}
+use Rattle.record.proofs.Numbers.{by-order}
+use Rattle.record.specs.declared.entry.Entry.{Entry}
+use Rattle.sheet.specs.Filled.{filledNumber, filledWritten, filledBy, writtenAfter, laid}
+use Rattle.sheet.specs.Limits.{largestRegion, countFits}
+use Rattle.sheet.specs.Refusal.{firstHeld, after}
+use Rattle.sheet.specs.Sheet.{overlay}
+use Rattle.sheet.specs.declared.filled.Filled.{Filled}
+use Rattle.sheet.specs.declared.filled.Filled.the-variants.{Refused}
+use Rattle.sheet.specs.declared.refusal.Checked.{Checked}
+use Rattle.sheet.specs.declared.refusal.Checked.the-variants.{Passed, Refused as Stopped}
+use Rattle.sheet.specs.declared.refusal.Refusal.{Refusal}
+use Rattle.sheet.specs.declared.refusal.Refusal.the-variants.{ColumnCount, Malformed, TooLarge}
+use Rattle.sheet.proofs.Laws.{overlay-length, overlay-more, Numbers, filled-numbers}
+use Rattle.learn.specs.Inner.{judgedRows}
+use Rattle.learn.specs.Learn.{mostRows, rowCount, rowsIn, rowsOf, badRows, hintOf, hintsBelow, longest, hintsOf, miscounted, malformed, tooLarge, learned, learnNumber, learnWritten, learnChecks, learnAnswer, learnTypes}
+use Rattle.learn.specs.declared.learn.Judged.the-variants.{Columns, Bad}
+use Rattle.learn.proofs.Rows.{longest-most}
+
+-- ---- hints, written one behind the other
+put-next : (ws old : List ℕ) (c x : ℕ) → length ws ≡ c → c < length old → set (overlay ws old) c x ≡ overlay (ws ++ (x ∷ [])) old
+put-next ws old c x e h = rw (← e) (overlay-more ws (x ∷ []) old (omega arith))
+
+module _ (s : List ℕ) (rows : List (List Entry)) where
+  pub hints-length : (n : ℕ) → length (hintsBelow s n rows) ≡ n
+  unfolding hintsBelow
+  hints-length zero = refl
+  hints-length (suc n) = simp (length-append, hints-length n) (omega arith)
+
+  -- THE LAW: one more hint behind the first c
+  hints-put : (c : ℕ) (old : List ℕ) → c < length old → set (overlay (hintsBelow s c rows) old) c (hintOf s c rows) ≡ overlay (hintsBelow s (c + 1) rows) old
+  unfolding hintsBelow
+  hints-put c old h = rw add-one (put-next (hintsBelow s c rows) old c (hintOf s c rows) (hints-length c) h)
+
+  hints-take : (m n : ℕ) → m ≤ n → take m (hintsBelow s n rows) ≡ hintsBelow s m rows
+  unfolding hintsBelow
+  hints-take m =
+      le-ind (λ (n : ℕ). take m (hintsBelow s n rows) ≡ hintsBelow s m rows)
+      (take-all m (hintsBelow s m rows) (omega (arith, hints-length m)))
+      (λ n h e. take-append-le m (hintsBelow s n rows) (hintOf s n rows ∷ []) (omega (arith, hints-length n)) ∙ e)
+
+  -- THE LAW: the hints of as many columns as fit are the first of all
+  pub hints-laid : (n : ℕ) (old : List ℕ) {k : ℕ} {list : List ℕ} → k ≡ min n (length old) → list ≡ overlay (hintsBelow s k rows) old → list ≡ laid (hintsBelow s n rows) old
+  hints-laid n old e l =
+      l
+      ∙ by-order (length old) n
+      (λ more. rw (e, min-eq-right (le-of-lt more), hints-take (length old) n (le-of-lt more)))
+      (λ fit. rw (e, min-eq-left fit, take-all (length old) (hintsBelow s n rows) (omega (arith, hints-length n))))
+
+-- the hints of the first c columns lie over what the list held
+pub record PutTo (s : List ℕ) (rows : List (List Entry)) (columns : ℕ) (old : List ℕ) (c : ℕ) (types : List ℕ) : Type 0 where
+  pub inside : c ≤ columns
+  pub list : types ≡ overlay (hintsBelow s c rows) old
+
+pub put-start : (s : List ℕ) (rows : List (List Entry)) (columns : ℕ) (old : List ℕ) → PutTo s rows columns old 0 old
+unfolding hintsBelow
+put-start s rows columns old = record { inside = omega arith; list = refl }
+
+module _ {s : List ℕ} {rows : List (List Entry)} {columns : ℕ} {old : List ℕ} {c : ℕ} {types : List ℕ} (p : PutTo s rows columns old c types) where
+  pub put-kept : columns ≤ length old → length types ≡ length old
+  put-kept room = rw (p .list) (overlay-length (hintsBelow s c rows) old (omega (arith, hints-length s rows c, p .inside)))
+
+  pub put-more : {h : ℕ} → columns ≤ length old → c < columns → h ≡ hintOf s c rows → PutTo s rows columns old (c + 1) (set types c h)
+  put-more room more e = record { inside = omega arith; list = rw (e, p .list) (hints-put s rows c old (omega arith)) }
+
+  pub put-end : columns ≤ c → types ≡ overlay (hintsBelow s columns rows) old
+  put-end h = let e : c ≡ columns = omega (arith, p .inside) in rw e at (p .list)
+
+-- ---- rows that were judged to be good
+module _ (s : List ℕ) (width : ℕ) (words : List ℕ) {columns : ℕ} (good : Columns columns ≡ judgedRows s (rowsIn (rowCount width words) width words) 0) where
+  judged : (badRows s (rowsOf width words) ≡ false) × (columns ≡ longest (rowsOf width words))
+  unfolding rowsOf
+  judged = go (badRows s (rowsIn (rowCount width words) width words)) good
+    where
+      go : (b : Bool) {k : ℕ} → Columns columns ≡ cond b Bad (Columns (max 0 k)) → (b ≡ false) × (columns ≡ k)
+      go true e = let z : _≡_ {A = ℕ} 0 1 = cc in absurd (omega arith)
+      go false {k} e = let z : columns ≡ max 0 k = cc in (refl, omega arith)
+
+  -- no row has more columns than the width
+  pub columns-fit : columns ≤ width
+  unfolding rowsOf
+  columns-fit = omega (arith, judged .1, longest-most (rowCount width words) width words)
+
+-- ---- the answer
+-- THE LAW: its number is that of the first check that holds
+numbers : (s : List ℕ) (width : ℕ) (words : List ℕ) (room : ℕ) →
+    Numbers (learnAnswer s width words room) (learnNumber s width words room) (learnWritten s width words room)
+unfolding learnAnswer learnChecks learnNumber learnWritten
+numbers s width words room = go (miscounted width) (malformed s width words) (tooLarge s width words)
+  where
+    go : (a b c : Bool) →
+        let checked = cond a (Stopped ColumnCount) (cond b (Stopped Malformed) (cond c (Stopped TooLarge) Passed)) in
+        let number : ℕ = cond a 1 (cond b 2 (cond c 3 (cond (ltb room (length (learned s width words))) 9 0))) in
+        Numbers (after Refused checked (filledBy (length (learned s width words)) room)) number
+        (writtenAfter number (length (learned s width words)) room)
+    go true b c = (refl, refl)
+    go false true c = (refl, refl)
+    go false false true = (refl, refl)
+    go false false false = filled-numbers (length (learned s width words)) room
+
+abbrev Answers : List ℕ → ℕ → List ℕ → List ℕ → Filled → List ℕ → Type 0
+Answers s width words old r list =
+    (r ≡ learnAnswer s width words (length old))
+    × ((filledNumber r ≡ learnNumber s width words (length old))
+    × ((filledWritten r ≡ learnWritten s width words (length old)) × (list ≡ learnTypes s width words old)))
+
+module _ (s : List ℕ) (width : ℕ) (words old : List ℕ) where
+  answers : {r : Filled} {list : List ℕ} → r ≡ learnAnswer s width words (length old) → list ≡ learnTypes s width words old → Answers s width words old r list
+  answers e l = let n = numbers s width words (length old) in (e, (ap filledNumber e ∙ n .0, (ap filledWritten e ∙ n .1, l)))
+
+  refused-by : {r : Refusal} → firstHeld (learnChecks s width words) ≡ Stopped r → Answers s width words old (Refused r) old
+  unfolding learnAnswer learnTypes
+  refused-by h = answers (simp h) (simp h)
+
+  -- THE LAW: the first check that holds refuses, and leaves the list as it was
+  pub bad-width : countFits width ≡ false → Answers s width words old (Refused ColumnCount) old
+  unfolding learnChecks
+  bad-width h = refused-by (simp h)
+
+  -- what judging the rows of a good width came to
+  module _ (fits : countFits width ≡ true) where
+    pub bad-rows : Bad ≡ judgedRows s (rowsIn (rowCount width words) width words) 0 → Answers s width words old (Refused Malformed) old
+    unfolding learnChecks rowsOf
+    bad-rows h = refused-by (simp fits (go (badRows s (rowsIn (rowCount width words) width words)) _ _ h))
+      where
+        go : (b : Bool) (k : ℕ) (rest : Checked) → Bad ≡ cond b Bad (Columns k) → cond b (Stopped Malformed) rest ≡ Stopped Malformed
+        go true k rest e = refl
+        go false k rest e = let z : _≡_ {A = ℕ} 0 1 = cc in absurd (omega arith)
+
+    module _ {columns : ℕ} (good : Columns columns ≡ judgedRows s (rowsIn (rowCount width words) width words) 0) where
+      last-check : (b : Bool) → tooLarge s width words ≡ b → firstHeld (learnChecks s width words) ≡ cond b (Stopped TooLarge) Passed
+      unfolding learnChecks
+      last-check b h = simp (fits, judged s width words good .0, h)
+
+      pub too-long : largestRegion < length s → Answers s width words old (Refused TooLarge) old
+      too-long h = refused-by (last-check true (simp (lt-ltb largestRegion (length s) h)))
+
+      pub too-many : mostRows < rowCount width words → Answers s width words old (Refused TooLarge) old
+      too-many h = refused-by (last-check true (simp (lt-ltb mostRows (rowCount width words) h, or-true)))
+
+      -- THE LAW: past the checks the first hints are written, and the room decides
+      pub all-good : {r : Filled} {list : List ℕ} → length s ≤ largestRegion → rowCount width words ≤ mostRows →
+          r ≡ filledBy columns (length old) →
+          list ≡ laid (hintsBelow s columns (rowsIn (rowCount width words) width words)) old →
+          Answers s width words old r list
+      unfolding learnAnswer learnTypes rowsOf hintsOf
+      all-good small few e l =
+          let rows = rowsIn (rowCount width words) width words in
+          let passed = last-check false (simp (le-ltb largestRegion (length s) small, le-ltb mostRows (rowCount width words) few)) in
+          let long : columns ≡ longest rows = judged s width words good .1 in
+          let size : length (hintsBelow s (longest rows) rows) ≡ columns = hints-length s rows (longest rows) ∙ sym long in
+          answers (rw (passed, size) e) (rw (passed, ← long) l)

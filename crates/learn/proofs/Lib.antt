@@ -1,0 +1,7 @@
+mod Cases
+pub mod Counting
+pub mod Exchange
+mod Learning
+pub mod Promises
+mod Rows
+pub mod Unique

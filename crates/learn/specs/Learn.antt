@@ -1,0 +1,152 @@
+-- The rows to learn from, the hints that they give, and what the call answers and writes.
+-- Assumes nothing.
+use Prim.Native.Nat.{ℕ, zero, suc, _+_, _*_, _/_, max}
+use mathlib.Core.Bool.{Bool, true, false, cond, not, _&&_, _||_}
+use mathlib.Core.List.{List, [], _∷_, _++_}
+use lib.Dec.{ltb}
+use lib.ListN.{length, drop}
+use Rattle.record.specs.Entry.{unusedState, readEntry}
+use Rattle.record.specs.declared.entry.Entry.{Entry}
+use Rattle.record.specs.declared.entry.EntryRead.{EntryRead}
+use Rattle.record.specs.declared.entry.EntryRead.the-variants.{Of, Refused as Bad}
+use Rattle.sheet.specs.Filled.{filledBy, writtenAfter, laid}
+use Rattle.sheet.specs.Limits.{wordsPerEntry, largestRegion, countFits}
+use Rattle.sheet.specs.Refusal.{Check, firstHeld, after, afterOrKept}
+use Rattle.sheet.specs.Sheet.{entriesIn}
+use Rattle.sheet.specs.declared.filled.Filled.{Filled}
+use Rattle.sheet.specs.declared.filled.Filled.the-variants.{Refused}
+use Rattle.sheet.specs.declared.refusal.Refusal.the-variants.{ColumnCount, Malformed, TooLarge}
+use Rattle.learn.specs.Types.{valueType, commonestOf}
+
+-- the most rows to learn from
+abbrev pub mostRows : ℕ
+mostRows = 1024
+
+-- ---- rows
+
+-- n rows one behind the other, each a group of `width` entries
+unfoldable pub rowsIn : ℕ → ℕ → List ℕ → List (List Entry)
+rowsIn zero width words = []
+rowsIn (suc n) width words = entriesIn width words ∷ rowsIn n width (drop (wordsPerEntry * width) words)
+
+-- Rule 13.1: how many whole groups there are; a rest is not read
+abbrev pub rowCount : ℕ → List ℕ → ℕ
+rowCount width words = length words / (wordsPerEntry * width)
+
+unfoldable pub rowsOf : ℕ → List ℕ → List (List Entry)
+rowsOf width words = rowsIn (rowCount width words) width words
+
+-- the states 0, 1 and 2 are used
+abbrev pub isUsed : Entry → Bool
+isUsed e = ltb (e .state) unusedState
+
+-- how many columns a row has: its used entries
+unfoldable pub columnsOf : List Entry → ℕ
+columnsOf [] = 0
+columnsOf (e ∷ es) = cond (isUsed e) 1 0 + columnsOf es
+
+-- Rule 3.3: an entry of the row is bad, so reading it over the slice s is refused
+abbrev pub isRefused : EntryRead → Bool
+isRefused (Of v) = false
+isRefused Bad = true
+
+unfoldable pub anyBad : List ℕ → List Entry → Bool
+anyBad s [] = false
+anyBad s (e ∷ es) = isRefused (readEntry e s) || anyBad s es
+
+-- Rule 13.1: a used entry stands behind an unused one
+unfoldable pub gapped : List Entry → Bool
+gapped [] = false
+gapped (e ∷ es) = (not (isUsed e) && ltb 0 (columnsOf es)) || gapped es
+
+abbrev pub badRow : List ℕ → List Entry → Bool
+badRow s es = anyBad s es || gapped es
+
+unfoldable pub badRows : List ℕ → List (List Entry) → Bool
+badRows s [] = false
+badRows s (r ∷ rs) = badRow s r || badRows s rs
+
+-- ---- hints
+
+-- Rule 13.2: the type that what was read gives
+abbrev pub typesOf : EntryRead → List ℕ
+typesOf (Of v) = valueType v ∷ []
+typesOf Bad = []
+
+-- the type that a used entry gives, over the slice s
+unfoldable pub given : List ℕ → Entry → List ℕ
+given s e = cond (isUsed e) (typesOf (readEntry e s)) []
+
+-- and what a row gives to the column c
+unfoldable pub givenAt : List ℕ → ℕ → List Entry → List ℕ
+givenAt s c [] = []
+givenAt s zero (e ∷ es) = given s e
+givenAt s (suc c) (e ∷ es) = givenAt s c es
+
+-- all types of the column c
+unfoldable pub columnTypes : List ℕ → ℕ → List (List Entry) → List ℕ
+columnTypes s c [] = []
+columnTypes s c (r ∷ rs) = givenAt s c r ++ columnTypes s c rs
+
+-- Rule 13.3: the hint of a column
+unfoldable pub hintOf : List ℕ → ℕ → List (List Entry) → ℕ
+hintOf s c rows = commonestOf (columnTypes s c rows)
+
+-- the hints of the first n columns
+unfoldable pub hintsBelow : List ℕ → ℕ → List (List Entry) → List ℕ
+hintsBelow s zero rows = []
+hintsBelow s (suc n) rows = hintsBelow s n rows ++ (hintOf s n rows ∷ [])
+
+-- Rule 13.3: there are as many hints as the longest row has columns
+unfoldable pub longest : List (List Entry) → ℕ
+longest [] = 0
+longest (r ∷ rs) = max (columnsOf r) (longest rs)
+
+unfoldable pub hintsOf : List ℕ → List (List Entry) → List ℕ
+hintsOf s rows = hintsBelow s (longest rows) rows
+
+-- ---- the call
+
+-- Rule 13.1, the checks: a group of no entries, or of more than there may be columns,
+abbrev pub miscounted : ℕ → Bool
+miscounted width = not (countFits width)
+
+-- a row that is bad,
+abbrev pub malformed : List ℕ → ℕ → List ℕ → Bool
+malformed s width words = badRows s (rowsOf width words)
+
+-- too many bytes or too many rows
+abbrev pub tooLarge : List ℕ → ℕ → List ℕ → Bool
+tooLarge s width words = ltb largestRegion (length s) || ltb mostRows (rowCount width words)
+
+-- what the entries give, if no check holds
+abbrev pub learned : List ℕ → ℕ → List ℕ → List ℕ
+learned s width words = hintsOf s (rowsOf width words)
+
+-- Rule 13.1: the number that the call answers with; 0 stands for none
+unfoldable pub learnNumber : List ℕ → ℕ → List ℕ → ℕ → ℕ
+learnNumber s width words room =
+    cond (miscounted width) 1
+    (cond (malformed s width words) 2
+    (cond (tooLarge s width words) 3
+    (cond (ltb room (length (learned s width words))) 9 0)))
+
+-- and how many hints it says are written
+unfoldable pub learnWritten : List ℕ → ℕ → List ℕ → ℕ → ℕ
+learnWritten s width words room = writtenAfter (learnNumber s width words room) (length (learned s width words)) room
+
+-- the checks that leave the list as it was
+unfoldable pub learnChecks : List ℕ → ℕ → List ℕ → List Check
+learnChecks s width words =
+    record { refusal = ColumnCount; holds = miscounted width }
+    ∷ record { refusal = Malformed; holds = malformed s width words }
+    ∷ record { refusal = TooLarge; holds = tooLarge s width words }
+    ∷ []
+
+-- what the call returns, by the slice, the width, the entries' words and how many cells are lent
+unfoldable pub learnAnswer : List ℕ → ℕ → List ℕ → ℕ → Filled
+learnAnswer s width words room = after Refused (firstHeld (learnChecks s width words)) (filledBy (length (learned s width words)) room)
+
+-- Rule 13.3: what it leaves in the list, by what the list held
+unfoldable pub learnTypes : List ℕ → ℕ → List ℕ → List ℕ → List ℕ
+learnTypes s width words old = afterOrKept (firstHeld (learnChecks s width words)) (laid (learned s width words) old) old

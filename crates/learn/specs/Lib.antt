@@ -1,0 +1,3 @@
+pub mod Inner
+pub mod Learn
+pub mod Types

@@ -1,0 +1,359 @@
+// Hints learned from rows that were read: for each column the commonest type of its values.
+use record::entry::Entry;
+use record::entry::EntryRead;
+use record::entry::UNUSED;
+use record::record::Value;
+use sheet::LARGEST_REGION;
+use sheet::WORDS_PER_ENTRY;
+use sheet::filled::Filled;
+use sheet::hint::hint_count_fits;
+use sheet::refusal::Refusal;
+ghost use mathlib.Core.Path.{_≡_};
+ghost use mathlib.Core.Bool.{cond};
+ghost use Prim.Native.Nat.{_+_, _*_, _≤_, _<_, max, min};
+ghost use lib.Dec.{eqb};
+ghost use lib.IntN.{pos};
+ghost use lib.ListN.{length, take, drop};
+ghost use Rattle.learn.specs.Inner.{judgedEntry, judgedRow, judgedRows, Lent, PutType, Counts};
+ghost use Rattle.learn.specs.Learn.{mostRows, rowsIn, given, columnTypes, hintOf, hintsBelow, learnNumber, learnWritten, learnAnswer, learnTypes};
+ghost use Rattle.learn.specs.Types.{widthType, integerType, valueType, countIn, better, commonestOf};
+ghost use Rattle.record.specs.Value.{lengthOf};
+ghost use Rattle.sheet.specs.Filled.{filledNumber, filledWritten, filledBy, laid};
+ghost use Rattle.sheet.specs.Limits.{mostColumns, wordsPerEntry, largestRegion};
+ghost use Rattle.sheet.specs.Sheet.{overlay, entryIn, entriesIn};
+
+pub const MOST_ROWS: usize = 1_024;
+
+// What judging entries comes to.
+enum Judged {
+    // All are good, and so many columns are used.
+    Columns(usize),
+    Bad,
+}
+
+// A type, and how often it occurs.
+struct Leader {
+    kind: u64,
+    count: usize,
+}
+
+// The type of n, and of -1 - n, which takes as many bits.
+fn width_type(n: u64) -> u64
+    ensures { λ r. ⌜ r ≡ widthType (pos n) ⌝ }
+{
+    if n < 0x80 {
+        return 1;
+    }
+    if n < 0x8000 {
+        return 2;
+    }
+    if n < 0x80_0000 {
+        return 3;
+    }
+    if n < 0x8000_0000 { 4 } else { 6 }
+}
+
+fn integer_type(v: i64) -> u64
+    ensures { λ r. ⌜ r ≡ integerType v ⌝ }
+{
+    if v < 0 {
+        return width_type((-1 - v) as u64);
+    }
+    let n = v as u64;
+    if n < 2 {
+        return 8;
+    }
+    width_type(n)
+}
+
+fn value_type(value: Value) -> u64
+    requires { ⌜ lengthOf value ≤ largestRegion ⌝ }
+    ensures { λ r. ⌜ r ≡ valueType value ⌝ }
+{
+    match value {
+        Value::Null => 0,
+        Value::Int(v) => integer_type(v),
+        Value::Real(_) => 7,
+        Value::Text { len, .. } => 13 + 2 * len as u64,
+        Value::Blob { len, .. } => 12 + 2 * len as u64,
+    }
+}
+
+fn entry_at(entries: &[u64], at: usize) -> Entry
+    requires { ⌜ at + wordsPerEntry ≤ length (now entries) ⌝ }
+    ensures { λ r. ⌜ r ≡ entryIn (drop at (now (entries .entry))) ⌝ }
+{
+    Entry {
+        state: entries[at],
+        kind: entries[at + 1],
+        start: entries[at + 2],
+        len: entries[at + 3],
+    }
+}
+
+// The entry at index i of a row, behind n used ones.
+fn judge_entry(e: Entry, bytes: &[u8], i: usize, n: usize) -> Judged
+    requires { ⌜ i < mostColumns ⌝ }
+    ensures { λ r. ⌜ r ≡ judgedEntry (now (bytes .entry)) e i n ⌝ }
+{
+    let EntryRead::Of(_) = e.read(bytes) else {
+        return Judged::Bad;
+    };
+    if e.state >= UNUSED {
+        return Judged::Columns(n);
+    }
+    // An unused entry stands before it.
+    if n != i {
+        return Judged::Bad;
+    }
+    Judged::Columns(i + 1)
+}
+
+fn judge_row(bytes: &[u8], entries: &[u64], from: usize, width: usize) -> Judged
+    requires { ⌜ width ≤ mostColumns ⌝ }
+    requires { ⌜ from + wordsPerEntry * width ≤ length (now entries) ⌝ }
+    ensures { λ r. ⌜ r ≡ judgedRow (now (bytes .entry)) (entriesIn width (drop from (now (entries .entry)))) ⌝ }
+{
+    let mut at = from;
+    let mut i = 0;
+    let mut n = 0;
+    while i < width {
+        let Judged::Columns(used) = judge_entry(entry_at(entries, at), bytes, i, n) else {
+            return Judged::Bad;
+        };
+        n = used;
+        at = at + WORDS_PER_ENTRY;
+        i = i + 1;
+    }
+    Judged::Columns(n)
+}
+
+fn larger(a: usize, b: usize) -> usize
+    ensures { λ r. ⌜ r ≡ max a b ⌝ }
+{
+    if a < b { b } else { a }
+}
+
+// The columns of the longest of so many rows.
+fn judge_rows(bytes: &[u8], entries: &[u64], width: usize, rows: usize) -> Judged
+    requires { ⌜ width ≤ mostColumns ⌝ }
+    requires { ⌜ rows * (wordsPerEntry * width) ≤ length (now entries) ⌝ }
+    ensures { λ r. ⌜ r ≡ judgedRows (now (bytes .entry)) (rowsIn rows width (now (entries .entry))) 0 ⌝ }
+{
+    let mut at = 0;
+    let mut left = rows;
+    let mut most = 0;
+    while left > 0 {
+        let Judged::Columns(n) = judge_row(bytes, entries, at, width) else {
+            return Judged::Bad;
+        };
+        most = larger(most, n);
+        at = at + WORDS_PER_ENTRY * width;
+        left = left - 1;
+    }
+    Judged::Columns(most)
+}
+
+// Writes the entry's type behind n others, if it is used; the answer is how many there are then.
+fn put_type(bytes: &[u8], e: Entry, kinds: &mut [u64], n: usize) -> usize
+    requires { ⌜ length (now bytes) ≤ largestRegion ⌝ }
+    requires { ⌜ n < length (now kinds) ⌝ }
+    ensures { λ r. ⌜ PutType (given (now (bytes .entry)) e) n (now (kinds .entry)) r (now (kinds .exit)) ⌝ }
+{
+    if e.state >= UNUSED {
+        return n;
+    }
+    let EntryRead::Of(value) = e.read(bytes) else {
+        return n;
+    };
+    kinds[n] = value_type(value);
+    n + 1
+}
+
+// Writes the types of a column.
+fn gather(
+    bytes: &[u8],
+    entries: &[u64],
+    width: usize,
+    rows: usize,
+    column: usize,
+    kinds: &mut [u64],
+) -> usize
+    requires { ⌜ Lent (now bytes) (now entries) width rows ⌝ }
+    requires { ⌜ column < width ⌝ }
+    requires { ⌜ length (now kinds) ≡ mostRows ⌝ }
+    ensures { λ r. ⌜ take r (now (kinds .exit)) ≡ columnTypes (now (bytes .entry)) column (rowsIn rows width (now (entries .entry))) ⌝ }
+    ensures small { λ r. ⌜ r ≤ mostRows ⌝ }
+{
+    let mut at = 0;
+    let mut left = rows;
+    let mut n = 0;
+    while left > 0 {
+        n = put_type(
+            bytes,
+            entry_at(entries, at + WORDS_PER_ENTRY * column),
+            kinds,
+            n,
+        );
+        at = at + WORDS_PER_ENTRY * width;
+        left = left - 1;
+    }
+    n
+}
+
+// 1 for equal numbers, 0 for others.
+fn same(a: u64, b: u64) -> usize
+    ensures { λ r. ⌜ r ≡ cond (eqb a b) 1 0 ⌝ }
+    ensures small { λ r. ⌜ r ≤ 1 ⌝ }
+{
+    if a == b { 1 } else { 0 }
+}
+
+fn count_of(kinds: &[u64], kind: u64) -> usize
+    ensures { λ r. ⌜ r ≡ countIn kind (now (kinds .entry)) ⌝ }
+{
+    let mut n = 0;
+    let mut i = 0;
+    while i < kinds.len() {
+        n = n + same(kind, kinds[i]);
+        i = i + 1;
+    }
+    n
+}
+
+// The leader, or the type that comes before it.
+fn challenge(kinds: &[u64], leader: Leader, kind: u64) -> Leader
+    requires { ⌜ Counts (now kinds) leader ⌝ }
+    ensures { λ r. ⌜ r .kind ≡ better (now (kinds .entry)) (leader .kind) kind ⌝ }
+    ensures counts { λ r. ⌜ Counts (now (kinds .entry)) r ⌝ }
+{
+    // It is counted already.
+    if kind == leader.kind {
+        return leader;
+    }
+    let count = count_of(kinds, kind);
+    if count < leader.count {
+        return leader;
+    }
+    if count > leader.count {
+        return Leader { kind, count };
+    }
+    if kind > leader.kind {
+        return leader;
+    }
+    Leader { kind, count }
+}
+
+fn commonest(kinds: &[u64]) -> u64
+    ensures { λ r. ⌜ r ≡ commonestOf (now (kinds .entry)) ⌝ }
+{
+    let mut leader = Leader {
+        kind: 0,
+        count: count_of(kinds, 0),
+    };
+    let mut i = 0;
+    while i < kinds.len() {
+        leader = challenge(kinds, leader, kinds[i]);
+        i = i + 1;
+    }
+    leader.kind
+}
+
+fn hint_of(
+    bytes: &[u8],
+    entries: &[u64],
+    width: usize,
+    rows: usize,
+    column: usize,
+    kinds: &mut [u64],
+) -> u64
+    requires { ⌜ Lent (now bytes) (now entries) width rows ⌝ }
+    requires { ⌜ column < width ⌝ }
+    requires { ⌜ length (now kinds) ≡ mostRows ⌝ }
+    ensures { λ r. ⌜ r ≡ hintOf (now (bytes .entry)) column (rowsIn rows width (now (entries .entry))) ⌝ }
+{
+    let n = gather(bytes, entries, width, rows, column, kinds);
+    commonest(&kinds[..n])
+}
+
+// Writes the hints of the first columns.
+fn put_hints(
+    bytes: &[u8],
+    entries: &[u64],
+    width: usize,
+    rows: usize,
+    columns: usize,
+    types: &mut [u64],
+    kinds: &mut [u64],
+)
+    requires { ⌜ Lent (now bytes) (now entries) width rows ⌝ }
+    requires { ⌜ columns ≤ width ⌝ }
+    requires { ⌜ columns ≤ length (now types) ⌝ }
+    requires { ⌜ length (now kinds) ≡ mostRows ⌝ }
+    ensures { λ _. ⌜ now (types .exit) ≡ overlay (hintsBelow (now (bytes .entry)) columns (rowsIn rows width (now (entries .entry)))) (now (types .entry)) ⌝ }
+{
+    let mut c = 0;
+    while c < columns {
+        types[c] = hint_of(bytes, entries, width, rows, c, kinds);
+        c = c + 1;
+    }
+}
+
+fn smaller(a: usize, b: usize) -> usize
+    ensures { λ r. ⌜ r ≡ min a b ⌝ }
+{
+    if a < b { a } else { b }
+}
+
+// Writes the hints of as many columns as there is room for.
+fn learn_columns(
+    bytes: &[u8],
+    entries: &[u64],
+    width: usize,
+    rows: usize,
+    columns: usize,
+    types: &mut [u64],
+) -> Filled
+    requires { ⌜ Lent (now bytes) (now entries) width rows ⌝ }
+    requires { ⌜ columns ≤ width ⌝ }
+    ensures { λ r. ⌜ r ≡ filledBy columns (length (now (types .entry))) ⌝ }
+    ensures list { λ _. ⌜ now (types .exit) ≡ laid (hintsBelow (now (bytes .entry)) columns (rowsIn rows width (now (entries .entry)))) (now (types .entry)) ⌝ }
+{
+    let room = types.len();
+    let mut kinds = [0; MOST_ROWS];
+    put_hints(
+        bytes,
+        entries,
+        width,
+        rows,
+        smaller(columns, room),
+        types,
+        &mut kinds,
+    );
+    if room < columns {
+        return Filled::Full(room);
+    }
+    Filled::Done(columns)
+}
+
+pub fn learn_signatures(bytes: &[u8], width: usize, entries: &[u64], types: &mut [u64]) -> Filled
+    ensures answer { λ r. ⌜ r ≡ learnAnswer (now (bytes .entry)) width (now (entries .entry)) (length (now (types .entry))) ⌝ }
+    ensures number { λ r. ⌜ filledNumber r ≡ learnNumber (now (bytes .entry)) width (now (entries .entry)) (length (now (types .entry))) ⌝ }
+    ensures written { λ r. ⌜ filledWritten r ≡ learnWritten (now (bytes .entry)) width (now (entries .entry)) (length (now (types .entry))) ⌝ }
+    ensures list { λ _. ⌜ now (types .exit) ≡ learnTypes (now (bytes .entry)) width (now (entries .entry)) (now (types .entry)) ⌝ }
+{
+    if !hint_count_fits(width) {
+        return Filled::Refused(Refusal::ColumnCount);
+    }
+    let rows = entries.len() / (WORDS_PER_ENTRY * width);
+    let Judged::Columns(columns) = judge_rows(bytes, entries, width, rows) else {
+        return Filled::Refused(Refusal::Malformed);
+    };
+    if bytes.len() > LARGEST_REGION {
+        return Filled::Refused(Refusal::TooLarge);
+    }
+    if rows > MOST_ROWS {
+        return Filled::Refused(Refusal::TooLarge);
+    }
+    learn_columns(bytes, entries, width, rows, columns, types)
+}

@@ -17,7 +17,7 @@ use Rattle.carve.specs.declared.inner.Tried.{Tried as Trial}
 use Rattle.carve.specs.declared.inner.Tried.the-variants.{Hit, Miss}
 use Rattle.carve.proofs.Bodies.{end-inside}
 use Rattle.carve.proofs.Carving.{Carving, carving-start, carving-done, carving-over, carving-one}
-use Rattle.carve.proofs.Trying.{normal-moves}
+use Rattle.carve.proofs.Trying.{normal-found}
 use Rattle.carve.proofs.Writing.{few-columns}
 use Rattle.sheet.proofs.Laws.{none-holds, count-fits, room-rows, room-cols}
 use Rattle.sheet.specs.Limits.{wordsPerRow, wordsPerEntry, largestRegion, largestBase}
@@ -61,9 +61,9 @@ module _ (s : List ℕ) (columns o : ℕ) where
   -- a row takes bytes, and ends in the slice
   pub normal-ends : (x : Found) → normalAt s columns o ≡ hit x → (o < endOf (length s) x) × (endOf (length s) x ≤ length s)
   normal-ends x e =
-      let m = normal-moves s columns o x e in
-      let b = end-inside (length s) (x .start) (x .types) (m .2) in
-      (omega (arith, b .0, m .1), b .1)
+      let m = normal-found s columns o x e in
+      let b = end-inside (length s) (x .start) (x .types) (m .inside) in
+      (omega (arith, b .0, m .past), b .1)
 
 -- of the rows that stand one behind the other, those from o on are still to come
 pub record Normals (s : List ℕ) (base columns room : ℕ) (rows₀ cols₀ rows cols : List ℕ) (o n : ℕ) : Type 0 where

@@ -60,6 +60,13 @@ module _ (s : List ℕ) (columns : ℕ) (style : Style) (o start most from stop 
 never : {C : Type 0} {x : Found} → miss ≡ hit x → C
 never e = let z : _≡_ {A = ℕ} 0 1 = cc in absurd (omega arith)
 
+-- it stands where it was looked for, its bodies start behind that, in the slice, and it has no more columns than there may be
+pub record NormalIs (s : List ℕ) (columns o : ℕ) (x : Found) : Type 0 where
+  pub at-is : x .at ≡ o
+  pub past : o < x .start
+  pub inside : x .start ≤ length s
+  pub few : x .style .lost + length (x .types) ≤ columns
+
 module _ (s : List ℕ) (columns o : ℕ) where
   pub normal-short : varintAt s o ≡ Short → normalAt s columns o ≡ miss
   unfolding normalAt
@@ -93,27 +100,33 @@ module _ (s : List ℕ) (columns o : ℕ) where
             rw (normal-is, w .is)
             (row-hit s columns normal o (o + h) columns (c .at) (o + h) count end w (v .inside) (omega arith) (omega (arith, v .past, v .inside)) (omega arith) (omega arith) some)
 
-  -- THE LAW: a row that is found stands where it was looked for, and its bodies start behind that, in the slice
-  pub normal-moves : (x : Found) → normalAt s columns o ≡ hit x → (x .at ≡ o) × (o < x .start) × (x .start ≤ length s)
+  -- THE LAW: what Normal finds
+  pub normal-found : (x : Found) → normalAt s columns o ≡ hit x → NormalIs s columns o x
   unfolding normalAt
-  normal-moves x e = with-length (varintAt s o) refl e
+  normal-found x e = with-length (varintAt s o) refl e
     where
-      by-types : (h : ℕ) → 0 < h → o + h ≤ length s → (t : Types) → headedRow o h t ≡ hit x → (x .at ≡ o) × (o < x .start) × (x .start ≤ length s)
-      by-types h some in′ cut e = never e
-      by-types h some in′ (read [] end) e = never e
-      by-types h some in′ (read (t ∷ ts) end) e =
-          let z : o + h ≡ x .start = cc in
-          (cc, omega arith, omega arith)
+      by-types : (h next : ℕ) → 0 < h → o + h ≤ length s → next ≤ length s → (t : Types) → typesFrom columns s next (o + h) ≡ t → headedRow o h t ≡ hit x → NormalIs s columns o x
+      by-types h next some in′ near cut w e = never e
+      by-types h next some in′ near (read [] end) w e = never e
+      by-types h next some in′ near (read (t ∷ ts) end) w e =
+          let start : o + h ≡ x .start = cc in
+          let is : normal ≡ x .style = cc in
+          let types : t ∷ ts ≡ x .types = cc in
+          let few = typed columns s next (o + h) (t ∷ ts) end near w .few in
+          record { at-is = cc; past = omega arith; inside = omega arith; few = rw (← is, ← types) (omega arith) }
 
-      with-length : (v : Varint) → varintAt s o ≡ v → normalWith s columns o v ≡ hit x → (x .at ≡ o) × (o < x .start) × (x .start ≤ length s)
+      with-length : (v : Varint) → varintAt s o ≡ v → normalWith s columns o v ≡ hit x → NormalIs s columns o x
       with-length Short v e = never e
       with-length (Value h c) v e =
           let z = varint-lies s o h c v in
           by-order h (c .at - o)
           (λ low. never (simp (lt-leb (c .at - o) h low) at e))
-          (λ own. by-order (length s - o) h
+          (λ own.
+          by-order (length s - o) h
           (λ past. never (simp (le-leb (c .at - o) h own, lt-leb h (length s - o) past) at e))
-          (λ fits. by-types h (omega (arith, z .past)) (omega (arith, z .past, z .inside)) (typesFrom columns s (c .at) (o + h)) (simp (le-leb (c .at - o) h own, le-leb h (length s - o) fits) at e)))
+          (λ fits.
+          by-types h (c .at) (omega (arith, z .past)) (omega (arith, z .past, z .inside)) (z .inside) (typesFrom columns s (c .at) (o + h)) refl
+          (simp (le-leb (c .at - o) h own, le-leb h (length s - o) fits) at e)))
 
 -- ---- the other two
 module _ (style : Style) (s : List ℕ) (from most : ℕ) where
@@ -133,6 +146,20 @@ module _ (style : Style) (s : List ℕ) (from most : ℕ) where
         rw (w .is)
         (row-hit s (most + style .lost) style 0 end most from (length s) count end w in′ (omega arith) (typed most s from (length s) (w .types) end in′ (w .is) .inside) one (omega arith) some)
 
+  -- THE LAW: the other two find no more columns than they look for
+  pub headless-few : (x : Found) → from ≤ length s → headlessIn style s from most ≡ hit x → x .style .lost + length (x .types) ≤ style .lost + most
+  unfolding headlessIn
+  headless-few x in′ e = by-types (typesFrom most s from (length s)) refl e
+    where
+      by-types : (t : Types) → typesFrom most s from (length s) ≡ t → headlessRow style t ≡ hit x → x .style .lost + length (x .types) ≤ style .lost + most
+      by-types cut w e = never e
+      by-types (read [] end) w e = never e
+      by-types (read (t ∷ ts) end) w e =
+          let is : style ≡ x .style = cc in
+          let types : t ∷ ts ≡ x .types = cc in
+          let few = typed most s from (length s) (t ∷ ts) end in′ w .few in
+          rw (← is, ← types) (omega arith)
+
 module _ (s : List ℕ) (columns : ℕ) where
   pub missing-short : length s ≤ 4 → firstColMissingIn s columns ≡ miss
   unfolding firstColMissingIn
@@ -143,9 +170,22 @@ module _ (s : List ℕ) (columns : ℕ) where
     unfolding firstColMissingIn
     missing-few h = simp (le-leb 5 (length s) (omega arith), lt-leb 2 columns h)
 
-    pub missing-is : 2 ≤ columns → (style : Style) → style ≡ firstColMissing → (r : Trial) → TriedIs s (columns - 1 + style .lost) (headlessIn style s 4 (columns - 1)) r
-        → TriedIs s columns (firstColMissingIn s columns) r
-    unfolding firstColMissingIn
-    missing-is h style e r t =
-        let n : columns - 1 + 1 ≡ columns = omega arith in
-        simp (le-leb 5 (length s) (omega arith), le-leb 2 columns h) (rw (e, n) at t)
+    module _ (some : 2 ≤ columns) where
+      missing-on : firstColMissingIn s columns ≡ headlessIn firstColMissing s 4 (columns - 1)
+      unfolding firstColMissingIn
+      missing-on = simp (le-leb 5 (length s) (omega arith), le-leb 2 columns some)
+
+      pub missing-is : (style : Style) → style ≡ firstColMissing → (r : Trial) → TriedIs s (columns - 1 + style .lost) (headlessIn style s 4 (columns - 1)) r
+          → TriedIs s columns (firstColMissingIn s columns) r
+      missing-is style e r t =
+          let n : columns - 1 + 1 ≡ columns = omega arith in
+          rw missing-on (rw (e, n) at t)
+
+  pub missing-found : (x : Found) → firstColMissingIn s columns ≡ hit x → x .style .lost + length (x .types) ≤ columns
+  missing-found x e =
+      by-order 4 (length s)
+      (λ long.
+      by-order columns 2
+      (λ few. never (sym (missing-few long few) ∙ e))
+      (λ more. omega (arith, headless-few firstColMissing s 4 (columns - 1) x (omega arith) (sym (missing-on long more) ∙ e))))
+      (λ short. never (sym (missing-short short) ∙ e))

@@ -61,11 +61,11 @@ module _ (s ts : List ℕ) (start : ℕ) (cols₀ : List ℕ) (k at end : ℕ) (
   written-all z = nothing-left (rw z (kinds-none s at))
 
 -- ---- the group of a row
-columns-append : (a b : List Column) → columnsWords (a ++ b) ≡ columnsWords a ++ columnsWords b
+pub columns-append : (a b : List Column) → columnsWords (a ++ b) ≡ columnsWords a ++ columnsWords b
 columns-append [] b = refl
 columns-append (c ∷ a) b = rw (columns-append a b) (sym (append-assoc (columnWords c) (columnsWords a) (columnsWords b)))
 
-lost-length : (n : ℕ) → length (lostColumns n) ≡ n
+pub lost-length : (n : ℕ) → length (lostColumns n) ≡ n
 lost-length zero = refl
 lost-length (suc n) = ap suc (lost-length n)
 

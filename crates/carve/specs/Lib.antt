@@ -1,0 +1,4 @@
+pub mod Found
+pub mod Inner
+pub mod Modes
+pub mod Values

@@ -102,9 +102,18 @@ fn carve_region(
                 o = o + 1;
             }
             Verdict::Hit(find) => {
-                let Carved::On(next) =
-                    add_row(bytes, from, o, find, columns, spot, lent, m, rows, cols)
-                else {
+                let Carved::On(next) = add_row(
+                    bytes,
+                    from,
+                    o,
+                    find,
+                    columns,
+                    spot,
+                    lent,
+                    m,
+                    rows,
+                    cols,
+                ) else {
                     return Carved::Full;
                 };
                 m = next;

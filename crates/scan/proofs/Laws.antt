@@ -18,7 +18,6 @@ use Rattle.sheet.specs.Columns.{roomOf}
 use Rattle.sheet.specs.Refusal.{after}
 use Rattle.sheet.specs.declared.refusal.Checked.{Checked}
 use Rattle.sheet.specs.declared.refusal.Checked.the-variants.{Passed, Refused as Held}
-
 -- ---- a run, attempt by attempt
 pub use Rattle.scan.proofs.Running.{scan-missed, scan-found, scan-end}
 

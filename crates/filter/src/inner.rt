@@ -3,7 +3,6 @@ pub use crate::high::High;
 use crate::high::lesser;
 use crate::high::run_around;
 use crate::high::varint_end;
-use crate::types::may_be;
 use crate::types::may_fit;
 use crate::types::may_have;
 use crate::types::types_end;
@@ -133,7 +132,7 @@ fn pass_header(bytes: &[u8], hints: &[u8], o: usize, head: usize, run: High) -> 
             run,
         };
     }
-    if may_be(hints.len(), bytes, o, head) {
+    if may_fit(hints.len(), head) {
         return Over {
             to: o,
             read: 0,
@@ -150,17 +149,10 @@ fn pass_header(bytes: &[u8], hints: &[u8], o: usize, head: usize, run: High) -> 
 
 // Offsets at which a run of high bytes decides.
 fn pass_run(bytes: &[u8], hints: &[u8], o: usize, last: usize, run: High) -> Over
-    requires { ⌜ (last ≤ length (now bytes)) × (length (now bytes) ≤ largestRegion) × (length (now hints) ≤ mostColumns) ⌝ }
+    requires { ⌜ (o < last) × (last ≤ length (now bytes)) × (length (now bytes) ≤ largestRegion) × (length (now hints) ≤ mostColumns) ⌝ }
     requires { ⌜ IsHigh (now bytes) run ⌝ }
     ensures { λ r. ⌜ Met (now (bytes .entry)) (now (hints .entry)) o last r ⌝ }
 {
-    if o >= last {
-        return Over {
-            to: o,
-            read: 0,
-            run,
-        };
-    }
     let first = wide(bytes[o]);
     if first < 2 {
         return Over {
@@ -183,10 +175,17 @@ fn pass_run(bytes: &[u8], hints: &[u8], o: usize, last: usize, run: High) -> Ove
 
 // One step on: past what a run decides, or else by an attempt.
 fn one_step(bytes: &[u8], hints: &[u8], o: usize, last: usize, run: High) -> Step
-    requires { ⌜ (o < last) × (last ≤ length (now bytes)) × (length (now bytes) ≤ largestRegion) × (length (now hints) ≤ mostColumns) ⌝ }
+    requires { ⌜ (last ≤ length (now bytes)) × (length (now bytes) ≤ largestRegion) × (length (now hints) ≤ mostColumns) ⌝ }
     requires { ⌜ IsHigh (now bytes) run ⌝ }
     ensures { λ r. ⌜ StepSays (now (bytes .entry)) (now (hints .entry)) o last r ⌝ }
 {
+    if o >= last {
+        return Step::On(Over {
+            to: o,
+            read: 0,
+            run,
+        });
+    }
     let over = pass_run(bytes, hints, o, last, run);
     if over.to > o {
         return Step::On(over);
@@ -207,24 +206,25 @@ pub fn next_row(bytes: &[u8], hints: &[u8], start: usize, last: usize, run: High
     requires { ⌜ IsHigh (now bytes) run ⌝ }
     ensures { λ r. ⌜ NextSays (now (bytes .entry)) (now (hints .entry)) start last r ⌝ }
 {
-    let first = pass_low(bytes, hints, start, last);
-    let mut o = first.to;
-    let mut read = first.read;
+    let mut o = start;
+    let mut read: usize = 0;
     let mut met = run;
     while o < last {
-        match one_step(bytes, hints, o, last, met) {
+        let low = pass_low(bytes, hints, o, last);
+        let at = low.to;
+        read = read + low.read;
+        match one_step(bytes, hints, at, last, met) {
             Step::Row(find) => {
                 return Next::Row {
-                    at: o,
+                    at,
                     find,
                     read,
                     run: met,
                 };
             }
             Step::On(over) => {
-                let low = pass_low(bytes, hints, over.to, last);
-                o = low.to;
-                read = read + over.read + low.read;
+                o = over.to;
+                read = read + over.read;
                 met = over.run;
             }
         }

@@ -44,16 +44,6 @@ pub fn may_have(columns: usize, bytes: &[u8], o: usize, head: usize) -> bool
     true
 }
 
-pub fn may_be(columns: usize, bytes: &[u8], o: usize, head: usize) -> bool
-    requires { ⌜ (2 ≤ head) × (o + head ≤ length (now bytes)) × (columns ≤ mostColumns) ⌝ }
-    ensures { λ r. ⌜ MayHave (headerTypes (now (bytes .entry)) o head (o + 1)) columns r ⌝ }
-{
-    if may_fit(columns, head) {
-        return may_have(columns, bytes, o, head);
-    }
-    false
-}
-
 // Behind the header's last byte, if that is below 128; else the run that it is in decides: reading comes to the run's start, and there
 // a varint follows on another.
 pub fn types_end(bytes: &[u8], o: usize, head: usize, run: High) -> usize

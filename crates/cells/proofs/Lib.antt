@@ -1,4 +1,4 @@
-mod Along
+pub mod Along
 mod Cases
 pub mod Fuel
 mod Looking

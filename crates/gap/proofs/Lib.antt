@@ -1,6 +1,6 @@
+mod Along
 mod Cases
 mod Chaining
 mod Gaps
-mod Going
 mod Regions
 pub mod Room

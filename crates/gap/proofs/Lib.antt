@@ -2,5 +2,6 @@ mod Along
 mod Cases
 mod Chaining
 mod Gaps
+pub mod ReadBack
 mod Regions
 pub mod Room

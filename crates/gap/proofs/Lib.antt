@@ -1,6 +1,7 @@
+mod Along
 mod Cases
 mod Chaining
 mod Gaps
-mod Going
+pub mod ReadBack
 mod Regions
 pub mod Room

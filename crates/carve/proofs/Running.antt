@@ -9,7 +9,7 @@ use borrow.Author.Tests.{le-leb, lt-leb, not-false, ltb-false}
 use lib.ListN.{length}
 use lib.Seq.{sets}
 use Rattle.carve.specs.Found.{Found, Tried, miss, hit, endOf, hitOf, hitsOf}
-use Rattle.carve.specs.Inner.{foundIn, FindFits, HitIs, TriedIs, TriedFits, triedHits, Fitting, Ready, Filling}
+use Rattle.carve.specs.Inner.{foundIn, FindFits, HitIs, TriedIs, TriedFits, triedHits, Ready, Filling}
 use Rattle.carve.specs.Modes.{columnsOnly, listed, orElse, headlessIn, columnsOnlyIn, firstColMissingIn, normalAt, normalFrom, normalFound, headlessFound, modesFound, carveChecks}
 use Rattle.carve.specs.declared.inner.Find.{Find}
 use Rattle.carve.specs.declared.inner.Style.{Style}
@@ -19,7 +19,7 @@ use Rattle.carve.proofs.Bodies.{end-inside}
 use Rattle.carve.proofs.Carving.{Carving, carving-start, carving-done, carving-over, carving-one}
 use Rattle.carve.proofs.Trying.{normal-found}
 use Rattle.carve.proofs.Writing.{few-columns}
-use Rattle.sheet.proofs.Laws.{none-holds, count-fits, room-rows, room-cols}
+use Rattle.sheet.proofs.Laws.{none-holds, count-fits}
 use Rattle.sheet.specs.Limits.{wordsPerRow, wordsPerEntry, largestRegion, largestBase}
 use Rattle.sheet.specs.Refusal.{firstHeld}
 use Rattle.sheet.specs.Row.{rowWords}
@@ -27,13 +27,6 @@ use Rattle.sheet.specs.declared.refusal.Checked.the-variants.{Passed}
 use Rattle.walk.proofs.Carving.{carves-more, carves-stop, told-on, told-over}
 use Rattle.walk.specs.Carve.{Hit as RowHit, groupWords}
 use Rattle.walk.specs.Inner.{Told, on, over, Carves}
-
--- ---- room for a row
-pub fitting : (s : List ℕ) (base columns room n rows cols : ℕ) (x : Find) → Ready (length s) base columns room n rows cols → FindFits s columns x → n < room
-    → Fitting s x base columns n rows cols
-fitting s base columns room n rows cols x r f h =
-    let below = rw (r .room-is) at h in
-    record { small = r .small; near = r .near; fits = f; row = room-rows rows cols columns n below; group = room-cols rows cols columns n below }
 
 -- what passed the checks
 pub filling : (len base columns : ℕ) → firstHeld (carveChecks len base columns) ≡ Passed → Filling len base columns

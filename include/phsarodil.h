@@ -13,9 +13,10 @@
  * Every word of `out` is written by every call; a word with nothing to say is 0.
  *
  * Lists. Rows and their column entries go into two lists, `rows` and `cols`, which are filled from the front. Row i
- * has the words rows[8 * i ..] and, for n hints, the n entries cols[4 * n * i ..]. There is room for the smaller of
- * rows_len / 8 and cols_len / (4 * n) rows. Only the cells of rows that out[0] counts are written; all others keep
- * what they held. Hints and places go into one list in the same way. Refusals 1 to 7 write no list.
+ * has the words rows[8 * i ..] and, for n columns, the n entries cols[4 * n * i ..]; a call that is lent hints has a
+ * column for each. There is room for the smaller of rows_len / 8 and cols_len / (4 * n) rows. Only the cells of rows
+ * that out[0] counts are written; all others keep what they held. Hints, types, leaves and places go into one list in
+ * the same way. Refusals 1 to 7 write no list.
  *
  * What a scan gives away. All that it writes and answers is a function of its other arguments, of the region's length
  * and of the bytes that it read as headers. But a row is a guess: any bytes that read as a header of the right number
@@ -23,8 +24,7 @@
  * type also shows an integer's size and that a REAL is whole, a length how long a note is. Dropping rows of low
  * confidence makes text in types rarer; nothing excludes it. README, "What the sheet gives away", has an example.
  *
- * Not given by any call so far, and declared for those to come:
- *     sources 2 and 3; modes other than 0; states 1 and 2; a row id, or a percent.
+ * Not given by any call so far, and declared for those to come: sources 2 and 3; a row id, or a percent.
  */
 #ifndef PHSARODIL_H
 #define PHSARODIL_H
@@ -49,14 +49,14 @@ uint64_t phs_version(void);
 enum phs_refusal {
     PHS_OK = 0,
     PHS_COLUMN_COUNT = 1,   /* no columns, or more than PHS_MOST_COLUMNS */
-    PHS_MALFORMED = 2,      /* a hint code above 5, tables whose lists are unlike, or a bad column entry */
-    PHS_TOO_LARGE = 3,      /* more than PHS_LARGEST_REGION bytes, PHS_LARGEST_STATEMENT or PHS_MOST_TABLES */
+    PHS_MALFORMED = 2,      /* a hint code above 5, tables whose lists are unlike, or bad column entries */
+    PHS_TOO_LARGE = 3,      /* more than PHS_LARGEST_REGION bytes, or than one of the other limits below */
     PHS_BASE_TOO_FAR = 4,   /* a base above PHS_LARGEST_BASE */
     PHS_PAGE_SIZE = 5,      /* not a page size of the file format */
     PHS_NO_SUCH_PAGE = 6,   /* page 0, or a page that is not wholly in the database */
     PHS_NO_COLUMN_LIST = 7, /* a statement without a '(', or without a ')' behind it */
     PHS_WALK_SPACE = 8,     /* too few page flags, or a full page stack */
-    PHS_NO_ROOM = 9         /* one row, hint, place or leaf more than the lent list takes */
+    PHS_NO_ROOM = 9         /* one row, hint, type, place or leaf more than the lent list takes */
 };
 
 #define PHS_WORDS_PER_ROW 8
@@ -65,6 +65,7 @@ enum phs_refusal {
 #define PHS_LARGEST_REGION 16777216
 #define PHS_LARGEST_STATEMENT 65536
 #define PHS_MOST_TABLES 1024
+#define PHS_MOST_LEARNED 1024 /* rows to learn from */
 #define PHS_LARGEST_BASE UINT64_C(0x1000000000000) /* 2 to the power of 48 */
 
 /* What a column is expected to hold. Every hint takes a NULL. */
@@ -88,7 +89,7 @@ enum phs_row_word {
     PHS_ROW_ID = 3,         /* the row id's bits, two's complement; 0 if there is none */
     PHS_ROW_SOURCE = 4,     /* an enum phs_source */
     PHS_ROW_PERCENT = 5,    /* for people, from 0 to 100; 0 for the sources 0 and 1 */
-    PHS_ROW_CONFIDENCE = 6, /* the bits of a 32-bit float: the share of columns that suit their hints, or less */
+    PHS_ROW_CONFIDENCE = 6, /* the bits of a 32-bit float: the share of columns that suit their hints, or as a call says */
     PHS_ROW_MODE = 7        /* an enum phs_mode, plus 4 times the table's index where tables are lent */
 };
 
@@ -99,6 +100,7 @@ enum phs_source {
     PHS_SOURCE_CARVED_UNALLOC = 3
 };
 
+/* 0 but for the rows of phs_carve_freeblock. */
 enum phs_mode { PHS_MODE_NONE = 0, PHS_MODE_NORMAL = 1, PHS_MODE_COLUMNS_ONLY = 2, PHS_MODE_FIRST_COL_MISSING = 3 };
 
 /* The words of a column entry. phs_read_entry makes a value of them. */
@@ -112,7 +114,7 @@ enum phs_entry_word {
 /* In the states 2 and 3 all other words are 0, in state 1 start and length are. */
 enum phs_state {
     PHS_BODY = 0,  /* the body is there */
-    PHS_UNFIT = 1, /* the body does not fit; reads as NULL, as the next two do */
+    PHS_UNFIT = 1, /* the body does not fit, or the type is 10 or 11; reads as NULL, as the next two do */
     PHS_LOST = 2,  /* the column's type was overwritten */
     PHS_UNUSED = 3 /* the entry pads its row's group */
 };
@@ -281,6 +283,45 @@ uint64_t phs_recover_page_freeblocks(const uint8_t *db, size_t len, uint64_t pag
 uint64_t phs_recover_slice_freeblocks(const uint8_t *page, size_t len, size_t header, uint64_t base, const uint8_t *hints,
                                       size_t hints_len, uint64_t *rows, size_t rows_len, uint64_t *cols, size_t cols_len,
                                       uint64_t out[1]);
+
+/*
+ * The rows of a block of bytes, for a table of which only the number of columns is known. With no hints nearly any bytes
+ * make a row, so the confidence is the mode's own. Three modes are tried, and PHS_ROW_MODE says which one a row is of:
+ *     PHS_MODE_NORMAL, 0.8: a header length, types until the header's end is reached, and the bodies from that end on. It
+ *         is tried at the first byte, and behind each row while three bytes are left, up to the first place where it fails.
+ * If that found no row, the other two are tried, each once, and each may find one:
+ *     PHS_MODE_COLUMNS_ONLY, 0.5: types from the first byte on, and the bodies behind the last of them.
+ *     PHS_MODE_FIRST_COL_MISSING, 0.3: the same from the fifth byte on, for a block whose first four bytes were
+ *         overwritten. Its first column is PHS_LOST. It needs 5 bytes and 2 columns.
+ * No more types are read than there are columns, in the last mode one less, and fewer where header or block ends: the
+ * entries behind a row's columns are PHS_UNUSED. A mode fails where it finds no type or one that runs off the block,
+ * NORMAL also where the header length is missing, less than the bytes that it takes itself or more than those left.
+ * A body that does not fit is PHS_UNFIT, and so is one of a type 10 or 11; the next body starts where it would have. A
+ * row ends behind its last body that fits, or where the bodies start if none does. Its source is PHS_SOURCE_FREELIST,
+ * its offset `base` plus the place of its first byte: in the last mode that is the block's first, so PHS_ROW_CONSUMED
+ * has the four lost bytes in it.
+ * out: the rows written.
+ * Returns PHS_COLUMN_COUNT, PHS_TOO_LARGE, PHS_BASE_TOO_FAR or PHS_NO_ROOM.
+ */
+uint64_t phs_carve_freeblock(const uint8_t *bytes, size_t len, uint64_t base, size_t columns, uint64_t *rows,
+                             size_t rows_len, uint64_t *cols, size_t cols_len, uint64_t out[1]);
+
+/*
+ * The serial type that is the commonest in each column of some rows. The rows are lent as their column entries alone, as
+ * other calls leave them in `cols`, all over the slice `bytes`, with `width` entries a row. A row is a whole group of
+ * 4 * width words: a rest of `entries` that is none is not read.
+ * An entry counts by its value, whatever its own type was:
+ *     NULL, PHS_UNFIT and PHS_LOST as 0; an integer 0 or 1 as 8; any other as the first of 1, 2, 3 and 4 whose 1, 2, 3
+ *     or 4 bytes hold it, or else as 6, never as 5; a real as 7; a text of n bytes as 13 + 2 * n, a blob as 12 + 2 * n.
+ * PHS_UNUSED does not count. The column's type is the one that most of its entries count as; of several, the smallest.
+ * There are as many types as the longest row has entries that are used: no rows give none.
+ * out: the types written, from the front.
+ * Returns PHS_COLUMN_COUNT for the width; PHS_MALFORMED, where a row has an entry that phs_read_entry refuses, or one
+ * that is used behind one that is not; PHS_TOO_LARGE, also for more than PHS_MOST_LEARNED rows; or PHS_NO_ROOM, with the
+ * first types, as many as there was room for.
+ */
+uint64_t phs_learn_signatures(const uint8_t *bytes, size_t len, size_t width, const uint64_t *entries,
+                              size_t entries_len, uint64_t *types, size_t types_len, uint64_t out[1]);
 
 #ifdef __cplusplus
 }

@@ -11,6 +11,10 @@ const VERSION: u64 = 1;
 /// A refusal number, 0 for none, with the words of `out`.
 pub type Answer<const N: usize> = (u64, [u64; N]);
 
+/// A call over the leaves of tables.
+pub type OfTables =
+    fn(&[u8], u64, [&[u64]; 2], &[u8], &mut [u8], &mut [u64], [&mut [u64]; 2]) -> Answer<1>;
+
 /// Declared as in the header.
 mod c {
     extern "C" {
@@ -169,6 +173,29 @@ mod c {
             stack_len: usize,
             leaves: *mut u64,
             leaves_len: usize,
+            out: *mut [u64; 1],
+        ) -> u64;
+
+        pub fn phs_carve_freeblock(
+            bytes: *const u8,
+            len: usize,
+            base: u64,
+            columns: usize,
+            rows: *mut u64,
+            rows_len: usize,
+            cols: *mut u64,
+            cols_len: usize,
+            out: *mut [u64; 1],
+        ) -> u64;
+
+        pub fn phs_learn_signatures(
+            bytes: *const u8,
+            len: usize,
+            width: usize,
+            entries: *const u64,
+            entries_len: usize,
+            types: *mut u64,
+            types_len: usize,
             out: *mut [u64; 1],
         ) -> u64;
     }
@@ -408,6 +435,48 @@ pub fn recover_slice_freeblocks(
             rows.len(),
             cols.as_mut_ptr(),
             cols.len(),
+            out,
+        )
+    })
+}
+
+pub fn carve_freeblock(
+    bytes: &[u8],
+    base: u64,
+    columns: usize,
+    rows: &mut [u64],
+    cols: &mut [u64],
+) -> Answer<1> {
+    answer(|out| unsafe {
+        c::phs_carve_freeblock(
+            bytes.as_ptr(),
+            bytes.len(),
+            base,
+            columns,
+            rows.as_mut_ptr(),
+            rows.len(),
+            cols.as_mut_ptr(),
+            cols.len(),
+            out,
+        )
+    })
+}
+
+pub fn learn_signatures(
+    bytes: &[u8],
+    width: usize,
+    entries: &[u64],
+    types: &mut [u64],
+) -> Answer<1> {
+    answer(|out| unsafe {
+        c::phs_learn_signatures(
+            bytes.as_ptr(),
+            bytes.len(),
+            width,
+            entries.as_ptr(),
+            entries.len(),
+            types.as_mut_ptr(),
+            types.len(),
             out,
         )
     })

@@ -1,17 +1,9 @@
 //! Rows in the freed blocks of pages.
 
 use crate::door;
-use crate::rows::{codes, Lists};
-use crate::{Hint, Record, Refusal};
-
-/// A table of a database: the page of its root, and a hint for each column.
-#[derive(Clone, Debug, PartialEq, Eq)]
-pub struct Table {
-    /// The page of its root.
-    pub root: u64,
-    /// A hint for each column, as its records have them.
-    pub hints: Vec<Hint>,
-}
+use crate::rows::codes;
+use crate::tables::{grown, of_tables};
+use crate::{Hint, Record, Refusal, Table};
 
 /// The rows in the freed blocks of the tables' leaves, in the order of the tables and of each one's walk
 /// ([`leaf_pages`](crate::leaf_pages)). A row's `table` is the index here, and its offset the place in the database.
@@ -20,44 +12,7 @@ pub fn recover_freeblocks<'a>(
     page_size: usize,
     tables: &[Table],
 ) -> Result<Vec<Record<'a>>, Refusal> {
-    let roots: Vec<u64> = tables.iter().map(|table| table.root).collect();
-    let counts: Vec<u64> = tables
-        .iter()
-        .map(|table| table.hints.len() as u64)
-        .collect();
-    let hints: Vec<u8> = tables
-        .iter()
-        .flat_map(|table| codes(&table.hints))
-        .collect();
-    let width = tables
-        .iter()
-        .map(|table| table.hints.len())
-        .max()
-        .unwrap_or(0);
-    let mut flags = vec![0; db.len().checked_div(page_size).unwrap_or(0)];
-    let mut stack = vec![0; 64];
-    let mut records = grown(width, db, |rows, cols| loop {
-        let answer = door::recover_freeblocks(
-            db,
-            page_size as u64,
-            [&roots, &counts],
-            &hints,
-            &mut flags,
-            &mut stack,
-            [rows, cols],
-        );
-        match Refusal::of(answer.0) {
-            Some(Refusal::WalkSpace) => stack = vec![0; stack.len() * 8],
-            _ => return answer,
-        }
-    })?;
-    // A group is as wide as the widest table; the rest of it is unused.
-    for record in &mut records {
-        record
-            .entries
-            .truncate(tables[record.row.table as usize].hints.len());
-    }
-    Ok(records)
+    of_tables(db, page_size, tables, door::recover_freeblocks)
 }
 
 /// The rows in the freed blocks of the page `number` of a database; its type is not looked at.
@@ -85,28 +40,6 @@ pub fn recover_slice_freeblocks<'a>(
     grown(codes.len(), page, |rows, cols| {
         door::recover_slice_freeblocks(page, header, base, &codes, rows, cols)
     })
-}
-
-/// All rows of a call, with lists that are made larger until they take them.
-fn grown<'a>(
-    width: usize,
-    bytes: &'a [u8],
-    mut call: impl FnMut(&mut [u64], &mut [u64]) -> door::Answer<1>,
-) -> Result<Vec<Record<'a>>, Refusal> {
-    let mut room = 64;
-    loop {
-        let mut lists = Lists::new(room, width);
-        let (number, [written]) = call(&mut lists.rows, &mut lists.cols);
-        match Refusal::of(number) {
-            Some(Refusal::NoRoom) => room *= 8,
-            Some(refusal) => return Err(refusal),
-            None => {
-                return Ok((0..written as usize)
-                    .map(|i| lists.record(i, bytes))
-                    .collect())
-            }
-        }
-    }
 }
 
 #[cfg(test)]

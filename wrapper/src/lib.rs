@@ -21,20 +21,24 @@
 mod door;
 mod freeblocks;
 mod hint;
+mod learned;
 mod limits;
+mod modes;
 mod pages;
 mod refusal;
 mod rows;
 mod search;
+mod tables;
 mod values;
 
-pub use freeblocks::{
-    recover_freeblocks, recover_page_freeblocks, recover_slice_freeblocks, Table,
-};
+pub use freeblocks::{recover_freeblocks, recover_page_freeblocks, recover_slice_freeblocks};
 pub use hint::{Hint, UnknownHint};
-pub use limits::{LARGEST_BASE, LARGEST_REGION, LARGEST_STATEMENT, MOST_COLUMNS};
+pub use learned::learn_signatures;
+pub use limits::{LARGEST_BASE, LARGEST_REGION, LARGEST_STATEMENT, MOST_COLUMNS, MOST_LEARNED};
+pub use modes::carve_freeblock;
 pub use pages::{leaf_pages, page, Page};
 pub use refusal::Refusal;
 pub use rows::{scan, try_parse_record, Mode, Record, Row, Rows, Scan, Source};
 pub use search::search;
+pub use tables::Table;
 pub use values::{body_length, decode_serial_type, read_varint, Entry, State, Value};

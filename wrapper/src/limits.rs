@@ -11,3 +11,6 @@ pub const LARGEST_STATEMENT: usize = 65_536;
 
 /// The largest base; a larger one is [`Refusal::BaseTooFar`](crate::Refusal::BaseTooFar).
 pub const LARGEST_BASE: u64 = 1 << 48;
+
+/// The most rows to learn from; more is [`Refusal::TooLarge`](crate::Refusal::TooLarge).
+pub const MOST_LEARNED: usize = 1_024;

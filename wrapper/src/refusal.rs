@@ -9,9 +9,10 @@ use std::fmt;
 pub enum Refusal {
     /// No columns, or more than 126.
     ColumnCount = 1,
-    /// An unknown hint code, or a bad column entry.
+    /// An unknown hint code, or bad column entries.
     Malformed = 2,
-    /// A region, a haystack or a database of more than 16 MiB, or a statement of more than 65,536 bytes.
+    /// A region, a haystack or a database of more than 16 MiB, a statement of more than 65,536 bytes, or more than 1,024
+    /// tables or rows to learn from.
     TooLarge = 3,
     /// A base above 2^48.
     BaseTooFar = 4,
@@ -55,9 +56,9 @@ impl fmt::Display for Refusal {
     fn fmt(&self, f: &mut fmt::Formatter<'_>) -> fmt::Result {
         let why = match self {
             Refusal::ColumnCount => "a table has 1 to 126 columns",
-            Refusal::Malformed => "an unknown hint, or a bad column entry",
+            Refusal::Malformed => "an unknown hint, or bad column entries",
             Refusal::TooLarge => {
-                "a region larger than 16 MiB, or a statement of more than 65,536 bytes"
+                "more than 16 MiB, than 65,536 bytes of a statement, or than 1,024 tables or rows to learn from"
             }
             Refusal::BaseTooFar => "the base is above 2^48",
             Refusal::PageSize => "not a page size",

@@ -1,7 +1,7 @@
 //! One attempt, and the region scan.
 
 use crate::door;
-use crate::{Entry, Hint, Refusal, Value};
+use crate::{Entry, Hint, Refusal, State, Value};
 
 /// Where a row was found, with its percent where there is one. The calls of this crate give the
 /// first two.
@@ -17,7 +17,7 @@ pub enum Source {
     CarvedUnalloc(u64),
 }
 
-/// Which of the three modes read a row. The calls of this crate give [`Mode::Plain`] alone.
+/// Which of the three modes of [`carve_freeblock`](crate::carve_freeblock) read a row.
 #[derive(Clone, Copy, Debug, PartialEq, Eq, Hash)]
 pub enum Mode {
     /// None of them.
@@ -26,7 +26,7 @@ pub enum Mode {
     Normal,
     /// The header was there, but for its length.
     ColumnsOnly,
-    /// The first four bytes were lost, and the first column with them.
+    /// The first four bytes were taken for lost, and the first column with them.
     FirstColMissing,
 }
 
@@ -41,7 +41,8 @@ pub struct Row {
     pub id: Option<i64>,
     /// Where it was found.
     pub source: Source,
-    /// The share of the columns that suit their hints, or less where the row was not read whole.
+    /// The share of the columns that suit their hints, or less where the row was not read whole; that of its mode, where
+    /// there are no hints.
     pub confidence: f32,
     /// How it was read.
     pub mode: Mode,
@@ -82,7 +83,7 @@ impl Row {
 pub struct Record<'a> {
     /// The row.
     pub row: Row,
-    /// One entry for each hint.
+    /// One entry for each column; [`carve_freeblock`](crate::carve_freeblock) may find fewer than it is told there are.
     pub entries: Vec<Entry>,
     region: &'a [u8],
 }
@@ -124,6 +125,14 @@ impl Lists {
                 .collect(),
             region,
         }
+    }
+}
+
+impl Record<'_> {
+    /// Without the entries that pad its group.
+    pub(crate) fn used(mut self) -> Self {
+        self.entries.retain(|entry| entry.state != State::Unused);
+        self
     }
 }
 
@@ -286,7 +295,7 @@ impl<'a> Iterator for Rows<'a> {
 #[cfg(test)]
 mod tests {
     use super::*;
-    use crate::{State, LARGEST_BASE, LARGEST_REGION, MOST_COLUMNS};
+    use crate::{LARGEST_BASE, LARGEST_REGION, MOST_COLUMNS};
 
     const HIPIK: [u8; 9] = [0x03, 0x01, 0x17, 0x2a, 0x68, 0x69, 0x70, 0x69, 0x6b];
     const HINTS: [Hint; 2] = [Hint::Integer, Hint::Text];

@@ -54,12 +54,13 @@ pub fn decode_serial_type(kind: u64, bytes: &[u8], offset: usize) -> Option<(Val
     Some((Value::of(tag, bits, bytes, start, taken)?, taken as usize))
 }
 
-/// What became of a column. All but [`State::Body`] read as NULL, and no call of this crate gives them.
+/// What became of a column. All but [`State::Body`] read as NULL; [`carve_freeblock`](crate::carve_freeblock) alone gives
+/// the next two.
 #[derive(Clone, Copy, Debug, PartialEq, Eq, Hash)]
 pub enum State {
     /// The body is there.
     Body = 0,
-    /// The body does not fit.
+    /// The body does not fit, or the type is 10 or 11.
     Unfit = 1,
     /// The column's type was overwritten.
     Lost = 2,
@@ -104,7 +105,7 @@ impl Entry {
         }
     }
 
-    fn words(self) -> [u64; Entry::WORDS] {
+    pub(crate) fn words(self) -> [u64; Entry::WORDS] {
         [self.state as u64, self.kind, self.start, self.length]
     }
 

@@ -6,7 +6,9 @@ use mathlib.Core.Bool.{Bool, true, false, cond}
 use mathlib.Core.List.{List, [], _∷_}
 use lib.Dec.{eqb}
 use lib.ListN.{length}
-use Rattle.phsarodil.specs.Door.{varintWords, lengthWords, decodedWords, entryWords, viewWords}
+use Rattle.page.specs.declared.btree.Paged.{Paged}
+use Rattle.page.specs.declared.btree.Paged.the-variants.{At, Refused}
+use Rattle.phsarodil.specs.Door.{varintWords, lengthWords, decodedWords, entryWords, viewWords, pagedWords}
 use Rattle.record.specs.declared.entry.EntryRead.{EntryRead}
 use Rattle.record.specs.declared.entry.EntryRead.the-variants.{Of as Reads, Refused as Bad}
 use Rattle.record.specs.declared.record.Decoded.{Decoded}
@@ -38,3 +40,7 @@ two-either-way false x y = refl
 
 pub view-two : (start : ℕ) (shown : List ℕ) → length (viewWords start shown) ≡ 2
 view-two start shown = two-either-way (eqb (length shown) 0) start (length shown)
+
+pub paged-three : (a : Paged) → length (pagedWords a) ≡ 3
+paged-three (At start len head) = refl
+paged-three (Refused r) = refl

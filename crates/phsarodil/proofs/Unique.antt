@@ -6,8 +6,10 @@ use Rattle.record.proofs.Unique.{Fixes, FixesSeen}
 use Rattle.phsarodil.proofs.freeblocks.phs_recover_freeblocks.Reads as recover-freeblocks
 use Rattle.phsarodil.proofs.freeblocks.phs_recover_page_freeblocks.Reads as recover-page-freeblocks
 use Rattle.phsarodil.proofs.freeblocks.phs_recover_slice_freeblocks.Reads as recover-slice-freeblocks
+use Rattle.phsarodil.proofs.learned.phs_learn_signatures.Reads as learn-signatures
 use Rattle.phsarodil.proofs.lists.phs_boyer_moore_search.Reads as boyer-moore-search
 use Rattle.phsarodil.proofs.lists.phs_from_create_sql.Reads as from-create-sql
+use Rattle.phsarodil.proofs.modes.phs_carve_freeblock.Reads as carve-freeblock
 use Rattle.phsarodil.proofs.pages.phs_collect_leaf_pages.Reads as collect-leaf-pages
 use Rattle.phsarodil.proofs.pages.phs_get_page_data.Reads as get-page-data
 use Rattle.phsarodil.proofs.rows.phs_is_compatible.Reads as is-compatible
@@ -166,3 +168,25 @@ recover-slice-freeblocks-rows k a x y s t p q = p .1 .1 .0 ∙ sym (q .1 .1 .0)
 
 pub recover-slice-freeblocks-cols : FixesSeen recover-slice-freeblocks.Post (λ k r s. now (s .1 .1 .1 .1 .1 .0))
 recover-slice-freeblocks-cols k a x y s t p q = p .1 .1 .1 ∙ sym (q .1 .1 .1)
+
+-- ---- the three modes, and learned hints
+pub carve-freeblock-number : Fixes carve-freeblock.Post
+carve-freeblock-number k a x y s t p q = p .0 ∙ sym (q .0)
+
+pub carve-freeblock-words : FixesSeen carve-freeblock.Post (λ k r s. now (s .1 .1 .1 .1 .1 .0))
+carve-freeblock-words k a x y s t p q = p .1 .0 ∙ sym (q .1 .0)
+
+pub carve-freeblock-rows : FixesSeen carve-freeblock.Post (λ k r s. now (s .1 .1 .1 .0))
+carve-freeblock-rows k a x y s t p q = p .1 .1 .0 ∙ sym (q .1 .1 .0)
+
+pub carve-freeblock-cols : FixesSeen carve-freeblock.Post (λ k r s. now (s .1 .1 .1 .1 .0))
+carve-freeblock-cols k a x y s t p q = p .1 .1 .1 ∙ sym (q .1 .1 .1)
+
+pub learn-signatures-number : Fixes learn-signatures.Post
+learn-signatures-number k a x y s t p q = p .0 ∙ sym (q .0)
+
+pub learn-signatures-words : FixesSeen learn-signatures.Post (λ k r s. now (s .1 .1 .1 .1 .0))
+learn-signatures-words k a x y s t p q = p .1 .0 ∙ sym (q .1 .0)
+
+pub learn-signatures-types : FixesSeen learn-signatures.Post (λ k r s. now (s .1 .1 .1 .0))
+learn-signatures-types k a x y s t p q = p .1 .1 ∙ sym (q .1 .1)

@@ -30,9 +30,9 @@ record Outcome : Type 0 where
   rows : List ℕ
   cols : List ℕ
 
--- a cell's row of nine bytes; and one that is rebuilt, where both types suit, and where one does
-cellRow : ℕ → ℕ → ℕ → List ℕ
-cellRow offset id word = offset ∷ 9 ∷ 1 ∷ id ∷ 2 ∷ 100 ∷ 0x3f800000 ∷ word ∷ []
+-- a cell's row; and one that is rebuilt, where both types suit, and where one does
+cellRow : ℕ → ℕ → ℕ → ℕ → List ℕ
+cellRow offset consumed id word = offset ∷ consumed ∷ 1 ∷ id ∷ 2 ∷ 100 ∷ 0x3f800000 ∷ word ∷ []
 
 bothSuit : ℕ → ℕ → ℕ → List ℕ
 bothSuit offset consumed word = offset ∷ consumed ∷ 0 ∷ 0 ∷ 2 ∷ 90 ∷ 0x3f666666 ∷ word ∷ []
@@ -60,21 +60,28 @@ spot : ℕ → ℕ → ℕ → Spot
 spot base start table = record { base = base; start = start; table = table }
 
 -- A cell, whose row has its id; the start 2, where its record begins, is passed over, and the starts 0 and 3 are not. Two cells, one behind the
--- other. A record without its header's length. A length of 2 ^ 64 - 1, which does not fit.
+-- other. A record without its header's length. A cell in the record of another, which is none. A
+-- length of 2 ^ 64 - 1, which does not fit.
 cases : List Case
 cases =
     in-payload (cell 7) (spot 100 0 0)
     (record {
-      rows = cellRow 114 7 0 ++ oneSuits 112 10 0 ++ bothSuit 115 8 0;
+      rows = cellRow 114 9 7 0 ++ oneSuits 112 10 0 ++ bothSuit 115 8 0;
       cols = pair 17 1 1 23 5 ++ pair 14 9 0 7 8 ++ pair 17 1 1 23 5;
     })
     ∷ in-payload (cell 7 ++ cell 8) (spot 100 512 3)
     (record {
-      rows = cellRow 114 7 12 ++ cellRow 125 8 12 ++ oneSuits 112 10 12 ++ bothSuit 115 8 12 ++ oneSuits 123 2 12 ++ oneSuits 124 5 12 ++ bothSuit 126 8 12;
+      rows = cellRow 114 9 7 12 ++ cellRow 125 9 8 12 ++ oneSuits 112 10 12 ++ bothSuit 115 8 12 ++ oneSuits 123 2 12 ++ oneSuits 124 5 12 ++ bothSuit 126 8 12;
       cols =
           pair 529 1 1 23 5 ++ pair 540 1 1 23 5 ++ pair 526 9 0 7 8 ++ pair 529 1 1 23 5 ++ pair 537 9 0 8 0 ++ pair 538 8 0 3 3 ++ pair 540 1 1 23 5;
     })
     ∷ in-payload types (spot 100 0 0) (record { rows = bothSuit 112 8 0; cols = pair 14 1 1 23 5 })
+    ∷ in-payload (14 ∷ 5 ∷ 3 ∷ 8 ∷ 35 ∷ cell 8) (spot 100 0 0)
+    (record {
+      rows = cellRow 114 14 5 0 ++ oneSuits 113 11 0 ++ bothSuit 115 13 0 ++ oneSuits 117 2 0 ++ oneSuits 118 5 0 ++ oneSuits 119 6 0 ++ bothSuit 120 8 0;
+      cols =
+          pair 17 8 0 35 11 ++ pair 15 5 6 3 3 ++ pair 17 8 0 35 11 ++ pair 19 9 0 8 0 ++ pair 20 8 0 3 3 ++ pair 21 3 3 1 1 ++ pair 22 1 1 23 5;
+    })
     ∷ in-payload (replicate 9 0xff ++ 7 ∷ 3 ∷ types) (spot 100 0 0)
     (record { rows = oneSuits 122 6 0 ++ bothSuit 123 8 0; cols = pair 24 3 3 1 1 ++ pair 25 1 1 23 5 })
     ∷ []

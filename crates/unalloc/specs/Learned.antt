@@ -1,4 +1,4 @@
--- Carving by learned types (rules 13.1 to 13.5): a type is known for each column, and a row is one where types match.
+-- Carving by learned types (rules 14.1 to 14.5): a type is known for each column, and a row is one where types match.
 -- Assumes nothing.
 use Prim.Native.Nat.{ℕ, zero, suc, _+_, _-_, _*_, _/_, _%_}
 use mathlib.Core.Bool.{Bool, true, false, cond, not, _&&_, _||_}
@@ -23,7 +23,7 @@ use Rattle.sheet.specs.declared.row.Mode.the-variants.{Plain}
 use Rattle.sheet.specs.declared.row.Source.the-variants.{CarvedUnalloc}
 use Rattle.walk.specs.Carve.{Hit, pageAnswerOf, pageRowsOf, pageColsOf, pageNumberOf, pageWrittenOf}
 
--- ---- Rule 13.1: classes of types, which NULL and a real are not of
+-- ---- Rule 14.1: classes of types, which NULL and a real are not of
 unfoldable pub isInteger : ℕ → Bool
 isInteger t = (leb 1 t && leb t 6) || (eqb t 8 || eqb t 9)
 
@@ -33,7 +33,7 @@ isText t = leb 13 t && eqb (t % 2) 1
 unfoldable pub isBlob : ℕ → Bool
 isBlob t = leb 12 t && eqb (t % 2) 0
 
--- Rule 13.1: a type matches one that was learned if it is the same, or of the same class
+-- Rule 14.1: a type matches one that was learned if it is the same, or of the same class
 unfoldable pub matches : ℕ → ℕ → Bool
 matches t learned = eqb t learned || ((isInteger t && isInteger learned) || ((isText t && isText learned) || (isBlob t && isBlob learned)))
 
@@ -43,7 +43,7 @@ matched ls [] = 0
 matched [] (t ∷ ts) = 0
 matched (l ∷ ls) (t ∷ ts) = cond (matches t l) 1 0 + matched ls ts
 
--- ---- Rule 13.2: what is said of a row of which so many types match
+-- ---- Rule 14.2: what is said of a row of which so many types match
 abbrev pub percentOf : ℕ → ℕ → ℕ
 percentOf n columns = n * 100 / columns
 
@@ -56,11 +56,11 @@ learnedStyle n columns = record { source = CarvedUnalloc (percentOf n columns); 
 abbrev pub mostHeader : ℕ
 mostHeader = 512
 
--- Rule 13.3: a header's length h, read at o in `own` bytes, is no less than those, no more than the bytes from o, and no more than 512
+-- Rule 14.3: a header's length h, read at o in `own` bytes, is no less than those, no more than the bytes from o, and no more than 512
 abbrev pub headerFits : ℕ → ℕ → ℕ → ℕ → Bool
 headerFits len o own h = leb h mostHeader && lengthFits len o own h
 
--- Rule 13.3: every body fits
+-- Rule 14.3: every body fits
 abbrev pub isThere : Column → Bool
 isThere (Body t at n) = true
 isThere (Unfit t) = false
@@ -71,7 +71,7 @@ abbrev pub allThere : List Column → Bool
 allThere [] = true
 allThere (c ∷ cs) = isThere c && allThere cs
 
--- Rule 13.3: of types in a header of h bytes at o, one matches, so there is one at the least, and every body fits; the bodies start at the header's end
+-- Rule 14.3: of types in a header of h bytes at o, one matches, so there is one at the least, and every body fits; the bodies start at the header's end
 unfoldable pub judged : List ℕ → List ℕ → ℕ → ℕ → List ℕ → Tried
 judged s ls o h ts =
     cond (ltb 0 (matched ls ts) && allThere (columnsFrom (length s) (o + h) ts))
@@ -82,7 +82,7 @@ abbrev pub judgedTypes : List ℕ → List ℕ → ℕ → ℕ → Types → Tri
 judgedTypes s ls o h cut = miss
 judgedTypes s ls o h (read ts end) = judged s ls o h ts
 
--- Rule 13.3: the types stand behind the header's length, up to the header's end, and no more are read than were learned
+-- Rule 14.3: the types stand behind the header's length, up to the header's end, and no more are read than were learned
 abbrev pub attemptWith : List ℕ → List ℕ → ℕ → Varint → Tried
 attemptWith s ls o (Value h c) = cond (headerFits (length s) o (c .at - o) h) (judgedTypes s ls o h (typesFrom (length ls) s (c .at) (o + h))) miss
 attemptWith s ls o Short = miss
@@ -97,7 +97,7 @@ abbrev pub goOn : (ℕ → List Found) → ℕ → ℕ → Tried → List Found
 goOn rest len o miss = rest (o + 1)
 goOn rest len o (hit x) = x ∷ rest (endOf len x)
 
--- Rule 13.4: a row is looked for as long as there is room for a header of one byte a type. The first argument bounds the attempts.
+-- Rule 14.4: a row is looked for as long as there is room for a header of one byte a type. The first argument bounds the attempts.
 unfoldable pub rowsFrom : ℕ → List ℕ → List ℕ → ℕ → List Found
 rowsFrom zero s ls o = []
 rowsFrom (suc f) s ls o = cond (leb (o + (1 + length ls)) (length s)) (goOn (λ next. rowsFrom f s ls next) (length s) o (attemptAt s ls o)) []
@@ -106,7 +106,7 @@ rowsFrom (suc f) s ls o = cond (leb (o + (1 + length ls)) (length s)) (goOn (λ 
 unfoldable pub rowsFound : List ℕ → List ℕ → List Found
 rowsFound s ls = rowsFrom (length s) s ls 0
 
--- ---- Rule 13.5: the call; of a region of `len` bytes the first has the offset `base`, and a group is as wide as there are learned types
+-- ---- Rule 14.5: the call; of a region of `len` bytes the first has the offset `base`, and a group is as wide as there are learned types
 abbrev pub learnedChecks : ℕ → ℕ → ℕ → List Check
 learnedChecks len columns base =
     record { refusal = ColumnCount; holds = not (countFits columns) }

@@ -1,4 +1,4 @@
--- The values of the rows that the call writes (rule 13.6): those of rule 12.9, each row's at its own places.
+-- The values of the rows that the call writes (rule 14.6): those of rule 12.9, each row's at its own places.
 -- Assumes nothing.
 use Prim.Native.Nat.{ℕ}
 use mathlib.Core.List.{List, []}
@@ -9,7 +9,7 @@ use Rattle.sheet.specs.Columns.{roomOf}
 use Rattle.sheet.specs.Refusal.{afterOrKept}
 use Rattle.unalloc.specs.Learned.{learnedChecked, rowsFound}
 
--- Rule 13.6: into lists of so many words
+-- Rule 14.6: into lists of so many words
 unfoldable pub learnedValues : List ℕ → List ℕ → ℕ → ℕ → ℕ → List Value
 learnedValues s ls base rows cols =
     afterOrKept (learnedChecked s ls base) (foundValues s (length ls) (take (roomOf rows cols (length ls)) (rowsFound s ls))) []

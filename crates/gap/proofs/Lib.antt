@@ -1,4 +1,3 @@
-mod Along
 mod Cases
 mod Chaining
 mod Gaps

@@ -11,7 +11,7 @@ use Rattle.attempt.specs.Attempt.{Found, miss, hit, attemptAt}
 use Rattle.attempt.specs.Inner.{foundAt}
 use Rattle.attempt.specs.declared.inner.Find.{Find}
 use Rattle.gap.specs.Gap.{regionHit, runHits, regionHits}
-use Rattle.gap.proofs.Along.{Along, along-start, along-end, along-on, along-full}
+use Rattle.cells.proofs.Along.{Along, along-start, along-end, along-on, along-full}
 use Rattle.hit.proofs.Laws.{headAt, there-is}
 use Rattle.hit.specs.Inner.{hitThere}
 use Rattle.hit.specs.declared.inner.Lent.{Lent}

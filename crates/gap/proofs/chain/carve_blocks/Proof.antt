@@ -9,7 +9,7 @@ use borrow.Author.Needs.{needs}
 use denote.Ref.{now}
 use Rattle.gap.specs.Gap.{blockThen, chainEnds, chainFrom, chain}
 use Rattle.gap.specs.Inner.{larger}
-use Rattle.gap.proofs.Along.{Along, along-start, along-long, along-ready, along-end, along-on, along-full}
+use Rattle.cells.proofs.Along.{Along, along-start, along-long, along-ready, along-end, along-on, along-full}
 use Rattle.gap.proofs.Chaining.{hitsOf, lies, chain-start, chain-step, chain-end, chain-out}
 use Rattle.gap.proofs.chain.carve_blocks.Statement.{statement}
 use Rattle.gap.proofs.chain.carve_blocks.Tie as tie

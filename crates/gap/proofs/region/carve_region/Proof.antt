@@ -9,7 +9,7 @@ use lib.ListN.{length}
 use Rattle.attempt.specs.Attempt.{attemptAt}
 use Rattle.attempt.specs.Inner.{MissIs, HitIs}
 use Rattle.attempt.specs.Places.{attemptPlaces}
-use Rattle.gap.proofs.Along.{along-long, along-ready}
+use Rattle.cells.proofs.Along.{along-long, along-ready}
 use Rattle.gap.proofs.Regions.{Scanning, scanning-start, scanning-end, scanning-missed, scanning-found, scanning-full}
 use Rattle.gap.proofs.region.carve_region.Statement.{statement}
 use Rattle.gap.proofs.region.carve_region.Tie as tie

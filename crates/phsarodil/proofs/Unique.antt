@@ -6,6 +6,7 @@ use Rattle.record.proofs.Unique.{Fixes, FixesSeen}
 use Rattle.phsarodil.proofs.freeblocks.phs_recover_freeblocks.Reads as recover-freeblocks
 use Rattle.phsarodil.proofs.freeblocks.phs_recover_page_freeblocks.Reads as recover-page-freeblocks
 use Rattle.phsarodil.proofs.freeblocks.phs_recover_slice_freeblocks.Reads as recover-slice-freeblocks
+use Rattle.phsarodil.proofs.learned.phs_carve_unallocated.Reads as carve-unallocated
 use Rattle.phsarodil.proofs.learned.phs_learn_signatures.Reads as learn-signatures
 use Rattle.phsarodil.proofs.lists.phs_boyer_moore_search.Reads as boyer-moore-search
 use Rattle.phsarodil.proofs.lists.phs_from_create_sql.Reads as from-create-sql
@@ -249,3 +250,15 @@ learn-signatures-words k a x y s t p q = p .1 .0 ∙ sym (q .1 .0)
 
 pub learn-signatures-types : FixesSeen learn-signatures.Post (λ k r s. now (s .1 .1 .1 .0))
 learn-signatures-types k a x y s t p q = p .1 .1 ∙ sym (q .1 .1)
+
+pub carve-unallocated-number : Fixes carve-unallocated.Post
+carve-unallocated-number k a x y s t p q = p .0 ∙ sym (q .0)
+
+pub carve-unallocated-words : FixesSeen carve-unallocated.Post (λ k r s. now (s .1 .1 .1 .1 .1 .0))
+carve-unallocated-words k a x y s t p q = p .1 .0 ∙ sym (q .1 .0)
+
+pub carve-unallocated-rows : FixesSeen carve-unallocated.Post (λ k r s. now (s .1 .1 .1 .0))
+carve-unallocated-rows k a x y s t p q = p .1 .1 .0 ∙ sym (q .1 .1 .0)
+
+pub carve-unallocated-cols : FixesSeen carve-unallocated.Post (λ k r s. now (s .1 .1 .1 .1 .0))
+carve-unallocated-cols k a x y s t p q = p .1 .1 .1 ∙ sym (q .1 .1 .1)

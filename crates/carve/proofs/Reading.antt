@@ -2,13 +2,12 @@
 -- Assumes nothing.
 use Prim.Native.Nat.{ℕ, zero, suc, _+_, _-_, _≤_, _<_}
 use mathlib.Core.Path.{_≡_, refl, sym, ap, _∙_}
-use mathlib.Core.List.{List, [], _∷_, _++_, append-nil}
+use mathlib.Core.List.{List, [], _∷_, _++_}
 use native.Mathlib.Omega.{arith}
 use borrow.Author.Tests.{lt-ltb, le-ltb}
 use lib.ListN.{length, length-append}
 use Rattle.carve.specs.Found.{Types, cut, read, typeBefore, typesFrom}
-use Rattle.carve.specs.Inner.{WholeIs, TypesAre, kindsAt}
-use Rattle.carve.specs.declared.inner.TypesRead.the-variants.{Whole, Cut}
+use Rattle.carve.specs.Inner.{WholeIs, kindsAt}
 use Rattle.record.proofs.Laws.{varint-lies}
 use Rattle.record.proofs.Numbers.{by-order}
 use Rattle.record.specs.Varint.{varintAt}

@@ -1,16 +1,16 @@
 -- One attempt: each way out, and what is known of a row that is found.
 -- Assumes nothing.
 use Prim.Native.Nat.{ℕ, _+_, _-_, _≤_, _<_}
-use mathlib.Core.Path.{_≡_, refl, sym, ap, _∙_}
+use mathlib.Core.Path.{_≡_, refl, sym, _∙_}
 use mathlib.Core.Bool.{Bool, true, false, cond, _&&_}
-use mathlib.Core.List.{List, [], _∷_}
+use mathlib.Core.List.{List}
 use native.Mathlib.Omega.{arith}
 use borrow.Author.Tests.{le-leb, lt-leb, le-ltb, lt-ltb}
 use lib.Dec.{ltb}
 use lib.ListN.{length}
 use Rattle.carve.proofs.Reading.{typed}
 use Rattle.carve.proofs.Trying.{find-fits, again}
-use Rattle.carve.specs.Found.{Types, cut, read, typesFrom, columnsFrom, Found, Tried, miss, hit}
+use Rattle.carve.specs.Found.{Types, cut, read, typesFrom, columnsFrom, Found, miss, hit}
 use Rattle.carve.specs.Inner.{WholeIs, HitIs}
 use Rattle.record.proofs.Laws.{varint-lies}
 use Rattle.record.proofs.Numbers.{by-order}
@@ -20,7 +20,7 @@ use Rattle.record.specs.declared.varint.Varint.{Varint}
 use Rattle.record.specs.declared.varint.Varint.the-variants.{Value, Short}
 use Rattle.sheet.specs.Limits.{mostColumns, largestRegion}
 use Rattle.unalloc.specs.Inner.{Headed, AllIs, FailsIs}
-use Rattle.unalloc.specs.Learned.{mostHeader, matched, learnedStyle, allThere, judged, judgedTypes, attemptWith, attemptAt}
+use Rattle.unalloc.specs.Learned.{mostHeader, matched, learnedStyle, allThere, judged, judgedTypes, attemptAt}
 
 never : {C : Type 0} {x : Found} → miss ≡ hit x → C
 never e = let z : _≡_ {A = ℕ} 0 1 = cc in absurd (omega arith)

@@ -3,7 +3,7 @@
 -- Assumes nothing.
 use Prim.Native.Nat.{ℕ, zero, suc, _+_, _*_, _≤_}
 use mathlib.Core.Path.{_≡_, refl}
-use mathlib.Core.List.{List, [], _∷_}
+use mathlib.Core.List.{List}
 use contract.Lifetimes.{Lfts}
 use denote.Ref.{now}
 use denote.Triple.Clauses.{AtExit}
@@ -11,7 +11,7 @@ use borrow.Fn.Kinds.{Dens, resT, endedOf}
 use lib.ListN.{length}
 use Rattle.carve.proofs.Entries.{AllFew, ReadBack}
 use Rattle.carve.proofs.ReadBack.{written-read}
-use Rattle.carve.specs.Found.{Found, Tried, miss, hit, endOf}
+use Rattle.carve.specs.Found.{Tried, miss, hit, endOf}
 use Rattle.record.proofs.Numbers.{by-order}
 use Rattle.sheet.specs.Columns.{roomOf}
 use Rattle.sheet.specs.Filled.{filledWritten}

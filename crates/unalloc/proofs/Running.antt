@@ -1,7 +1,7 @@
 -- A region from attempt to attempt: the rows so far, with those still to come, are all of them.
 -- Assumes nothing.
 use Prim.Native.Nat.{ℕ, zero, suc, _+_, _*_, _≤_, _<_}
-use mathlib.Core.Path.{_≡_, refl, sym, ap, _∙_}
+use mathlib.Core.Path.{_≡_, refl, ap, _∙_}
 use mathlib.Core.Bool.{false}
 use mathlib.Core.List.{List, [], _∷_}
 use native.Mathlib.Omega.{arith}
@@ -11,7 +11,7 @@ use lib.Seq.{sets}
 use Rattle.carve.proofs.Bodies.{end-inside}
 use Rattle.carve.proofs.Carving.{Carving, carving-start, carving-as, carving-done, carving-over, carving-one}
 use Rattle.carve.proofs.Writing.{few-columns}
-use Rattle.carve.specs.Found.{Found, Tried, miss, hit, endOf, hitOf, hitsOf}
+use Rattle.carve.specs.Found.{Found, miss, hit, endOf, hitOf, hitsOf}
 use Rattle.carve.specs.Inner.{foundIn, HitIs, Ready, Filling}
 use Rattle.carve.specs.declared.inner.Find.{Find}
 use Rattle.sheet.proofs.Laws.{none-holds, count-fits}

@@ -1,13 +1,13 @@
 -- What the code carries between its own functions; nothing that a caller has to believe.
 -- Assumes nothing.
-use Prim.Native.Nat.{ℕ, _+_, _≤_}
+use Prim.Native.Nat.{ℕ, _≤_}
 use mathlib.Core.Path.{_≡_}
-use mathlib.Core.Bool.{Bool, true, false, cond}
+use mathlib.Core.Bool.{true, false, cond}
 use mathlib.Core.List.{List}
 use lib.ListN.{length, getD}
-use Rattle.carve.specs.Found.{Types, cut, read, typesFrom, columnsFrom}
-use Rattle.sheet.specs.Limits.{mostColumns, largestRegion, largestBase}
-use Rattle.unalloc.specs.Learned.{mostHeader, matches, matched, allThere}
+use Rattle.carve.specs.Found.{Types, cut, read, columnsFrom}
+use Rattle.sheet.specs.Limits.{mostColumns, largestRegion}
+use Rattle.unalloc.specs.Learned.{matches, matched, allThere}
 use Rattle.unalloc.specs.declared.unalloc.Walk.{Walk}
 use Rattle.unalloc.specs.declared.unalloc.Walk.the-variants.{Whole, Fails}
 

@@ -1,6 +1,5 @@
 -- `carve::carver::carve_one` meets its contract: nothing was found, or there is no room, or one row is written.
 -- Assumes nothing.
-use native.Mathlib.Omega.{arith}
 use borrow.Author.Needs.{needs}
 use denote.Ref.{now}
 use Rattle.carve.proofs.Writing.{few-columns, fitting}

@@ -1,7 +1,6 @@
 -- `unalloc::unalloc::carve_rows` meets its contract: what the loop has written are the rows so far (`Rows`).
 -- Assumes nothing.
-use Prim.Native.Nat.{_+_, _-_, _≤_}
-use mathlib.Core.Path.{_≡_}
+use Prim.Native.Nat.{_-_}
 use native.Mathlib.Omega.{arith}
 use borrow.Author.Needs.{needs}
 use denote.Ref.{now}

@@ -1,6 +1,5 @@
 -- `unalloc::unalloc::fill` meets its contract: the first row is written behind none.
 -- Assumes nothing.
-use native.Mathlib.Omega.{arith}
 use borrow.Author.Needs.{needs}
 use Rattle.unalloc.proofs.unalloc.fill.Statement.{statement}
 use Rattle.unalloc.proofs.unalloc.fill.Tie as tie

@@ -1,6 +1,5 @@
 -- `unalloc::unalloc::is_blob` meets its contract: each way out rewrites the definition by the test on the way.
 -- Assumes nothing.
-use borrow.Author.Needs.{needs}
 use borrow.Author.Tests.{le-leb, lt-leb}
 use Rattle.unalloc.proofs.unalloc.is_blob.Statement.{statement}
 use Rattle.unalloc.proofs.unalloc.is_blob.Tie as tie

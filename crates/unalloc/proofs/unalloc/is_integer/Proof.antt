@@ -1,7 +1,6 @@
 -- `unalloc::unalloc::is_integer` meets its contract: each way out rewrites the definition by the tests on the way.
 -- Assumes nothing.
 use native.Mathlib.Omega.{arith}
-use borrow.Author.Needs.{needs}
 use borrow.Author.Tests.{le-leb, lt-leb, eq-eqb, ne-eqb}
 use Rattle.unalloc.proofs.unalloc.is_integer.Statement.{statement}
 use Rattle.unalloc.proofs.unalloc.is_integer.Tie as tie

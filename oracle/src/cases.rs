@@ -1,9 +1,11 @@
 //! The cases: fixed ones for every boundary of the rules, short inputs exhaustively, and random ones.
 
+pub mod blocks;
 pub mod bytes;
 pub mod chains;
 pub mod databases;
 pub mod entries;
+pub mod gaps;
 pub mod large;
 pub mod limits;
 pub mod numbers;
@@ -48,6 +50,9 @@ const GROUPS: [(usize, Group); 8] = [
 /// The same for the calls on pages, whose random cases come on top.
 const PAGE_GROUPS: [(usize, Group); 4] = [(1, numbers::all), (30, chains::all), (8, walks::all), (8, tables::all)];
 
+/// The same for the carver of gaps and freed blocks.
+const GAP_GROUPS: [(usize, Group); 3] = [(36, gaps::all), (12, gaps::walks), (30, blocks::all)];
+
 /// The calls on values, regions and statements.
 pub fn all(sink: &mut dyn Sink, plan: &Plan) {
     groups(sink, plan, &GROUPS, 0);
@@ -61,6 +66,14 @@ pub fn pages(sink: &mut dyn Sink, plan: &Plan) {
     groups(sink, plan, &PAGE_GROUPS, GROUPS.len());
     if plan.large {
         large::databases(sink, plan.long);
+    }
+}
+
+/// The carver of gaps and freed blocks.
+pub fn gaps(sink: &mut dyn Sink, plan: &Plan) {
+    groups(sink, plan, &GAP_GROUPS, GROUPS.len() + PAGE_GROUPS.len());
+    if plan.large {
+        large::gaps(sink);
     }
 }
 

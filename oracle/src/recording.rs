@@ -1,6 +1,6 @@
 //! Cases with their answers in one file, for a program that has no Rust at hand. README.md has the format.
 
-use crate::calls::{self, Given};
+use crate::calls::{self, Given, RECOVER_SLICE};
 use crate::case::{Answer, Case};
 use crate::cases::{self, limits, regions, telling, Plan};
 use crate::compare::{against_the_rust, expected, Asked};
@@ -14,6 +14,9 @@ use std::{fs, io, path::Path};
 /// Slices and cells of a recorded case, and bytes of the whole file, at most.
 const LARGEST_CASE: usize = 1200;
 const LARGEST_FILE: usize = 2_000_000;
+
+/// The program that replays them has no call behind this one yet.
+const LAST_CALL: u8 = RECOVER_SLICE;
 
 /// Cases of one kind: the first few, and then ever fewer of the many.
 const FIRST: usize = 8;
@@ -63,7 +66,7 @@ impl Recorder {
             return;
         }
         let (answer, asked) = expected(&self.limits, case);
-        if let Some(why) = against_the_rust(&asked).filter(|_| asked != Asked::Panicked) {
+        if let Some(why) = against_the_rust(case, &asked) {
             self.differs = Some(format!("{why}: {}", text::line(case)));
             return;
         }
@@ -76,7 +79,7 @@ impl Recorder {
 
 /// A head has room for two slices of bytes and two lists: walks take more.
 fn fits(case: &Case) -> bool {
-    case.size() <= LARGEST_CASE && case.words.is_empty() && case.lists.len() <= 2
+    case.size() <= LARGEST_CASE && case.words.is_empty() && case.lists.len() <= 2 && case.call <= LAST_CALL
 }
 
 /// A head of eighteen words, then the bytes of the slices, then the written cells of the lists.

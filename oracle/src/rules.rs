@@ -3,6 +3,7 @@
 
 pub mod attempt;
 pub mod freeblock;
+pub mod gap;
 pub mod limits;
 pub mod page;
 pub mod statement;

@@ -1,8 +1,10 @@
 //! The comparison can fail: with one number of the rules changed by one, a difference must be found and cut down,
 //! against our side and, where the Rust has that number too, against the Rust.
 
-use crate::calls::{CALLS, COMPATIBLE, LEAVES, PAGE_DATA, READ_VARINT, RECOVER, RECOVER_SLICE, SCAN, STATEMENT};
-use crate::cases::{chains, large, limits, numbers, statements, tables, values, varints, walks};
+use crate::calls::{BLOCK, CALLS, COMPATIBLE, GAP_SLICE, LEAVES, PAGE_DATA, READ_VARINT, RECOVER, RECOVER_SLICE};
+use crate::calls::{SCAN, STATEMENT};
+use crate::cases::gaps::{self, AsGaps};
+use crate::cases::{blocks, chains, large, limits, numbers, statements, tables, values, varints, walks};
 use crate::random::Random;
 use crate::rules::limits::Limits;
 use crate::runner::{Runner, Sides, Sink};
@@ -212,6 +214,102 @@ const CHANGES: &[Change] = &[
         cases: tables::all,
         in_the_rust: false,
         at_most: 130,
+    },
+    Change {
+        what: "cell pointers of a leaf begin behind 7 bytes",
+        change: |l| l.leaf_header = 7,
+        call: GAP_SLICE,
+        cases: |sink, _, _| gaps::bounds(&mut AsGaps(sink)),
+        in_the_rust: true,
+        at_most: 20,
+    },
+    Change {
+        what: "cell pointers of a leaf begin behind 9 bytes",
+        change: |l| l.leaf_header = 9,
+        call: GAP_SLICE,
+        cases: |sink, _, _| gaps::bounds(&mut AsGaps(sink)),
+        in_the_rust: true,
+        at_most: 20,
+    },
+    Change {
+        what: "a content start of 0 is 65,535",
+        change: |l| l.whole_page = 65_535,
+        call: GAP_SLICE,
+        cases: |sink, _, _| gaps::whole_page(&mut AsGaps(sink)),
+        in_the_rust: true,
+        at_most: 65_600,
+    },
+    Change {
+        what: "a content start of 0 is 65,537",
+        change: |l| l.whole_page = 65_537,
+        call: GAP_SLICE,
+        cases: |sink, _, _| gaps::whole_page(&mut AsGaps(sink)),
+        in_the_rust: true,
+        at_most: 65_600,
+    },
+    Change {
+        what: "1,023 blocks of a chain are looked at",
+        change: |l| l.chain_steps = 1023,
+        call: GAP_SLICE,
+        cases: |sink, _, _| gaps::steps(&mut AsGaps(sink)),
+        in_the_rust: true,
+        at_most: 8_300,
+    },
+    Change {
+        what: "1,025 blocks of a chain are looked at",
+        change: |l| l.chain_steps = 1025,
+        call: GAP_SLICE,
+        cases: |sink, _, _| gaps::steps(&mut AsGaps(sink)),
+        in_the_rust: true,
+        at_most: 8_300,
+    },
+    Change {
+        what: "a rebuilt row's confidence is times the float behind 0.9",
+        change: |l| l.rebuilt = 0.9f32.next_up(),
+        call: BLOCK,
+        cases: |sink, _, _| blocks::rebuilt(sink),
+        in_the_rust: true,
+        at_most: 14,
+    },
+    Change {
+        what: "a rebuilt row of 65,535 bytes is too long",
+        change: |l| l.rebuilt_consumed = 65_534,
+        call: BLOCK,
+        cases: |sink, _, _| blocks::long_rows(sink),
+        in_the_rust: true,
+        at_most: 65_600,
+    },
+    Change {
+        what: "a rebuilt row may have 65,536 bytes",
+        change: |l| l.rebuilt_consumed = 65_536,
+        call: BLOCK,
+        cases: |sink, _, _| blocks::long_rows(sink),
+        in_the_rust: true,
+        at_most: 65_600,
+    },
+    Change {
+        what: "a cell's row of 65,536 bytes is too long",
+        change: |l| l.consumed = 65_535,
+        call: BLOCK,
+        cases: |sink, _, _| blocks::long_rows(sink),
+        in_the_rust: true,
+        at_most: 65_600,
+    },
+    Change {
+        what: "a percent is the nearest whole one",
+        change: |l| l.percent = |confidence| (confidence * 100.0).round() as u64,
+        call: GAP_SLICE,
+        cases: |sink, _, _| gaps::shares(&mut AsGaps(sink)),
+        in_the_rust: true,
+        at_most: 60,
+    },
+    Change {
+        what: "a percent is cut off before it is rounded to a float",
+        change: |l| l.percent = |confidence| (f64::from(confidence) * 100.0) as u64,
+        call: GAP_SLICE,
+        cases: |sink, _, _| gaps::shares(&mut AsGaps(sink)),
+        in_the_rust: true,
+        at_most: 700,
     },
     Change {
         what: "a database of 16,777,216 bytes is refused",

@@ -1,10 +1,13 @@
 //! Cuts a differing case down: whatever can go while the case still differs, goes.
 
 use crate::case::Case;
+use std::time::{Duration, Instant};
 
-/// What trying may cost: each try counts its bytes and cells, and a little for itself.
+/// What trying may cost: each try counts its bytes and cells, and a little for itself. On long blocks the Rust is slow,
+/// and then it is the time that ends it.
 const BUDGET: usize = 150_000_000;
 const EACH_TRY: usize = 5_000;
+const TIME: Duration = Duration::from_secs(10);
 
 /// Only slices below this have their bytes made plainer one by one.
 const SHORT: usize = 2000;
@@ -16,11 +19,12 @@ struct Shrink<D> {
     best: Case,
     differs: D,
     left: usize,
+    until: Instant,
     changed: bool,
 }
 
 pub fn shrink(case: Case, differs: impl FnMut(&Case) -> bool) -> Case {
-    let mut shrink = Shrink { best: case, differs, left: BUDGET, changed: true };
+    let mut shrink = Shrink { best: case, differs, left: BUDGET, until: Instant::now() + TIME, changed: true };
     while shrink.changed {
         shrink.changed = false;
         shrink.pass();
@@ -60,7 +64,8 @@ impl<D: FnMut(&Case) -> bool> Shrink<D> {
     /// Takes the changed case in place of the best one, if it differs too.
     fn try_with(&mut self, change: impl FnOnce(&mut Case)) -> bool {
         let cost = EACH_TRY + self.best.size();
-        if self.left < cost {
+        if self.left < cost || Instant::now() > self.until {
+            self.left = 0;
             return false;
         }
         self.left -= cost;

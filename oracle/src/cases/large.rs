@@ -1,9 +1,11 @@
 //! Slices of the largest size and one more.
 
 use super::databases::Database;
+use super::gaps::AsGaps;
 use super::limits::refusals;
 use super::regions::{attempt, lists, scan};
 use super::{chains, tables};
+use crate::calls::{BLOCK, GAPS, GAP_PAGE, GAP_SLICE};
 use crate::calls::{LEAVES, PAGE_DATA, RECOVER, RECOVER_PAGE, RECOVER_SLICE, SCAN, SEARCH, STATEMENT};
 use crate::case::Case;
 use crate::random::Random;
@@ -123,6 +125,34 @@ pub fn slices(sink: &mut dyn Sink, length: usize) {
     page[65_535..65_541].copy_from_slice(&[0, 8, 0, 6, 2, 8]);
     sink.put(Case::new(RECOVER_SLICE, &[0, 1 << 48], &[&page, &[0]], &lists(1, 1)));
     sink.put(Case::new(RECOVER_SLICE, &[length as u64 - 4, 0], &[&page, &[0]], &lists(1, 1)));
+}
+
+/// Pages and freed blocks of the largest size and one more; refusal 3 with each that comes before it and each behind.
+pub fn gaps(sink: &mut dyn Sink) {
+    for length in LARGEST - 1..=LARGEST + 1 {
+        database(&mut AsGaps(sink), 65_536, length);
+        slices(&mut AsGaps(sink), length);
+    }
+    freed(sink, LARGEST);
+    freed(sink, LARGEST + 1);
+    let bytes = vec![2; LARGEST + 1];
+    for hints in [&[][..], &[6], &[0]] {
+        for base in [0, 1 << 60] {
+            sink.put(Case::new(BLOCK, &[base], &[&bytes, hints], &[0, 0]));
+            sink.put(Case::new(GAP_SLICE, &[0, base], &[&bytes, hints], &[0, 0]));
+        }
+        sink.put(Case::new(GAP_PAGE, &[0, 0], &[&bytes, hints], &[0, 0]));
+        let lent = Case::new(GAPS, &[0], &[&bytes, hints], &[0, 0, 0, 0]);
+        sink.put(lent.with_words(&[&[1], &[hints.len() as u64]]));
+    }
+}
+
+/// A freed block with a cell at either end, and nothing between.
+pub fn freed(sink: &mut dyn Sink, length: usize) {
+    let mut payload = vec![0x80; length];
+    payload[..5].copy_from_slice(&[3, 7, 2, 1, 9]);
+    payload[length - 5..].copy_from_slice(&[3, 8, 2, 1, 9]);
+    sink.put(Case::new(BLOCK, &[1 << 48], &[&payload, &[0]], &lists(8, 1)));
 }
 
 /// Long statements: with columns, with none, and without brackets.

@@ -26,6 +26,15 @@ pub struct Limits {
     pub starts: usize,
     /// What confidence is multiplied with in a free block.
     pub freed: f32,
+    /// The content start that 0 stands for.
+    pub whole_page: usize,
+    /// How many blocks of a chain the gap's carver looks at.
+    pub chain_steps: usize,
+    /// What confidence is multiplied with where a header is rebuilt, and how many bytes such a row has at most.
+    pub rebuilt: f32,
+    pub rebuilt_consumed: u64,
+    /// The percent of a confidence.
+    pub percent: fn(f32) -> u64,
 }
 
 pub const WORDS_PER_ROW: usize = 8;
@@ -54,6 +63,11 @@ impl Limits {
             least_block: 4,
             starts: 20,
             freed: 0.6,
+            whole_page: 65_536,
+            chain_steps: 1024,
+            rebuilt: 0.9,
+            rebuilt_consumed: 65_535,
+            percent: |confidence| (confidence * 100.0) as u64,
         }
     }
 

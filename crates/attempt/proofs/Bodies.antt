@@ -1,19 +1,19 @@
 -- Bodies one behind the other: the total that the code carries decides as the definition does.
 -- Assumes nothing.
-use Prim.Native.Nat.{ℕ, zero, suc, _+_, _-_, _≤_, _<_, min}
-use mathlib.Core.Path.{_≡_, refl, sym, ap, _∙_}
+use Prim.Native.Nat.{ℕ, _+_, _-_, _≤_, _<_, min}
+use mathlib.Core.Path.{_≡_, refl, sym, ap, subst, _∙_}
 use mathlib.Core.Bool.{Bool, true, false, cond, _&&_}
 use mathlib.Core.List.{List, [], _∷_}
-use native.Mathlib.Nat.{add-zero, add-assoc}
+use native.Mathlib.Nat.{add-zero}
 use native.Mathlib.Omega.{arith}
 use lib.ListN.{length}
-use lib.Dec.{leb, ltb, eqb}
-use borrow.Author.Tests.{lt-ltb, le-ltb, le-leb, lt-leb, eq-eqb, ne-eqb, leb-true, leb-false}
+use lib.Dec.{ltb, eqb}
+use borrow.Author.Tests.{lt-ltb, le-ltb, le-leb, lt-leb, eq-eqb, ne-eqb}
 use Rattle.record.proofs.Numbers.{by-order}
 use Rattle.record.specs.Value.{bodyLength}
 use Rattle.record.specs.declared.record.Length.{Length}
 use Rattle.record.specs.declared.record.Length.the-variants.{Bytes, Reserved}
-use Rattle.attempt.specs.Attempt.{Bodies, unfit, laid, before, bodyOn, bodiesFrom, Tried, miss, hit, sized, judged, mostBytes}
+use Rattle.attempt.specs.Attempt.{Bodies, unfit, laid, before, bodiesFrom, miss, hit, sized, judged, mostBytes}
 use Rattle.attempt.specs.Hints.{suited}
 use Rattle.attempt.specs.Inner.{tooLong, sizeOr, bodySize, totalFrom, sizes, columnsAt}
 use Rattle.sheet.specs.declared.columns.Column.{Column}
@@ -63,28 +63,40 @@ lays len at (t ∷ ts) h lt in′ =
     let e : at + n + sizes ts ≡ at + (n + sizes ts) = omega arith in
     bodies-step len at t ts n (size-is t (omega arith)) (omega arith) ∙ rw (rest, e)
 
-pub never : {C : Type 0} {cs : List Column} {end : ℕ} → unfit ≡ laid cs end → C
+never : {C : Type 0} {cs : List Column} {end : ℕ} → unfit ≡ laid cs end → C
 never e = let z : _≡_ {A = ℕ} 0 1 = cc in absurd (omega arith)
 
 -- a column before bodies that are laid
-pub behind : (c : Column) (b : Bodies) (cs : List Column) (end : ℕ) → before c b ≡ laid cs end → (ds : List Column) × (b ≡ laid ds end) × (c ∷ ds ≡ cs)
+behind : (c : Column) (b : Bodies) (cs : List Column) (end : ℕ) → before c b ≡ laid cs end → (ds : List Column) × (b ≡ laid ds end) × (c ∷ ds ≡ cs)
 behind c unfit cs end e = never e
 behind c (laid ds end′) cs end e = let z : end′ ≡ end = cc in (ds, rw z, cc)
 
+-- what holds where no body is left, and of one before others, holds of bodies that are laid
+module _ (len end : ℕ) (P : ℕ → List ℕ → List Column → Type 0) (none : P end [] [])
+    (more : (at t : ℕ) (ts : List ℕ) (n : ℕ) (ds : List Column) → bodyLength t ≡ Bytes n → at + n ≤ len → P (at + n) ts ds → P at (t ∷ ts) (Body t at n ∷ ds)) where
+  pub over-laid : (at : ℕ) (ts : List ℕ) (cs : List Column) → bodiesFrom len at ts ≡ laid cs end → P at ts cs
+  over-laid at [] cs e =
+      let z : laid [] at ≡ laid cs end = sym (bodies-end len at) ∙ e in
+      let a : at ≡ end = cc in
+      let b : [] ≡ cs = cc in
+      rw (a, ← b) none
+  over-laid at (t ∷ ts) cs e = go (bodyLength t) refl (λ k ds d. over-laid k ts ds d)
+    where
+      go : (l : Length) → bodyLength t ≡ l → ((k : ℕ) (ds : List Column) → bodiesFrom len k ts ≡ laid ds end → P k ts ds) → P at (t ∷ ts) cs
+      go Reserved l rest = never (sym (bodies-none len at t ts l) ∙ e)
+      go (Bytes n) l rest =
+          by-order len (at + n) (λ out. never (sym (bodies-out len at t ts n l out) ∙ e))
+          (λ in′.
+          let b = behind (Body t at n) (bodiesFrom len (at + n) ts) cs end (sym (bodies-step len at t ts n l in′) ∙ e) in
+          subst (λ (l : List Column). P at (t ∷ ts) l) (b .2) (more at t ts n (b .0) l in′ (rest (at + n) (b .0) (b .1))))
+
 -- where bodies that were laid end
 pub laid-ends : (len : ℕ) (at : ℕ) (ts : List ℕ) (cs : List Column) (end : ℕ) → at ≤ len → bodiesFrom len at ts ≡ laid cs end → (end ≡ at + sizes ts) × (end ≤ len)
-laid-ends len at [] cs end h e = let z : at ≡ end = cc (bodies-end len at) in (omega arith, omega arith)
-laid-ends len at (t ∷ ts) cs end h e = go (bodyLength t) refl (λ k h′ cs′ e′. laid-ends len k ts cs′ end h′ e′)
-  where
-    go : (l : Length) → bodyLength t ≡ l → ((k : ℕ) → k ≤ len → (cs′ : List Column) → bodiesFrom len k ts ≡ laid cs′ end → (end ≡ k + sizes ts) × (end ≤ len))
-        → (end ≡ at + sizes (t ∷ ts)) × (end ≤ len)
-    go Reserved l rest = never (sym (bodies-none len at t ts l) ∙ e)
-    go (Bytes n) l rest =
-        by-order len (at + n) (λ out. never (sym (bodies-out len at t ts n l out) ∙ e))
-        (λ in′.
-        let b = behind (Body t at n) (bodiesFrom len (at + n) ts) cs end (sym (bodies-step len at t ts n l in′) ∙ e) in
-        let r = rest (at + n) in′ (b .0) (b .1) in
-        (omega (arith, r .0, size-of t n l), r .1))
+laid-ends len at ts cs end h e =
+    over-laid len end (λ at ts cs. at ≤ len → (end ≡ at + sizes ts) × (end ≤ len))
+    (λ h. (omega arith, h))
+    (λ at t ts n ds l in′ rest h. let r = rest in′ in (omega (arith, size-of t n l), r .1))
+    at ts cs e h
 
 -- ---- what the types of the header of h bytes at o come to
 module _ (len : ℕ) (hints : List ℕ) (o h : ℕ) (ts : List ℕ) (inside : o + h ≤ len) where

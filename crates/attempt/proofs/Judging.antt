@@ -123,7 +123,7 @@ module _ (s : List ℕ) (o h : ℕ) (c : Cursor) (e : varintAt s o ≡ Value h c
   pub headed : 2 ≤ h → h ≤ mostHeader → h ≤ length s - o → o ≤ length s → Headed s o h (c .at)
   headed low high in′ l =
       let z = varint-lies s o h c e in
-      record { low = low; high = high; inside = omega arith; past = z .past; near = z .nine; within = z .inside }
+      record { low = omega arith; high = high; inside = omega arith; past = omega (arith, z .past); near = z .nine; within = z .inside }
 
 pub fits-is : (len o h : ℕ) → headerFits len o h ≡ true → (2 ≤ h) × (h ≤ mostHeader) × (h ≤ len - o)
 unfolding headerFits

@@ -61,12 +61,12 @@ headerTypes s o h from = typesFrom h s from (o + h)
 
 -- ---- what the functions ask and give
 
--- a header of h bytes at o lies in the region, and its own number ends at `from`
+-- a header of h bytes at o lies in the region, and its types start at `from`, behind its own number if that stands there
 pub record Headed (s : List ℕ) (o h from : ℕ) : Type 0 where
-  pub low : 2 ≤ h
+  pub low : 1 ≤ h
   pub high : h ≤ mostHeader
   pub inside : o + h ≤ length s
-  pub past : o < from
+  pub past : o ≤ from
   pub near : from ≤ o + 9
   pub within : from ≤ length s
 

@@ -1,5 +1,6 @@
 pub mod Attempt
 pub mod Hints
 pub mod Inner
+pub mod Moved
 pub mod Places
 pub mod Values

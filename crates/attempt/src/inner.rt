@@ -168,8 +168,8 @@ fn walk_types(bytes: &[u8], hints: &[u8], o: usize, head: usize, from: usize) ->
     }
 }
 
-// Whether the types of a header make a row.
-fn judge(bytes: &[u8], hints: &[u8], o: usize, head: usize, from: usize) -> Verdict
+// Whether the types that stand behind `from` in the header of `head` bytes at o make a row; its own number need not stand there.
+pub fn given_header(bytes: &[u8], hints: &[u8], o: usize, head: usize, from: usize) -> Verdict
     requires { ⌜ Headed (now bytes) o head from ⌝ }
     ensures { λ r. ⌜ Judged (now (bytes .entry)) (now (hints .entry)) o head from r ⌝ }
 {
@@ -225,7 +225,7 @@ pub fn attempt(bytes: &[u8], hints: &[u8], o: usize) -> Verdict
     if head > bytes.len() - o {
         return Verdict::Miss(own);
     }
-    judge(bytes, hints, o, head, from)
+    given_header(bytes, hints, o, head, from)
 }
 
 // Writes the columns whose types stand behind `from` in the header of `head` bytes at o; the bodies start at its end. The bytes lie `by` bytes

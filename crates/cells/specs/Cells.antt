@@ -1,12 +1,13 @@
 -- Rows in the payload of a freed block (rules 11.4 to 11.7): whole cells, then records whose header's length is lost.
 -- Assumes nothing.
 use Prim.Native.Nat.{ℕ, zero, suc, _+_, _-_}
-use mathlib.Core.Bool.{Bool, cond}
+use mathlib.Core.Bool.{Bool, true, false, cond}
 use mathlib.Core.List.{List, [], _∷_, _++_}
 use lib.Dec.{ltb, leb}
 use lib.Ieee.{Float}
 use lib.ListN.{length, take, drop}
 use Rattle.attempt.specs.Attempt.{Found, Tried, miss, hit, attemptAt}
+use Rattle.attempt.specs.Moved.{back}
 use Rattle.hit.specs.Hit.{rowAt, hitOf}
 use Rattle.hit.specs.declared.inner.Spot.{Spot}
 use Rattle.page.specs.Page.{among}
@@ -14,8 +15,6 @@ use Rattle.record.specs.Varint.{varintAt}
 use Rattle.record.specs.declared.varint.Varint.{Varint}
 use Rattle.record.specs.declared.varint.Varint.the-variants.{Value, Short}
 use Rattle.sheet.specs.Confidence.{share, rebuiltShare, percentOf}
-use Rattle.sheet.specs.declared.columns.Column.{Column}
-use Rattle.sheet.specs.declared.columns.Column.the-variants.{Body, Unfit, Lost, Unused}
 use Rattle.sheet.specs.declared.row.RowId.{RowId}
 use Rattle.sheet.specs.declared.row.RowId.the-variants.{Absent, Present}
 use Rattle.sheet.specs.declared.row.Source.the-variants.{CarvedIntraPage}
@@ -72,19 +71,9 @@ abbrev pub Rebuilder : Type 0
 Rebuilder = List ℕ → List ℕ → ℕ → Tried
 
 -- what was found behind one made-up byte, said of the bytes without it
-abbrev pub unmadeOne : Column → Column
-unmadeOne (Body kind start len) = Body kind (start - 1) len
-unmadeOne (Unfit kind) = Unfit kind
-unmadeOne Lost = Lost
-unmadeOne Unused = Unused
-
-abbrev pub unmade : List Column → List Column
-unmade [] = []
-unmade (c ∷ cs) = unmadeOne c ∷ unmade cs
-
 abbrev pub withoutByte : Tried → Tried
 withoutByte miss = miss
-withoutByte (hit x) = hit (record { consumed = x .consumed - 1; matched = x .matched; columns = unmade (x .columns) })
+withoutByte (hit x) = hit (record { consumed = x .consumed - 1; matched = x .matched; columns = back 1 (x .columns) })
 
 -- Rule 11.6: an attempt on one made-up byte, columns + 1, before the bytes from v on
 unfoldable pub oneByte : Rebuilder
@@ -116,16 +105,17 @@ abbrev pub cellHits : Spot → ℕ → ℕ → List CellRow → List Hit
 cellHits spot columns o [] = []
 cellHits spot columns o (c ∷ cs) = cellHit spot columns (o + c .at) (c .id) (c .found) ∷ cellHits spot columns o cs
 
--- Rule 11.6: a start at which the record of a cell starts is passed over
-abbrev pub startHits : Spot → ℕ → ℕ → List ℕ → ℕ → Tried → List Hit
-startHits spot columns o cells v miss = []
-startHits spot columns o cells v (hit x) = cond (among v cells) [] (rebuiltHit spot columns (o + v) x ∷ [])
+-- Rule 11.6: a start that is passed over gives no row
+abbrev pub startHits : Spot → ℕ → ℕ → ℕ → Bool → Tried → List Hit
+startHits spot columns o v true t = []
+startHits spot columns o v false miss = []
+startHits spot columns o v false (hit x) = rebuiltHit spot columns (o + v) x ∷ []
 
--- of k starts, from v on
+-- Rule 11.6: of k starts, from v on; one at which the record of a cell starts is passed over
 unfoldable pub rebuiltFrom : ℕ → Rebuilder → Spot → ℕ → List ℕ → List ℕ → List ℕ → ℕ → List Hit
 rebuiltFrom zero rebuild spot o cells d hints v = []
 rebuiltFrom (suc k) rebuild spot o cells d hints v =
-    startHits spot (length hints) o cells v (rebuild d hints v) ++ rebuiltFrom k rebuild spot o cells d hints (suc v)
+    startHits spot (length hints) o v (among v cells) (rebuild d hints v) ++ rebuiltFrom k rebuild spot o cells d hints (suc v)
 
 -- Rules 11.5 and 11.6: cells first, then what is rebuilt
 unfoldable pub payloadHits : Rebuilder → Spot → ℕ → List ℕ → List ℕ → List Hit

@@ -1,4 +1,5 @@
 // Cells that stand whole in a payload, one behind the other.
+use crate::turn::Turn;
 use attempt::inner::Find;
 use attempt::inner::Verdict;
 use attempt::inner::attempt;
@@ -15,15 +16,14 @@ use sheet::row::Row;
 use sheet::row::RowId;
 use sheet::row::Source;
 use walk::inner::Carved;
-ghost use mathlib.Core.Path.{_≡_};
 ghost use mathlib.Core.Bool.{false};
 ghost use mathlib.Core.List.{[], _∷_};
-ghost use Prim.Native.Nat.{_+_, _≤_};
+ghost use Prim.Native.Nat.{_+_, _≤_, _<_};
 ghost use lib.ListN.{length};
 ghost use Rattle.attempt.specs.Inner.{foundAt};
-ghost use Rattle.cells.specs.Cells.{cellHit, cellHits, cellsOf};
-ghost use Rattle.cells.specs.Inner.{CellIs, Part};
-ghost use Rattle.hit.specs.Inner.{Ready};
+ghost use Rattle.cells.specs.Cells.{cellAt, cellHit, cellHits, cellsOf};
+ghost use Rattle.cells.specs.Inner.{CellIs, cellsThere, nextPlace, turnAs, GoesTo};
+ghost use Rattle.hit.specs.Inner.{Laid, Ready};
 ghost use Rattle.sheet.specs.Limits.{largestRegion};
 ghost use Rattle.walk.specs.Inner.{carvedAs, Carves};
 
@@ -83,7 +83,7 @@ fn add_cell(
     rows: &mut [u64],
     cols: &mut [u64],
 ) -> Carved
-    requires { ⌜ Part (now body) find columns ⌝ }
+    requires { ⌜ Laid (now body) (record { o = 0; head = find .head; from = find .from; by = spot .start + o }) columns ⌝ }
     requires { ⌜ Ready (o + length (now body)) columns spot lent n (length (now rows)) (length (now cols)) ⌝ }
     ensures { λ r. ⌜ Carves (lent .width) (lent .room) n (cellHit spot columns o id (foundAt (now (body .entry)) 0 find) ∷ []) false (now (rows .entry)) (now (cols .entry)) (carvedAs r) (now (rows .exit)) (now (cols .exit)) ⌝ }
 {
@@ -106,6 +106,49 @@ fn add_cell(
     add_hit(body, at, columns, row, lent, n, rows, cols)
 }
 
+// One place: the row of the cell there, if there is one, and where the next is looked for.
+fn carve_place(
+    payload: &[u8],
+    hints: &[u8],
+    pos: usize,
+    spot: Spot,
+    o: usize,
+    lent: Lent,
+    n: usize,
+    rows: &mut [u64],
+    cols: &mut [u64],
+) -> Turn
+    requires { ⌜ pos < length (now payload) ⌝ }
+    requires { ⌜ Ready (o + length (now payload)) (length (now hints)) spot lent n (length (now rows)) (length (now cols)) ⌝ }
+    ensures rows { λ r. ⌜ Carves (lent .width) (lent .room) n (cellHits spot (length (now (hints .entry))) o (cellsThere (cellAt (now (payload .entry)) (now (hints .entry)) pos))) false (now (rows .entry)) (now (cols .entry)) (turnAs r) (now (rows .exit)) (now (cols .exit)) ⌝ }
+    ensures next { λ r. ⌜ GoesTo (nextPlace pos (cellAt (now (payload .entry)) (now (hints .entry)) pos)) r ⌝ }
+{
+    let Cell::At {
+        start,
+        end,
+        id,
+        find,
+    } = cell_at(payload, hints, pos)
+    else {
+        return Turn::On { next: pos + 1, n };
+    };
+    let Carved::On(m) = add_cell(
+        &payload[start..end],
+        find,
+        id,
+        hints.len(),
+        spot,
+        o + start,
+        lent,
+        n,
+        rows,
+        cols,
+    ) else {
+        return Turn::Full;
+    };
+    Turn::On { next: end, n: m }
+}
+
 // The cells of a payload that stands at o in its page.
 pub fn carve_cells(
     payload: &[u8],
@@ -120,39 +163,15 @@ pub fn carve_cells(
     requires { ⌜ Ready (o + length (now payload)) (length (now hints)) spot lent n (length (now rows)) (length (now cols)) ⌝ }
     ensures { λ r. ⌜ Carves (lent .width) (lent .room) n (cellHits spot (length (now (hints .entry))) o (cellsOf (now (payload .entry)) (now (hints .entry)))) false (now (rows .entry)) (now (cols .entry)) (carvedAs r) (now (rows .exit)) (now (cols .exit)) ⌝ }
 {
-    let columns = hints.len();
     let mut pos = 0;
     let mut m = n;
     while pos < payload.len() {
-        match cell_at(payload, hints, pos) {
-            Cell::Nothing => {
-                pos = pos + 1;
-            }
-            Cell::At {
-                start,
-                end,
-                id,
-                find,
-            } => {
-                let body = &payload[start..end];
-                let Carved::On(next) = add_cell(
-                    body,
-                    find,
-                    id,
-                    columns,
-                    spot,
-                    o + start,
-                    lent,
-                    m,
-                    rows,
-                    cols,
-                ) else {
-                    return Carved::Full;
-                };
-                m = next;
-                pos = end;
-            }
-        }
+        let Turn::On { next, n: k } = carve_place(payload, hints, pos, spot, o, lent, m, rows, cols)
+        else {
+            return Carved::Full;
+        };
+        pos = next;
+        m = k;
     }
     Carved::On(m)
 }

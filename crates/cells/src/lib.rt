@@ -2,3 +2,4 @@
 mod cell;
 pub mod inner;
 mod rebuilt;
+mod turn;

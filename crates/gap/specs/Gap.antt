@@ -66,12 +66,14 @@ abbrev pub blockThen : List ℕ → ℕ → List Block → List Block
 blockThen page at rest =
     cond (ltb (blockSize page at) 4 || ltb (length page) (at + blockSize page at)) rest (record { at = at; size = blockSize page at } ∷ rest)
 
--- Rule 11.3: the chain ends at 0, where a block's four bytes pass the page, at a next that is not larger, and after so many steps
+-- Rule 11.3: the chain ends at 0, and where a block's four bytes pass the page;
+unfoldable pub chainEnds : List ℕ → ℕ → Bool
+chainEnds page at = eqb at 0 || ltb (length page) (at + 4)
+
+-- and at a next that is not larger, and after so many steps
 unfoldable pub chainFrom : ℕ → List ℕ → ℕ → List Block
 chainFrom zero page at = []
-chainFrom (suc k) page at =
-    cond (eqb at 0 || ltb (length page) (at + 4)) []
-    (blockThen page at (cond (leb (blockNext page at) at) [] (chainFrom k page (blockNext page at))))
+chainFrom (suc k) page at = cond (chainEnds page at) [] (blockThen page at (cond (leb (blockNext page at) at) [] (chainFrom k page (blockNext page at))))
 
 abbrev pub mostSteps : ℕ
 mostSteps = 1024

@@ -1,14 +1,10 @@
 // One page, for our own crates.
+use crate::chain::carve_blocks;
 use crate::region::carve_gap;
-use cells::inner::carve_payload;
 use hit::inner::Lent;
 use hit::inner::Spot;
-use page::inner::block_next;
-use page::inner::block_size;
-use page::inner::first_freeblock;
 use walk::inner::Carved;
 ghost use mathlib.Core.Bool.{false};
-ghost use Prim.Native.Nat.{_+_};
 ghost use lib.ListN.{length};
 ghost use Rattle.cells.specs.Cells.{oneByte};
 ghost use Rattle.gap.specs.Gap.{gapHits, pageHits};
@@ -29,6 +25,15 @@ pub fn carve_page(
     requires { ⌜ Ready (length (now page)) (length (now hints)) spot lent n (length (now rows)) (length (now cols)) ⌝ }
     ensures { λ r. ⌜ Carves (lent .width) (lent .room) n (pageHits gapHits oneByte (now (page .entry)) head (now (hints .entry)) spot) false (now (rows .entry)) (now (cols .entry)) (carvedAs r) (now (rows .exit)) (now (cols .exit)) ⌝ }
 {
-    // to be written
-    Carved::On(n)
+    // The header's place may be any number, so nothing is added to it here.
+    if head > page.len() {
+        return Carved::On(n);
+    }
+    if page.len() - head < 8 {
+        return Carved::On(n);
+    }
+    let Carved::On(m) = carve_gap(page, head, hints, spot, lent, n, rows, cols) else {
+        return Carved::Full;
+    };
+    carve_blocks(page, head, hints, spot, lent, m, rows, cols)
 }

@@ -6,6 +6,8 @@ use hit::inner::Head;
 use hit::inner::Lent;
 use hit::inner::Spot;
 use hit::inner::add_hit;
+use page::inner::cell_count;
+use page::inner::content_start;
 use sheet::confidence::percent;
 use sheet::confidence::suited_share;
 use sheet::row::Mode;
@@ -13,3 +15,158 @@ use sheet::row::Row;
 use sheet::row::RowId;
 use sheet::row::Source;
 use walk::inner::Carved;
+ghost use mathlib.Core.Path.{_≡_};
+ghost use mathlib.Core.Bool.{false};
+ghost use mathlib.Core.List.{[], _∷_};
+ghost use Prim.Native.Nat.{_+_, _≤_};
+ghost use lib.ListN.{length};
+ghost use Rattle.attempt.specs.Attempt.{attemptAt};
+ghost use Rattle.attempt.specs.Inner.{foundAt, HitIs};
+ghost use Rattle.attempt.specs.Places.{attemptPlaces};
+ghost use Rattle.gap.specs.Gap.{allZero, gapFrom, gapTo, regionHit, regionHits, gapHits};
+ghost use Rattle.hit.specs.Inner.{Ready};
+ghost use Rattle.page.specs.Inner.{farthest};
+ghost use Rattle.walk.specs.Inner.{carvedAs, Carves};
+
+// What a content start of 0 stands for, since two bytes cannot say it.
+const LARGEST_PAGE: usize = 65_536;
+
+fn all_zero(bytes: &[u8]) -> bool
+    ensures { λ r. ⌜ r ≡ allZero (now (bytes .entry)) ⌝ }
+{
+    let mut i = 0;
+    while i < bytes.len() {
+        if bytes[i] != 0 {
+            return false;
+        }
+        i = i + 1;
+    }
+    true
+}
+
+// Adds the row at o of a region that begins at `from` in its page.
+fn add_row(
+    bytes: &[u8],
+    from: usize,
+    o: usize,
+    find: Find,
+    hints: &[u8],
+    spot: Spot,
+    lent: Lent,
+    n: usize,
+    rows: &mut [u64],
+    cols: &mut [u64],
+) -> Carved
+    requires { ⌜ HitIs (now bytes) (now hints) o (attemptAt (now bytes) (now hints) o) (attemptPlaces (now bytes) o) find ⌝ }
+    requires { ⌜ Ready (from + length (now bytes)) (length (now hints)) spot lent n (length (now rows)) (length (now cols)) ⌝ }
+    ensures { λ r. ⌜ Carves (lent .width) (lent .room) n (regionHit spot (length (now (hints .entry))) from o (foundAt (now (bytes .entry)) o find) ∷ []) false (now (rows .entry)) (now (cols .entry)) (carvedAs r) (now (rows .exit)) (now (cols .exit)) ⌝ }
+{
+    let columns = hints.len();
+    let confidence = suited_share(find.matched, columns as u16);
+    let row = Row {
+        offset: spot.base + (from + o) as u64,
+        consumed: find.consumed as u64,
+        id: RowId::Absent,
+        source: Source::CarvedIntraPage(percent(confidence)),
+        confidence,
+        mode: Mode::Plain,
+        table: spot.table,
+    };
+    let at = Head {
+        o,
+        head: find.head,
+        from: find.from,
+        by: spot.start + from,
+    };
+    add_hit(bytes, at, columns, row, lent, n, rows, cols)
+}
+
+// Scans a region that begins at `from` in its page.
+fn carve_region(
+    bytes: &[u8],
+    from: usize,
+    hints: &[u8],
+    spot: Spot,
+    lent: Lent,
+    n: usize,
+    rows: &mut [u64],
+    cols: &mut [u64],
+) -> Carved
+    requires { ⌜ Ready (from + length (now bytes)) (length (now hints)) spot lent n (length (now rows)) (length (now cols)) ⌝ }
+    ensures { λ r. ⌜ Carves (lent .width) (lent .room) n (regionHits spot from (now (bytes .entry)) (now (hints .entry))) false (now (rows .entry)) (now (cols .entry)) (carvedAs r) (now (rows .exit)) (now (cols .exit)) ⌝ }
+{
+    let mut o = 0;
+    let mut m = n;
+    while o + 2 < bytes.len() {
+        match attempt(bytes, hints, o) {
+            Verdict::Miss(_) => {
+                o = o + 1;
+            }
+            Verdict::Hit(find) => {
+                let Carved::On(next) = add_row(
+                    bytes,
+                    from,
+                    o,
+                    find,
+                    hints,
+                    spot,
+                    lent,
+                    m,
+                    rows,
+                    cols,
+                ) else {
+                    return Carved::Full;
+                };
+                m = next;
+                o = o + find.consumed;
+            }
+        }
+    }
+    Carved::On(m)
+}
+
+// The gap begins where the cells' pointers end.
+fn gap_from(page: &[u8], head: usize) -> usize
+    requires { ⌜ head + 8 ≤ farthest ⌝ }
+    ensures { λ r. ⌜ r ≡ gapFrom (now (page .entry)) head ⌝ }
+{
+    head + 8 + 2 * cell_count(page, head)
+}
+
+// And ends where their content begins.
+fn gap_to(page: &[u8], head: usize) -> usize
+    requires { ⌜ head + 8 ≤ farthest ⌝ }
+    ensures { λ r. ⌜ r ≡ gapTo (now (page .entry)) head ⌝ }
+{
+    let start = content_start(page, head);
+    if start == 0 { LARGEST_PAGE } else { start }
+}
+
+// Carves the gap of a page that goes on behind its header.
+pub fn carve_gap(
+    page: &[u8],
+    head: usize,
+    hints: &[u8],
+    spot: Spot,
+    lent: Lent,
+    n: usize,
+    rows: &mut [u64],
+    cols: &mut [u64],
+) -> Carved
+    requires { ⌜ head + 8 ≤ length (now page) ⌝ }
+    requires { ⌜ Ready (length (now page)) (length (now hints)) spot lent n (length (now rows)) (length (now cols)) ⌝ }
+    ensures { λ r. ⌜ Carves (lent .width) (lent .room) n (gapHits (now (page .entry)) head (now (hints .entry)) spot) false (now (rows .entry)) (now (cols .entry)) (carvedAs r) (now (rows .exit)) (now (cols .exit)) ⌝ }
+{
+    let from = gap_from(page, head);
+    let to = gap_to(page, head);
+    if from >= to {
+        return Carved::On(n);
+    }
+    if to > page.len() {
+        return Carved::On(n);
+    }
+    if all_zero(&page[from..to]) {
+        return Carved::On(n);
+    }
+    carve_region(&page[from..to], from, hints, spot, lent, n, rows, cols)
+}

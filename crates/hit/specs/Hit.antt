@@ -1,27 +1,16 @@
 -- A row that was found on a page (rules 5.1, 5.2 and 10.3).
 -- Assumes nothing.
 use Prim.Native.Nat.{ℕ, _+_}
-use mathlib.Core.List.{List, [], _∷_}
+use mathlib.Core.List.{List}
 use lib.Ieee.{Float}
+pub use Rattle.attempt.specs.Moved.{movedOne, moved}
 use Rattle.hit.specs.declared.inner.Spot.{Spot}
 use Rattle.sheet.specs.declared.columns.Column.{Column}
-use Rattle.sheet.specs.declared.columns.Column.the-variants.{Body, Unfit, Lost, Unused}
 use Rattle.sheet.specs.declared.row.Mode.the-variants.{Plain}
 use Rattle.sheet.specs.declared.row.Row.{Row}
 use Rattle.sheet.specs.declared.row.RowId.{RowId}
 use Rattle.sheet.specs.declared.row.Source.{Source}
 use Rattle.walk.specs.Carve.{Hit}
-
--- columns of a part of a slice, said of the slice: the part begins `by` bytes into it
-abbrev pub movedOne : ℕ → Column → Column
-movedOne by (Body kind start len) = Body kind (by + start) len
-movedOne by (Unfit kind) = Unfit kind
-movedOne by Lost = Lost
-movedOne by Unused = Unused
-
-abbrev pub moved : ℕ → List Column → List Column
-moved by [] = []
-moved by (c ∷ cs) = movedOne by c ∷ moved by cs
 
 -- Rule 10.3: the row at the place `place` of a page; its columns are those of the page's part that begins at `part`
 abbrev pub rowAt : Spot → ℕ → ℕ → RowId → Source → Float → Row

@@ -2,6 +2,7 @@ pub mod Bodies
 pub mod Cases
 pub mod Laws
 pub mod Numbers
+pub mod Shifts
 pub mod Unique
 mod Values
 mod Varints

@@ -68,3 +68,11 @@ lengthOf (Int z) = 0
 lengthOf (Real x) = 0
 lengthOf (Text at n) = n
 lengthOf (Blob at n) = n
+
+-- a value of a part of a slice, said of the slice: the part begins `by` bytes into it
+abbrev pub movedValue : ℕ → Value → Value
+movedValue by Null = Null
+movedValue by (Int z) = Int z
+movedValue by (Real x) = Real x
+movedValue by (Text at n) = Text (by + at) n
+movedValue by (Blob at n) = Blob (by + at) n

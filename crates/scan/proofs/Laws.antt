@@ -12,7 +12,7 @@ use Rattle.record.proofs.Numbers.{by-order}
 use Rattle.scan.specs.Scan.{Run, through, noRoom, missed, found, scanFrom, rowCount, finishedPlaces, triedOffsets, endOf, answerOf, scanChecked, scanAnswer, writtenOf, readOf}
 use Rattle.scan.specs.declared.schema_sig.Scanned.{Scanned}
 use Rattle.scan.specs.declared.schema_sig.Scanned.the-variants.{Full, Refused}
-use Rattle.scan.proofs.Running.{scan-none, scan-missed, scan-found, scan-full, scan-end}
+pub use Rattle.scan.proofs.Running.{scan-none, scan-missed, scan-found, scan-full, scan-end}
 use Rattle.scan.proofs.SameRun.{finished-few}
 use Rattle.sheet.specs.Columns.{roomOf}
 use Rattle.sheet.specs.Refusal.{after}

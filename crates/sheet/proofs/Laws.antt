@@ -87,6 +87,11 @@ pub row-words-length : (r : Row) → length (rowWords r) ≡ wordsPerRow
 unfolding rowWords
 row-words-length r = refl
 
+-- THE LAW: a row begins with its offset
+pub row-words-offset : (r : Row) → rowWords r ≡ r .offset ∷ drop 1 (rowWords r)
+unfolding rowWords
+row-words-offset r = refl
+
 pub column-words-length : (c : Column) → length (columnWords c) ≡ wordsPerEntry
 unfolding columnWords
 column-words-length (Body kind start len) = refl

@@ -51,14 +51,14 @@ sub-if3 c = search needs
 returns-4 : tie.Need-returns-4
 returns-4 c = attempt-bad _ _ _ _ _ (read (c .before .before .before)) (fits-not _ _ _ (λ p q r. omega arith))
 
-judge-requires : tie.Need-judge-requires
-judge-requires c κs = headed _ _ _ _ (read (c .before .before .before)) (omega arith) (omega arith) (c .if3 .left) (omega arith)
+given-header-requires : tie.Need-given-header-requires
+given-header-requires c κs = headed _ _ _ _ (read (c .before .before .before)) (omega arith) (omega arith) (c .if3 .left) (omega arith)
 
 returns-5 : tie.Need-returns-5
 returns-5 c =
     let o = c .before .before .before .before in
     let fit = fits _ _ _ (c .before .before .before .if1 .left) (c .before .before .if2 .left) (c .before .if3 .left) in
-    rw (attempt-is _ _ _ _ _ (read o) fit, places-is _ _ _ _ (read o) fit) (c .judge .ensures)
+    rw (attempt-is _ _ _ _ _ (read o) fit, places-is _ _ _ _ (read o) fit) (c .given-header .ensures)
 
 pub attempt-spec : {M : Type 1} → statement M
 attempt-spec =
@@ -74,5 +74,5 @@ attempt-spec =
     returns-3
     sub-if3
     returns-4
-    judge-requires
+    given-header-requires
     returns-5)

@@ -12,7 +12,7 @@ use Rattle.scan.specs.Inner.{RoomFor}
 use Rattle.attempt.specs.Places.{mostPlaces, attemptPlaces}
 use Rattle.sheet.proofs.Laws.{room-rows, room-cols}
 use Rattle.scan.proofs.Running.{On, on-start, on-long, on-missed, on-found, on-end, on-full, room-all}
-use Rattle.attempt.proofs.Laws.{columns-at-length}
+use Rattle.attempt.proofs.Laws.{columns-at-length, hit-takes}
 use Rattle.sheet.specs.Limits.{largestRegion}
 use Rattle.scan.proofs.schema_sig.run.Statement.{statement}
 use Rattle.scan.proofs.schema_sig.run.Tie as tie
@@ -50,7 +50,7 @@ taken : (c : tie.After-known-told2 Inv-loop μ-loop) →
     (2 ≤ x .consumed) × (l .o + x .consumed ≤ length (now (a .bytes))) × (length (now (a .bytes)) ≤ largestRegion) × (x .read ≤ mostPlaces)
 taken c =
     let h = found c in
-    (omega (arith, h .bodies, h .headed .low), h .inside, c .before .before .before .before .before .before .before .before .before .before .before .pre .0 .small, h .few)
+    (hit-takes _ _ _ _ (h .hits) .0, h .inside, c .before .before .before .before .before .before .before .before .before .before .before .pre .0 .small, h .few)
 
 last-of-requires : tie.Need-last-of-requires Inv-loop μ-loop
 last-of-requires c κs = search needs

@@ -1,4 +1,4 @@
--- `attempt::inner::judge` meets its contract: each way out is a law of `proofs/Judging.antt`.
+-- `attempt::inner::given_header` meets its contract: each way out is a law of `proofs/Judging.antt`.
 -- Assumes nothing.
 use Prim.Native.Nat.{_≤_}
 use mathlib.Core.Path.{_≡_, sym, _∙_}
@@ -8,8 +8,8 @@ use Rattle.attempt.specs.Inner.{headerTypes, WholeIs}
 use Rattle.attempt.proofs.Bodies.{miss-count, miss-suited, miss-total}
 use Rattle.attempt.proofs.Judging.{end-past, judge-cut, judge-miss, judge-hit}
 use borrow.Author.Needs.{needs}
-use Rattle.attempt.proofs.inner.judge.Statement.{statement}
-use Rattle.attempt.proofs.inner.judge.Tie as tie
+use Rattle.attempt.proofs.inner.given_header.Statement.{statement}
+use Rattle.attempt.proofs.inner.given_header.Tie as tie
 
 walk-types-requires : tie.Need-walk-types-requires
 walk-types-requires c κs = search needs
@@ -87,8 +87,8 @@ returns-6 c =
     (c .before .if3 .left)
     (c .if4 .left)
 
-pub judge-spec : {M : Type 1} → statement M
-judge-spec =
+pub given-header-spec : {M : Type 1} → statement M
+given-header-spec =
     tie.close
     (tie.spec
     walk-types-requires

@@ -1,0 +1,5 @@
+mod Along
+mod Looking
+mod Rebuilding
+mod Skipping
+mod Starting

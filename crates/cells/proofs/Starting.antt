@@ -1,0 +1,96 @@
+-- Starts one after the other: what was carved at those before v, with what the others give, is the whole.
+-- Assumes nothing.
+use Prim.Native.Nat.{ℕ, zero, suc, _+_, _≤_, _<_}
+use mathlib.Core.Path.{_≡_, refl}
+use mathlib.Core.Bool.{false}
+use mathlib.Core.List.{List, _++_}
+use native.Mathlib.Numerals.{add-one}
+use native.Mathlib.Omega.{arith}
+use lib.ListN.{length}
+use Rattle.cells.specs.Cells.{Rebuilder, oneByte, cellsOf, cellHits, startsOf, rebuiltStarts, startHits, rebuiltFrom, payloadHits}
+use Rattle.cells.specs.Inner.{isCell, nextRow, Standing}
+use Rattle.cells.proofs.Along.{Along, along-start, along-end, along-on, along-full}
+use Rattle.cells.proofs.Skipping.{Passing, passing-start, passing-is, passing-on, passing-kept}
+use Rattle.hit.specs.declared.inner.Lent.{Lent}
+use Rattle.hit.specs.declared.inner.Spot.{Spot}
+use Rattle.page.specs.Page.{among}
+use Rattle.walk.proofs.Carving.{told-on, carves-more, carves-stop}
+use Rattle.walk.specs.Carve.{Hit}
+use Rattle.walk.specs.Inner.{Told, on, over, Carves}
+
+rebuilt-step : (j : ℕ) (rebuild : Rebuilder) (spot : Spot) (o : ℕ) (S d hints : List ℕ) (v : ℕ)
+    → rebuiltFrom (suc j) rebuild spot o S d hints v ≡ startHits spot (length hints) o v (among v S) (rebuild d hints v) ++ rebuiltFrom j rebuild spot o S d hints (suc v)
+unfolding rebuiltFrom
+rebuilt-step j rebuild spot o S d hints v = refl
+
+-- of so many starts those before v are carved; the row k is the next of a cell
+pub record Starting (d hints : List ℕ) (spot : Spot) (o : ℕ) (lent : Lent) (cells starts : ℕ) (rows₀ cols₀ rows cols : List ℕ) (v k n : ℕ) : Type 0 where
+  pub left : ℕ
+  pub sum : v + left ≡ starts
+  pub behind : cells ≤ n
+  pub along : Along lent cells (rebuiltFrom starts oneByte spot o (startsOf (cellsOf d hints)) d hints 0) rows₀ cols₀ (rebuiltFrom left oneByte spot o (startsOf (cellsOf d hints)) d hints v) rows cols n
+  pub passing : Passing spot o (startsOf (cellsOf d hints)) rows cells v k
+
+module _ (d hints : List ℕ) (spot : Spot) (o : ℕ) (lent : Lent) (cells starts : ℕ) (rows₀ cols₀ : List ℕ) where
+  abbrev S : List ℕ
+  S = startsOf (cellsOf d hints)
+
+  abbrev whole : List Hit
+  whole = rebuiltFrom starts oneByte spot o S d hints 0
+
+  pub starting-start : (first : ℕ) → cells ≤ lent .room → Standing spot o rows₀ cells first S → Starting d hints spot o lent cells starts rows₀ cols₀ rows₀ cols₀ 0 first cells
+  starting-start first h s =
+      record {
+        left = starts;
+        sum = omega arith;
+        behind = omega arith;
+        along = along-start lent cells whole rows₀ cols₀ h;
+        passing = passing-start spot o d hints rows₀ cells first s;
+      }
+
+  module _ (rows cols : List ℕ) (v k n : ℕ) (w : Starting d hints spot o lent cells starts rows₀ cols₀ rows cols v k n) where
+    pub starting-end : starts ≤ v → Carves (lent .width) (lent .room) cells whole false rows₀ cols₀ (on n) rows cols
+    unfolding rebuiltFrom
+    starting-end h = let z : w .left ≡ 0 = omega (arith, w .sum) in along-end lent cells whole rows₀ cols₀ rows cols n (rw z at (w .along))
+
+    module _ (more : v < starts) where
+      abbrev there : List Hit
+      there = startHits spot (length hints) o v (isCell rows k cells (spot .base + (o + v))) (oneByte d hints v)
+
+      later : (j : ℕ) × (suc v + j ≡ starts) × Along lent cells whole rows₀ cols₀ (there ++ rebuiltFrom j oneByte spot o S d hints (suc v)) rows cols n
+      later = go (w .left) (w .sum) (w .along)
+        where
+          go : (j : ℕ) → v + j ≡ starts → Along lent cells whole rows₀ cols₀ (rebuiltFrom j oneByte spot o S d hints v) rows cols n
+              → (j : ℕ) × (suc v + j ≡ starts) × Along lent cells whole rows₀ cols₀ (there ++ rebuiltFrom j oneByte spot o S d hints (suc v)) rows cols n
+          go zero q a = absurd (omega arith)
+          go (suc j) q a = (j, omega arith, rw (passing-is spot o S rows cells v k (w .passing)) (rw (rebuilt-step j oneByte spot o S d hints v) at a))
+
+      module _ (rows′ cols′ : List ℕ) where
+        pub starting-on : (next m : ℕ) → next ≡ nextRow k (isCell rows k cells (spot .base + (o + v))) → Carves (lent .width) (lent .room) n there false rows cols (on m) rows′ cols′
+            → Starting d hints spot o lent cells starts rows₀ cols₀ rows′ cols′ (v + 1) next m
+        starting-on next m e x =
+            let t = told-on (lent .room) n (length there) m false (x .answer) in
+            rw (e, add-one v)
+            (record {
+              left = later .0;
+              sum = later .1;
+              behind = omega (arith, w .behind, t .1);
+              along = along-on lent cells whole rows₀ cols₀ rows cols n there _ (later .2) rows′ cols′ m x;
+              passing = passing-kept spot o S rows cols cells (suc v) _ (lent .width) (lent .room) n there (on m) rows′ cols′ (w .behind) x (passing-on spot o S rows cells v k (w .passing));
+            })
+
+        pub starting-full : Carves (lent .width) (lent .room) n there false rows cols over rows′ cols′ → Carves (lent .width) (lent .room) cells whole false rows₀ cols₀ over rows′ cols′
+        starting-full x = along-full lent cells whole rows₀ cols₀ rows cols n there _ (later .2) rows′ cols′ x
+
+-- ---- cells first, then what is rebuilt
+module _ (d hints : List ℕ) (spot : Spot) (o : ℕ) (lent : Lent) (n : ℕ) (rows cols rows′ cols′ : List ℕ) where
+  pub payload-full : Carves (lent .width) (lent .room) n (cellHits spot (length hints) o (cellsOf d hints)) false rows cols over rows′ cols′
+      → Carves (lent .width) (lent .room) n (payloadHits oneByte spot o d hints) false rows cols over rows′ cols′
+  unfolding payloadHits
+  payload-full x = carves-stop (lent .width) (lent .room) n (cellHits spot (length hints) o (cellsOf d hints)) _ rows cols rows′ cols′ false false x
+
+  pub payload-both : (cells : ℕ) (r : Told) (rows″ cols″ : List ℕ) → Carves (lent .width) (lent .room) n (cellHits spot (length hints) o (cellsOf d hints)) false rows cols (on cells) rows′ cols′
+      → Carves (lent .width) (lent .room) cells (rebuiltFrom (rebuiltStarts (length d) (length hints)) oneByte spot o (startsOf (cellsOf d hints)) d hints 0) false rows′ cols′ r rows″ cols″
+      → Carves (lent .width) (lent .room) n (payloadHits oneByte spot o d hints) false rows cols r rows″ cols″
+  unfolding payloadHits
+  payload-both cells r rows″ cols″ x y = carves-more (lent .width) (lent .room) n _ _ rows cols rows′ cols′ cells false r rows″ cols″ x y

@@ -1,0 +1,78 @@
+-- The gap of a page, and the page whole.
+-- Assumes nothing.
+use Prim.Native.Nat.{ℕ, _+_, _-_, _≤_, _<_}
+use mathlib.Core.Path.{_≡_}
+use mathlib.Core.Bool.{true, false}
+use mathlib.Core.List.{List, [], _++_}
+use native.Mathlib.Numerals.{add-one}
+use native.Mathlib.Omega.{arith}
+use borrow.Author.Tests.{ne-eqb, le-leb, lt-leb, le-ltb, lt-ltb}
+use lib.ListN.{length, take, drop, getD}
+use lib.Seq.{drop-cons, drop-length}
+use Rattle.cells.specs.Cells.{oneByte}
+use Rattle.gap.specs.Gap.{gapFrom, gapTo, hasGap, allZero, regionHits, gapHits, chain, blocksHits, pageHits}
+use Rattle.hit.specs.declared.inner.Lent.{Lent}
+use Rattle.hit.specs.declared.inner.Spot.{Spot}
+use Rattle.walk.proofs.Carving.{carves-more, carves-stop}
+use Rattle.walk.specs.Inner.{Told, on, over, Carves}
+
+-- ---- zeros
+module _ (s : List ℕ) (i : ℕ) where
+  pub zero-step : i < length s → getD s i 0 ≡ 0 → allZero (drop i s) ≡ allZero (drop (i + 1) s)
+  unfolding allZero
+  zero-step h z = rw (add-one, drop-cons s i 0 h, z)
+
+  pub zero-not : i < length s → (getD s i 0 ≡ 0 → ⊥) → allZero (drop i s) ≡ false
+  unfolding allZero
+  zero-not h n = rw (drop-cons s i 0 h) (simp (ne-eqb (getD s i 0) 0 n))
+
+  pub zero-end : i ≤ length s → length s ≤ i → allZero (drop i s) ≡ true
+  unfolding allZero
+  zero-end l h = let e : i ≡ length s = omega arith in rw (e, drop-length s)
+
+-- ---- a gap from `from` to `to`
+module _ (page : List ℕ) (head : ℕ) (hints : List ℕ) (spot : Spot) (from to : ℕ) (begins : from ≡ gapFrom page head) (ends : to ≡ gapTo page head) where
+  abbrev part : List ℕ
+  part = take (to - from) (drop from page)
+
+  pub gap-none : to ≤ from → gapHits page head hints spot ≡ []
+  unfolding gapHits hasGap
+  gap-none h = rw (← begins, ← ends) (simp (le-ltb from to h))
+
+  pub gap-past : from < to → length page < to → gapHits page head hints spot ≡ []
+  unfolding gapHits hasGap
+  gap-past h p = rw (← begins, ← ends) (simp (lt-ltb from to h, lt-leb to (length page) p))
+
+  module _ (h : from < to) (p : to ≤ length page) where
+    pub gap-zero : allZero part ≡ true → gapHits page head hints spot ≡ []
+    unfolding gapHits hasGap
+    gap-zero z = rw (← begins, ← ends) (simp (lt-ltb from to h, le-leb to (length page) p, z))
+
+    pub gap-some : allZero part ≡ false → gapHits page head hints spot ≡ regionHits spot from part hints
+    unfolding gapHits hasGap
+    gap-some z = rw (← begins, ← ends) (simp (lt-ltb from to h, le-leb to (length page) p, z))
+
+-- ---- a page
+module _ (page : List ℕ) (head : ℕ) (hints : List ℕ) (spot : Spot) where
+  pub page-short : length page < head + 8 → pageHits gapHits oneByte page head hints spot ≡ []
+  unfolding pageHits
+  page-short h = simp (lt-ltb (length page) (head + 8) h)
+
+  page-whole : head + 8 ≤ length page
+      → pageHits gapHits oneByte page head hints spot ≡ gapHits page head hints spot ++ blocksHits oneByte page hints spot (chain page head)
+  unfolding pageHits
+  page-whole h = simp (le-ltb (length page) (head + 8) h)
+
+  module _ (lent : Lent) (n : ℕ) (rows cols rows′ cols′ : List ℕ) (h : head + 8 ≤ length page) where
+    pub page-full : Carves (lent .width) (lent .room) n (gapHits page head hints spot) false rows cols over rows′ cols′
+        → Carves (lent .width) (lent .room) n (pageHits gapHits oneByte page head hints spot) false rows cols over rows′ cols′
+    page-full x =
+        rw (page-whole h)
+        (carves-stop (lent .width) (lent .room) n (gapHits page head hints spot) (blocksHits oneByte page hints spot (chain page head)) rows cols rows′ cols′ false false x)
+
+    pub page-more : (m : ℕ) (r : Told) (rows″ cols″ : List ℕ) → Carves (lent .width) (lent .room) n (gapHits page head hints spot) false rows cols (on m) rows′ cols′
+        → Carves (lent .width) (lent .room) m (blocksHits oneByte page hints spot (chain page head)) false rows′ cols′ r rows″ cols″
+        → Carves (lent .width) (lent .room) n (pageHits gapHits oneByte page head hints spot) false rows cols r rows″ cols″
+    page-more m r rows″ cols″ x y =
+        rw (page-whole h)
+        (carves-more (lent .width) (lent .room) n (gapHits page head hints spot) (blocksHits oneByte page hints spot (chain page head)) rows cols rows′ cols′ m false r rows″ cols″ x y)

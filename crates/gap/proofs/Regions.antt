@@ -1,0 +1,110 @@
+-- A region scanned as by the scan, attempt by attempt: there is always room in the definition, since no more rows were found than bytes passed.
+-- Assumes nothing.
+use Prim.Native.Nat.{ℕ, zero, suc, _+_, _-_, _≤_, _<_}
+use mathlib.Core.Path.{_≡_, ap}
+use mathlib.Core.Bool.{false}
+use mathlib.Core.List.{List, [], _∷_, _++_}
+use native.Mathlib.Omega.{arith}
+use lib.ListN.{length}
+use Rattle.attempt.proofs.Laws.{hit-takes}
+use Rattle.attempt.specs.Attempt.{Found, miss, hit, attemptAt}
+use Rattle.attempt.specs.Inner.{foundAt}
+use Rattle.attempt.specs.declared.inner.Find.{Find}
+use Rattle.gap.specs.Gap.{regionHit, runHits, regionHits}
+use Rattle.gap.proofs.Going.{Going, going-start, going-end, going-on, going-full}
+use Rattle.hit.proofs.Laws.{headAt, there-is}
+use Rattle.hit.specs.Inner.{hitThere}
+use Rattle.hit.specs.declared.inner.Lent.{Lent}
+use Rattle.hit.specs.declared.inner.Spot.{Spot}
+use Rattle.scan.proofs.Laws.{scan-missed, scan-found, scan-end}
+use Rattle.scan.specs.Scan.{Run, scanFrom}
+use Rattle.sheet.specs.declared.row.Row.{Row}
+use Rattle.walk.specs.Carve.{Hit}
+use Rattle.walk.specs.Inner.{Told, on, over, Carves}
+
+-- ---- one row
+
+-- a row that is written with its columns is the hit that the definition has there
+pub row-is : (s : List ℕ) (from : ℕ) (hints : List ℕ) (spot : Spot) (lent : Lent) (n : ℕ) (rows cols : List ℕ) (o : ℕ) (x : Find) (row : Row) (r : Told) (rows′ cols′ : List ℕ)
+    → row ≡ regionHit spot (length hints) from o (foundAt s o x) .row
+    → Carves (lent .width) (lent .room) n (hitThere s (headAt o x (spot .start + from)) row ∷ []) false rows cols r rows′ cols′
+    → Carves (lent .width) (lent .room) n (regionHit spot (length hints) from o (foundAt s o x) ∷ []) false rows cols r rows′ cols′
+row-is s from hints spot lent n rows cols o x row r rows′ cols′ e c = rw (there-is s spot row from o x, e) at c
+
+-- ---- one row after the other
+module _ (s : List ℕ) (from : ℕ) (hints : List ℕ) (spot : Spot) where
+  -- the hits of what is left of a run, from o on and with k rows before it
+  abbrev left-hits : ℕ → ℕ → ℕ → List Hit
+  left-hits f o k = runHits spot (length hints) from (scanFrom f s hints (length s) o k)
+
+  -- fuel for what is left, and as many rows as were found
+  pub record Scanning (lent : Lent) (n₀ : ℕ) (rows₀ cols₀ rows cols : List ℕ) (o m : ℕ) : Type 0 where
+    pub fuel : ℕ
+    pub rows-found : ℕ
+    pub enough : length s ≤ o + fuel
+    pub few : rows-found ≤ o
+    pub going : Going lent n₀ rows₀ cols₀ (regionHits spot from s hints) (left-hits fuel o rows-found) rows cols m
+
+  module _ (lent : Lent) (n₀ : ℕ) (rows₀ cols₀ : List ℕ) where
+    pub scanning-start : n₀ ≤ lent .room → Scanning lent n₀ rows₀ cols₀ rows₀ cols₀ 0 n₀
+    unfolding regionHits
+    scanning-start h = record { fuel = length s; rows-found = 0; enough = omega arith; few = omega arith; going = going-start lent n₀ rows₀ cols₀ _ h }
+
+    module _ (rows cols : List ℕ) (o m : ℕ) (w : Scanning lent n₀ rows₀ cols₀ rows cols o m) where
+      pub scanning-end : length s ≤ o + 2 → Carves (lent .width) (lent .room) n₀ (regionHits spot from s hints) false rows₀ cols₀ (on m) rows cols
+      scanning-end h =
+          going-end _ _ _ _ _ _ _ _ _ (w .going)
+          (ap (λ (t : Run). runHits spot (length hints) from t) (scan-end (w .fuel) s hints (length s) o (w .rows-found) (omega arith)))
+
+      module _ (in′ : o + 2 < length s) where
+        below : o < length s - 2
+        below = omega arith
+
+        pub scanning-missed : attemptAt s hints o ≡ miss → Scanning lent n₀ rows₀ cols₀ rows cols (o + 1) m
+        scanning-missed e = go (w .fuel) (w .enough) (w .going)
+          where
+            go : (f : ℕ) → length s ≤ o + f → Going lent n₀ rows₀ cols₀ (regionHits spot from s hints) (left-hits f o (w .rows-found)) rows cols m
+                → Scanning lent n₀ rows₀ cols₀ rows cols (o + 1) m
+            go zero q g = absurd (omega arith)
+            go (suc f) q g =
+                record {
+                  fuel = f;
+                  rows-found = w .rows-found;
+                  enough = omega arith;
+                  few = omega (arith, w .few);
+                  going = rw (scan-missed f s hints (length s) o (w .rows-found) below e) at g;
+                }
+
+        module _ (x : Found) (e : attemptAt s hints o ≡ hit x) where
+          abbrev one : List Hit
+          one = regionHit spot (length hints) from o x ∷ []
+
+          -- the row comes first in what is left
+          next : (f : ℕ) × (length s ≤ o + suc f) × (left-hits (w .fuel) o (w .rows-found) ≡ one ++ left-hits f (o + x .consumed) (w .rows-found + 1))
+          next = go (w .fuel) (w .enough)
+            where
+              go : (f : ℕ) → length s ≤ o + f
+                  → (g : ℕ) × (length s ≤ o + suc g) × (left-hits f o (w .rows-found) ≡ one ++ left-hits g (o + x .consumed) (w .rows-found + 1))
+              go zero q = absurd (omega arith)
+              go (suc f) q = (
+                f,
+                q,
+                ap (λ (t : Run). runHits spot (length hints) from t) (scan-found f s hints (length s) o (w .rows-found) below x e (omega (arith, w .few))),
+              )
+
+          module _ (rows′ cols′ : List ℕ) where
+            pub scanning-found : (k : ℕ) → Carves (lent .width) (lent .room) m one false rows cols (on k) rows′ cols′
+                → Scanning lent n₀ rows₀ cols₀ rows′ cols′ (o + x .consumed) k
+            scanning-found k c =
+                let takes = hit-takes s hints o x e .0 in
+                record {
+                  fuel = next .0;
+                  rows-found = w .rows-found + 1;
+                  enough = omega (arith, next .1);
+                  few = omega (arith, w .few);
+                  going = going-on _ _ _ _ _ _ _ _ _ (w .going) one _ (next .2) rows′ cols′ k c;
+                }
+
+            pub scanning-full : Carves (lent .width) (lent .room) m one false rows cols over rows′ cols′
+                → Carves (lent .width) (lent .room) n₀ (regionHits spot from s hints) false rows₀ cols₀ over rows′ cols′
+            scanning-full c = going-full _ _ _ _ _ _ _ _ _ (w .going) one _ (next .2) rows′ cols′ c

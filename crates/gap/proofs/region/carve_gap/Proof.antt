@@ -1,0 +1,94 @@
+-- `gap::region::carve_gap` meets its contract: each way out is a law of `proofs/Gaps.antt`.
+-- Assumes nothing.
+use mathlib.Core.Path.{sym, _∙_}
+use borrow.Author.Needs.{needs}
+use denote.Ref.{now}
+use Rattle.gap.proofs.Gaps.{gap-none, gap-past, gap-zero, gap-some}
+use Rattle.gap.proofs.region.carve_gap.Statement.{statement}
+use Rattle.gap.proofs.region.carve_gap.Tie as tie
+use Rattle.walk.proofs.Carving.{carves-none}
+
+gap-from-requires : tie.Need-gap-from-requires
+gap-from-requires c κs = search needs
+
+gap-to-requires : tie.Need-gap-to-requires
+gap-to-requires c κs = search needs
+
+returns : tie.Need-returns
+returns c =
+    let a = c .before .before .before .before .before .before .before .args in
+    rw (gap-none (now (a .page)) (a .head) (now (a .hints)) (a .spot) _ _ (c .before .before .gap-from .ensures) (c .before .gap-to .ensures) (c .if1 .taken))
+    (carves-none _ _ _ _ _ (c .before .before .before .before .before .before .before .pre .1 .space .fits))
+
+returns-2 : tie.Need-returns-2
+returns-2 c =
+    let a = c .before .before .before .before .before .before .before .before .args in
+    rw (gap-past (now (a .page)) (a .head) (now (a .hints)) (a .spot) _ _ (c .before .before .before .gap-from .ensures) (c .before .before .gap-to .ensures) (c .before .if1 .left) (c .if2 .taken))
+    (carves-none _ _ _ _ _ (c .before .before .before .before .before .before .before .before .pre .1 .space .fits))
+
+sub-all-zero : tie.Need-sub-all-zero
+sub-all-zero c = search needs
+
+part-all-zero-start : tie.Need-part-all-zero-start
+part-all-zero-start c = search needs
+
+part-all-zero-end : tie.Need-part-all-zero-end
+part-all-zero-end c = search needs
+
+all-zero-requires : tie.Need-all-zero-requires
+all-zero-requires c κs = search needs
+
+returns-3 : tie.Need-returns-3
+returns-3 c =
+    let a = c .before .before .before .before .before .before .before .before .before .before .before .args in
+    let t = c .before .before .before in
+    rw (gap-zero (now (a .page)) (a .head) (now (a .hints)) (a .spot) _ _ (t .before .before .before .gap-from .ensures) (t .before .before .gap-to .ensures) (t .before .if1 .left) (t .if2 .left)
+    (sym (c .before .all-zero .ensures) ∙ c .if3 .taken))
+    (carves-none _ _ _ _ _ (c .before .before .before .before .before .before .before .before .before .before .before .pre .1 .space .fits))
+
+sub-carve-region : tie.Need-sub-carve-region
+sub-carve-region c = search needs
+
+part-carve-region-start : tie.Need-part-carve-region-start
+part-carve-region-start c = search needs
+
+part-carve-region-end : tie.Need-part-carve-region-end
+part-carve-region-end c = search needs
+
+carve-region-requires : tie.Need-carve-region-requires
+carve-region-requires c κs = search needs
+
+same-length : tie.Need-same-length
+same-length c = search needs
+
+same-length-2 : tie.Need-same-length-2
+same-length-2 c = search needs
+
+returns-4 : tie.Need-returns-4
+returns-4 c =
+    let a = c .before .before .before .before .before .before .before .before .before .before .before .before .before .before .before .before .before .before .before .args in
+    let t = c .before .before .before .before .before .before .before .before .before .before .before in
+    rw (gap-some (now (a .page)) (a .head) (now (a .hints)) (a .spot) _ _ (t .before .before .before .gap-from .ensures) (t .before .before .gap-to .ensures) (t .before .if1 .left) (t .if2 .left)
+    (sym (c .before .before .before .before .before .before .before .before .before .all-zero .ensures) ∙ c .before .before .before .before .before .before .before .before .if3 .left))
+    (c .before .before .before .before .carve-region .ensures)
+
+pub carve-gap-spec : {M : Type 1} → statement M
+carve-gap-spec =
+    tie.close
+    (tie.spec
+    gap-from-requires
+    gap-to-requires
+    returns
+    returns-2
+    sub-all-zero
+    part-all-zero-start
+    part-all-zero-end
+    all-zero-requires
+    returns-3
+    sub-carve-region
+    part-carve-region-start
+    part-carve-region-end
+    carve-region-requires
+    same-length
+    same-length-2
+    returns-4)

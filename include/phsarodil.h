@@ -285,6 +285,53 @@ uint64_t phs_recover_slice_freeblocks(const uint8_t *page, size_t len, size_t he
                                       uint64_t out[1]);
 
 /*
+ * The rows in the free space of the leaves of tables, lent and walked as in phs_recover_freeblocks. Of a page it looks at
+ * two things, one after the other:
+ *     The gap between the end of its cell pointers and the start of its content, if there is one and it is not all zeros,
+ *     scanned as phs_scan_region does.
+ *     Its freed blocks, by a chain of its own: from the first block on to each one's next, until that is 0, is past the
+ *     page or is not larger, and for 1,024 blocks at the most; a block of a size below 4 or past the page is left out.
+ * In a block whole cells come first: a record's length, a row id and the record; behind one that is a row the search goes
+ * on at the record's end, elsewhere at the next byte. PHS_ROW_HAS_ID is 1 for these alone, and the offset is the record's.
+ * Then records whose header length is lost are rebuilt: at every byte of the block, the types of all columns are taken to
+ * stand there, one byte each, and the bodies behind them. A row at the offset of one of this block's cells is left out.
+ * Rebuilding finds most deleted rows with short notes, and several rows that are none for each of them (docs/BENCH.md);
+ * a type of two bytes, as of a note of 58 bytes or more, is beyond it.
+ * The source is PHS_SOURCE_CARVED_INTRA_PAGE. The confidence is the share of columns that suit, of rebuilt rows times 0.9;
+ * PHS_ROW_PERCENT is the same in whole hundredths, cut down.
+ * Returns as phs_recover_freeblocks does, and so are rows, entries and `out`.
+ */
+uint64_t phs_scan_page_gaps(const uint8_t *db, size_t len, uint64_t page_size, const uint64_t *roots, size_t roots_len,
+                            const uint64_t *counts, size_t counts_len, const uint8_t *hints, size_t hints_len,
+                            uint8_t *flags, size_t flags_len, uint64_t *stack, size_t stack_len, uint64_t *rows,
+                            size_t rows_len, uint64_t *cols, size_t cols_len, uint64_t out[1]);
+
+/*
+ * The same of one page by its number, whatever its type.
+ * Returns PHS_COLUMN_COUNT, PHS_MALFORMED, PHS_TOO_LARGE, PHS_PAGE_SIZE, PHS_NO_SUCH_PAGE or PHS_NO_ROOM.
+ */
+uint64_t phs_scan_page_gap(const uint8_t *db, size_t len, uint64_t page_size, uint64_t page, const uint8_t *hints,
+                           size_t hints_len, uint64_t *rows, size_t rows_len, uint64_t *cols, size_t cols_len,
+                           uint64_t out[1]);
+
+/*
+ * The same of a page that is lent by itself, with its b-tree header at page[header]; `base` is the offset of its first byte.
+ * Returns PHS_COLUMN_COUNT, PHS_MALFORMED, PHS_TOO_LARGE, PHS_BASE_TOO_FAR or PHS_NO_ROOM.
+ */
+uint64_t phs_scan_single_page_gap(const uint8_t *page, size_t len, size_t header, uint64_t base, const uint8_t *hints,
+                                  size_t hints_len, uint64_t *rows, size_t rows_len, uint64_t *cols, size_t cols_len,
+                                  uint64_t out[1]);
+
+/*
+ * Cells and rebuilt headers alone, of what stands behind the first four bytes of one freed block; `base` is the offset of
+ * its first byte.
+ * Returns PHS_COLUMN_COUNT, PHS_MALFORMED, PHS_TOO_LARGE, PHS_BASE_TOO_FAR or PHS_NO_ROOM.
+ */
+uint64_t phs_parse_cells_from_freeblock(const uint8_t *payload, size_t len, uint64_t base, const uint8_t *hints,
+                                        size_t hints_len, uint64_t *rows, size_t rows_len, uint64_t *cols,
+                                        size_t cols_len, uint64_t out[1]);
+
+/*
  * The rows of a block of bytes, for a table of which only the number of columns is known. With no hints nearly any bytes
  * make a row, so the confidence is the mode's own. Three modes are tried, and PHS_ROW_MODE says which one a row is of:
  *     PHS_MODE_NORMAL, 0.8: a header length, types until the header's end is reached, and the bodies from that end on. It
@@ -322,6 +369,22 @@ uint64_t phs_carve_freeblock(const uint8_t *bytes, size_t len, uint64_t base, si
  */
 uint64_t phs_learn_signatures(const uint8_t *bytes, size_t len, size_t width, const uint64_t *entries,
                               size_t entries_len, uint64_t *types, size_t types_len, uint64_t out[1]);
+
+/*
+ * The rows of a region, for a table whose columns have these serial types, as phs_learn_signatures gives them: any number
+ * may stand for a type. Behind a row the search goes on at its end, elsewhere at the next byte, while a byte more than there
+ * are types is left.
+ * A row has a header length, which is not less than the bytes that it takes itself, at most 512, and not more than the bytes
+ * left; types behind it up to the header's end, but no more than `types` has, so that a row may have fewer columns: the
+ * entries behind them are PHS_UNUSED; and the bodies from the header's end on, all in the region. One of its types at
+ * least is of the class of the one at its place: equal, or both of 1 to 6, 8 and 9, or both texts, or both blobs.
+ * The source is PHS_SOURCE_CARVED_UNALLOC. PHS_ROW_PERCENT is a hundred times the types that are of the class, divided by the
+ * number of types lent, without the rest; the confidence is the percent divided by 100.
+ * out: the rows written.
+ * Returns PHS_COLUMN_COUNT for no types or more than 126, PHS_TOO_LARGE, PHS_BASE_TOO_FAR or PHS_NO_ROOM.
+ */
+uint64_t phs_carve_unallocated(const uint8_t *region, size_t len, const uint64_t *types, size_t types_len, uint64_t base,
+                               uint64_t *rows, size_t rows_len, uint64_t *cols, size_t cols_len, uint64_t out[1]);
 
 #ifdef __cplusplus
 }

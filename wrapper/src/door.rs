@@ -154,6 +154,81 @@ mod c {
             out: *mut [u64; 1],
         ) -> u64;
 
+        pub fn phs_scan_page_gaps(
+            db: *const u8,
+            len: usize,
+            page_size: u64,
+            roots: *const u64,
+            roots_len: usize,
+            counts: *const u64,
+            counts_len: usize,
+            hints: *const u8,
+            hints_len: usize,
+            flags: *mut u8,
+            flags_len: usize,
+            stack: *mut u64,
+            stack_len: usize,
+            rows: *mut u64,
+            rows_len: usize,
+            cols: *mut u64,
+            cols_len: usize,
+            out: *mut [u64; 1],
+        ) -> u64;
+
+        pub fn phs_scan_page_gap(
+            db: *const u8,
+            len: usize,
+            page_size: u64,
+            page: u64,
+            hints: *const u8,
+            hints_len: usize,
+            rows: *mut u64,
+            rows_len: usize,
+            cols: *mut u64,
+            cols_len: usize,
+            out: *mut [u64; 1],
+        ) -> u64;
+
+        pub fn phs_scan_single_page_gap(
+            page: *const u8,
+            len: usize,
+            header: usize,
+            base: u64,
+            hints: *const u8,
+            hints_len: usize,
+            rows: *mut u64,
+            rows_len: usize,
+            cols: *mut u64,
+            cols_len: usize,
+            out: *mut [u64; 1],
+        ) -> u64;
+
+        pub fn phs_parse_cells_from_freeblock(
+            payload: *const u8,
+            len: usize,
+            base: u64,
+            hints: *const u8,
+            hints_len: usize,
+            rows: *mut u64,
+            rows_len: usize,
+            cols: *mut u64,
+            cols_len: usize,
+            out: *mut [u64; 1],
+        ) -> u64;
+
+        pub fn phs_carve_unallocated(
+            region: *const u8,
+            len: usize,
+            types: *const u64,
+            types_len: usize,
+            base: u64,
+            rows: *mut u64,
+            rows_len: usize,
+            cols: *mut u64,
+            cols_len: usize,
+            out: *mut [u64; 1],
+        ) -> u64;
+
         pub fn phs_get_page_data(
             db: *const u8,
             len: usize,
@@ -431,6 +506,135 @@ pub fn recover_slice_freeblocks(
             base,
             hints.as_ptr(),
             hints.len(),
+            rows.as_mut_ptr(),
+            rows.len(),
+            cols.as_mut_ptr(),
+            cols.len(),
+            out,
+        )
+    })
+}
+
+pub fn scan_page_gaps(
+    db: &[u8],
+    page_size: u64,
+    [roots, counts]: [&[u64]; 2],
+    hints: &[u8],
+    flags: &mut [u8],
+    stack: &mut [u64],
+    [rows, cols]: [&mut [u64]; 2],
+) -> Answer<1> {
+    answer(|out| unsafe {
+        c::phs_scan_page_gaps(
+            db.as_ptr(),
+            db.len(),
+            page_size,
+            roots.as_ptr(),
+            roots.len(),
+            counts.as_ptr(),
+            counts.len(),
+            hints.as_ptr(),
+            hints.len(),
+            flags.as_mut_ptr(),
+            flags.len(),
+            stack.as_mut_ptr(),
+            stack.len(),
+            rows.as_mut_ptr(),
+            rows.len(),
+            cols.as_mut_ptr(),
+            cols.len(),
+            out,
+        )
+    })
+}
+
+pub fn scan_page_gap(
+    db: &[u8],
+    page_size: u64,
+    page: u64,
+    hints: &[u8],
+    rows: &mut [u64],
+    cols: &mut [u64],
+) -> Answer<1> {
+    answer(|out| unsafe {
+        c::phs_scan_page_gap(
+            db.as_ptr(),
+            db.len(),
+            page_size,
+            page,
+            hints.as_ptr(),
+            hints.len(),
+            rows.as_mut_ptr(),
+            rows.len(),
+            cols.as_mut_ptr(),
+            cols.len(),
+            out,
+        )
+    })
+}
+
+pub fn scan_single_page_gap(
+    page: &[u8],
+    header: usize,
+    base: u64,
+    hints: &[u8],
+    rows: &mut [u64],
+    cols: &mut [u64],
+) -> Answer<1> {
+    answer(|out| unsafe {
+        c::phs_scan_single_page_gap(
+            page.as_ptr(),
+            page.len(),
+            header,
+            base,
+            hints.as_ptr(),
+            hints.len(),
+            rows.as_mut_ptr(),
+            rows.len(),
+            cols.as_mut_ptr(),
+            cols.len(),
+            out,
+        )
+    })
+}
+
+pub fn parse_cells_from_freeblock(
+    payload: &[u8],
+    base: u64,
+    hints: &[u8],
+    rows: &mut [u64],
+    cols: &mut [u64],
+) -> Answer<1> {
+    answer(|out| unsafe {
+        c::phs_parse_cells_from_freeblock(
+            payload.as_ptr(),
+            payload.len(),
+            base,
+            hints.as_ptr(),
+            hints.len(),
+            rows.as_mut_ptr(),
+            rows.len(),
+            cols.as_mut_ptr(),
+            cols.len(),
+            out,
+        )
+    })
+}
+
+pub fn carve_unallocated(
+    region: &[u8],
+    types: &[u64],
+    base: u64,
+    rows: &mut [u64],
+    cols: &mut [u64],
+) -> Answer<1> {
+    answer(|out| unsafe {
+        c::phs_carve_unallocated(
+            region.as_ptr(),
+            region.len(),
+            types.as_ptr(),
+            types.len(),
+            base,
             rows.as_mut_ptr(),
             rows.len(),
             cols.as_mut_ptr(),

@@ -1,7 +1,8 @@
-//! Types that are learned from rows.
+//! Types that are learned from rows, and carving with them.
 
 use crate::door;
-use crate::{Entry, Refusal, State, MOST_COLUMNS};
+use crate::tables::grown;
+use crate::{Entry, Record, Refusal, State, MOST_COLUMNS};
 
 /// The serial type that is the commonest in each column of rows over `bytes`, by their values and not by the types that these
 /// were stored with: NULL counts as 0, an integer as 8 if it is 0 or 1 and else as the first of 1, 2, 3, 4 and 6 that holds it,
@@ -27,6 +28,18 @@ pub fn learn_signatures<'e>(
         Some(refusal) => Err(refusal),
         None => Ok(types[..written as usize].to_vec()),
     }
+}
+
+/// The rows of a region whose types are of the classes of learned ones, one a column ([`learn_signatures`]). A row may have
+/// fewer columns than there are types; its confidence is the share of the types lent that are of the class.
+pub fn carve_unallocated<'a>(
+    region: &'a [u8],
+    types: &[u64],
+    base: u64,
+) -> Result<Vec<Record<'a>>, Refusal> {
+    grown(types.len(), region, |rows, cols| {
+        door::carve_unallocated(region, types, base, rows, cols)
+    })
 }
 
 /// The words of rows in groups that are all as wide as the longest, and that width, which is 1 at the least: no rows are no

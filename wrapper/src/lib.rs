@@ -20,6 +20,7 @@
 #[allow(unsafe_code)]
 mod door;
 mod freeblocks;
+mod gaps;
 mod hint;
 mod learned;
 mod limits;
@@ -32,8 +33,9 @@ mod tables;
 mod values;
 
 pub use freeblocks::{recover_freeblocks, recover_page_freeblocks, recover_slice_freeblocks};
+pub use gaps::{parse_cells_from_freeblock, scan_page_gap, scan_page_gaps, scan_single_page_gap};
 pub use hint::{Hint, UnknownHint};
-pub use learned::learn_signatures;
+pub use learned::{carve_unallocated, learn_signatures};
 pub use limits::{LARGEST_BASE, LARGEST_REGION, LARGEST_STATEMENT, MOST_COLUMNS, MOST_LEARNED};
 pub use modes::carve_freeblock;
 pub use pages::{leaf_pages, page, Page};

@@ -76,7 +76,8 @@ module _ (s : List ℕ) where
 
 -- ---- a part of a slice
 module _ {by : ℕ} {p s : List ℕ} (part : PartOf by p s) where
-  values-moved : (at : ℕ) (ts : List ℕ) (cs : List Column) (end : ℕ) → bodiesFrom (length p) at ts ≡ laid cs end
+  -- THE LAW: values do not change where a part is said of the slice
+  pub values-moved : (at : ℕ) (ts : List ℕ) (cs : List Column) (end : ℕ) → bodiesFrom (length p) at ts ≡ laid cs end
       → valuesFrom s (by + at) ts ≡ map (movedValue by) (valuesFrom p at ts)
   values-moved at ts cs end =
       over-laid (length p) end (λ at ts cs. valuesFrom s (by + at) ts ≡ map (movedValue by) (valuesFrom p at ts))

@@ -11,7 +11,7 @@ use lib.ListN.{length}
 use borrow.Author.Tests.{le-leb, lt-leb, le-ltb}
 use Rattle.attempt.specs.Attempt.{Types, cut, kinds, isWhole, typesFrom, Bodies, unfit, laid, before, bodiesFrom, Tried, miss, hit, sized, judged, judgedWhole, attemptAt, mostBytes}
 use Rattle.attempt.specs.Hints.{suited}
-use Rattle.attempt.specs.Inner.{bodySize, columnsAt, headerTypes}
+use Rattle.attempt.specs.Inner.{headerTypes}
 use Rattle.attempt.specs.Moved.{movedOne, moved, backOne, back}
 use Rattle.attempt.proofs.Bodies.{over-laid, bodies-end, bodies-step, bodies-out, bodies-none}
 use Rattle.attempt.proofs.Judging.{fits, fits-not, attempt-is, attempt-bad}
@@ -29,10 +29,6 @@ use Rattle.sheet.specs.declared.columns.Column.{Column}
 use Rattle.sheet.specs.declared.columns.Column.the-variants.{Body, Unfit, Lost, Unused}
 
 -- ---- columns
-pub moved-at : (by at : ℕ) (ts : List ℕ) → moved by (columnsAt at ts) ≡ columnsAt (by + at) ts
-moved-at by at [] = refl
-moved-at by at (t ∷ ts) = rw (moved-at by (at + bodySize t) ts, ← add-assoc by at (bodySize t))
-
 pub back-moved : (by : ℕ) (cs : List Column) → back by (moved by cs) ≡ cs
 back-moved by [] = refl
 back-moved by (c ∷ cs) = rw (one c, back-moved by cs)

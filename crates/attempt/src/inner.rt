@@ -53,7 +53,8 @@ pub enum Verdict {
 
 const MOST_HEADER: u64 = 512;
 
-const MOST_BYTES: usize = 65_536;
+// A row takes at most so many bytes.
+pub const MOST_BYTES: usize = 65_536;
 
 // No total of bodies is told from one above this.
 const TOO_LONG: usize = MOST_BYTES + 1;

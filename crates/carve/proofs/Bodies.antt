@@ -1,8 +1,8 @@
 -- Bodies one behind the other: each column by its body's length, and where they end.
 -- Assumes nothing.
 use Prim.Native.Nat.{ℕ, _+_, _≤_, _<_}
-use mathlib.Core.Path.{_≡_, refl, ap}
-use mathlib.Core.List.{List, [], _∷_}
+use mathlib.Core.Path.{_≡_, refl}
+use mathlib.Core.List.{List, [], _∷_, _++_}
 use native.Mathlib.Omega.{arith}
 use borrow.Author.Tests.{le-leb, lt-leb}
 use lib.ListN.{length}
@@ -66,3 +66,19 @@ end-inside len at (t ∷ ts) h =
     let b = behind-inside len at t h in
     let r = end-inside len (behind at (columnAt len at t)) ts (b .1) in
     rw (end-cons len at t ts) (omega (arith, b .0, r .0), r .1)
+
+-- THE LAW: the columns of the first types come first
+pub columns-first : (len at : ℕ) (ts us : List ℕ) → columnsFrom len at (ts ++ us) ≡ columnsFrom len at ts ++ columnsFrom len (endFrom len at ts) us
+unfolding columnsFrom endFrom
+columns-first len at [] us = refl
+columns-first len at (t ∷ ts) us = rw (columns-first len (behind at (columnAt len at t)) ts us)
+
+-- one type more
+pub columns-one : (len at : ℕ) (ts : List ℕ) (t : ℕ) → columnsFrom len at (ts ++ (t ∷ [])) ≡ columnsFrom len at ts ++ (columnAt len (endFrom len at ts) t ∷ [])
+unfolding columnsFrom
+columns-one len at ts t = columns-first len at ts (t ∷ [])
+
+pub end-one : (len at : ℕ) (ts : List ℕ) (t : ℕ) → endFrom len at (ts ++ (t ∷ [])) ≡ behind (endFrom len at ts) (columnAt len (endFrom len at ts) t)
+unfolding endFrom
+end-one len at [] t = refl
+end-one len at (u ∷ ts) t = end-one len (behind at (columnAt len at u)) ts t

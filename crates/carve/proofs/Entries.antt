@@ -1,14 +1,14 @@
 -- Columns read back from the words that say them: each is the value of its type at its place, or NULL.
 -- Assumes nothing.
 use Prim.Native.Nat.{ℕ, zero, suc, _+_, _-_, _*_, _≤_, _<_}
-use mathlib.Core.Path.{_≡_, refl, sym, ap, _∙_}
+use mathlib.Core.Path.{_≡_, refl, _∙_}
 use mathlib.Core.List.{List, [], _∷_, _++_, map, append-assoc, map-append}
-use native.Mathlib.Nat.{zero-add, zero-mul, suc-add, suc-mul, add-assoc}
+use native.Mathlib.Nat.{zero-add, zero-mul, suc-add, suc-mul}
 use native.Mathlib.Omega.{arith}
 use borrow.Author.Tests.{le-leb, lt-leb}
 use lib.Dec.{lit≤}
 use lib.ListN.{length, take, replicate, length-append, length-replicate}
-use Rattle.carve.specs.Found.{Found, columnAt, behind, columnsFrom, lostColumns, hitOf, hitsOf}
+use Rattle.carve.specs.Found.{Found, behind, columnsFrom, lostColumns, hitOf, hitsOf}
 use Rattle.carve.specs.Values.{valuesFrom, groupValues, foundValues}
 use Rattle.carve.proofs.Bodies.{column-body, column-out, column-none, columns-nil, columns-cons, columns-count}
 use Rattle.carve.proofs.Writing.{columns-append, lost-length}

@@ -2,7 +2,7 @@
 -- rows' types, each at the place that its mode names, or as NULL.
 -- Assumes nothing.
 use Prim.Native.Nat.{ℕ, zero, suc, _+_, _*_, _≤_, min}
-use mathlib.Core.Path.{_≡_, refl, sym, ap, _∙_}
+use mathlib.Core.Path.{_≡_, refl, sym, ap}
 use mathlib.Core.List.{List, [], _∷_, _++_}
 use native.Mathlib.Nat.{zero-mul}
 use native.Mathlib.Omega.{arith}
@@ -12,7 +12,7 @@ use denote.Triple.Clauses.{AtExit}
 use borrow.Fn.Kinds.{Dens, resT, endedOf}
 use lib.ListN.{length, take, drop, length-take}
 use Rattle.carve.specs.Found.{Found, Tried, miss, hit, endOf, hitOf, hitsOf}
-use Rattle.carve.specs.Modes.{columnsOnly, listed, orElse, headlessIn, columnsOnlyIn, firstColMissingIn, normalAt, normalFrom, normalFound, headlessFound, modesFound, carveChecked, carveHits, carveCols, carveWritten}
+use Rattle.carve.specs.Modes.{columnsOnly, listed, orElse, columnsOnlyIn, firstColMissingIn, normalAt, normalFrom, normalFound, headlessFound, modesFound, carveChecked, carveCols, carveWritten}
 use Rattle.carve.specs.Values.{foundValues, carveValues}
 use Rattle.carve.proofs.Entries.{AllFew, few-taken, ReadBack, groups-read}
 use Rattle.carve.proofs.Running.{normal-on, normal-stop, normal-end}
@@ -20,7 +20,6 @@ use Rattle.carve.proofs.Trying.{normal-found, headless-few, missing-fou
 use Rattle.carve.proofs.carver.carve_freeblock.Kinds as kinds
 use Rattle.carve.proofs.carver.carve_freeblock.Reads as carve-freeblock
 use Rattle.record.proofs.Numbers.{by-order}
-use Rattle.record.specs.declared.record.Value.{Value}
 use Rattle.sheet.specs.Columns.{roomOf}
 use Rattle.sheet.specs.Filled.{filledWritten}
 use Rattle.sheet.specs.Refusal.{afterOr0, afterOrKept}

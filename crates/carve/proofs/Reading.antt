@@ -2,13 +2,12 @@
 -- Assumes nothing.
 use Prim.Native.Nat.{ℕ, zero, suc, _+_, _-_, _≤_, _<_}
 use mathlib.Core.Path.{_≡_, refl, sym, ap, _∙_}
-use mathlib.Core.List.{List, [], _∷_, _++_, append-nil}
+use mathlib.Core.List.{List, [], _∷_, _++_}
 use native.Mathlib.Omega.{arith}
 use borrow.Author.Tests.{lt-ltb, le-ltb}
 use lib.ListN.{length, length-append}
 use Rattle.carve.specs.Found.{Types, cut, read, typeBefore, typesFrom}
-use Rattle.carve.specs.Inner.{WholeIs, TypesAre, kindsAt}
-use Rattle.carve.specs.declared.inner.TypesRead.the-variants.{Whole, Cut}
+use Rattle.carve.specs.Inner.{WholeIs, kindsAt}
 use Rattle.record.proofs.Laws.{varint-lies}
 use Rattle.record.proofs.Numbers.{by-order}
 use Rattle.record.specs.Varint.{varintAt}
@@ -65,51 +64,6 @@ before-one : (ts : List ℕ) (t : ℕ) (w : Types) → typesBefore (ts ++ (t ∷
 before-one [] t w = refl
 before-one (u ∷ ts) t w = rw (before-one ts t w)
 
--- of the types `whole`, at most `most`, so many were read up to `at`
-pub record SoFar (s : List ℕ) (stop : ℕ) (whole : Types) (most at count : ℕ) : Type 0 where
-  pub done : List ℕ
-  pub left : ℕ
-  pub sum : count + left ≡ most
-  pub counts : length done ≡ count
-  pub is : whole ≡ typesBefore done (typesFrom left s at stop)
-
-pub so-start : (s : List ℕ) (at stop most : ℕ) → SoFar s stop (typesFrom most s at stop) most at 0
-so-start s at stop most = record { done = []; left = most; sum = omega arith; counts = refl; is = refl }
-
-module _ (s : List ℕ) (stop : ℕ) (whole : Types) (most at count : ℕ) (w : SoFar s stop whole most at count) where
-  some-left : count < most → (k : ℕ) × (w .left ≡ suc k)
-  some-left h = go (w .left) (w .sum)
-    where
-      go : (l : ℕ) → count + l ≡ most → (k : ℕ) × (l ≡ suc k)
-      go zero e = absurd (omega arith)
-      go (suc k) e = (k, refl)
-
-  module _ (h : count < most) (below : at < stop) where
-    pub so-on : (t : ℕ) (c : Cursor) → varintAt s at ≡ Value t c → SoFar s stop whole most (c .at) (count + 1)
-    so-on t c e =
-        let k = some-left h in
-        let one = before-one (w .done) t (typesFrom (k .0) s (c .at) stop) in
-        record {
-          done = w .done ++ (t ∷ []);
-          left = k .0;
-          sum = omega (arith, k .1, w .sum);
-          counts = simp length-append (omega (arith, w .counts));
-          is = rw (k .1, types-step (k .0) s at stop t c below e) at (w .is) ∙ sym one;
-        }
-
-    pub so-cut : varintAt s at ≡ Short → whole ≡ cut
-    so-cut e = let k = some-left h in rw (k .1, types-cut (k .0) s at stop below e) at (w .is) ∙ before-cut (w .done)
-
-  -- no place is left, or no type
-  pub so-past : stop ≤ at → WholeIs whole count at
-  so-past h = record { types = w .done; is = rw (types-end (w .left) s at stop h) at (w .is) ∙ before-read (w .done) at; counts = w .counts }
-
-  pub so-all : most ≤ count → WholeIs whole count at
-  so-all h =
-      let z : w .left ≡ 0 = omega (arith, w .sum) in
-      record { types = w .done; is = rw (z, types-none s at stop) at (w .is) ∙ before-read (w .done) at; counts = w .counts }
-
--- ---- where reading ends, and how many there are
 never : {C : Type 0} {ts : List ℕ} {end : ℕ} → cut ≡ read ts end → C
 never e = let z : _≡_ {A = ℕ} 0 1 = cc in absurd (omega arith)
 
@@ -117,6 +71,82 @@ first-of : (t : ℕ) (w : Types) (ts : List ℕ) (end : ℕ) → typeBefore t w 
 first-of t cut ts end e = never e
 first-of t (read us end′) ts end e = let z : end′ ≡ end = cc in (us, rw z, cc)
 
+first-ones : (done : List ℕ) (w : Types) (ts : List ℕ) (end : ℕ) → typesBefore done w ≡ read ts end → (us : List ℕ) × (ts ≡ done ++ us)
+first-ones [] w ts end e = (ts, refl)
+first-ones (t ∷ done) w ts end e =
+    let f = first-of t (typesBefore done w) ts end e in
+    let r = first-ones done w (f .0) end (f .1) in
+    (r .0, f .2 ∙ ap (λ (l : List ℕ). t ∷ l) (r .1))
+
+-- of the types `whole`, at most `most`, those of the list `done` were read, up to `at`
+pub record SoFar (s : List ℕ) (stop : ℕ) (whole : Types) (most at : ℕ) (done : List ℕ) : Type 0 where
+  pub left : ℕ
+  pub sum : length done + left ≡ most
+  pub is : whole ≡ typesBefore done (typesFrom left s at stop)
+
+pub so-start : (s : List ℕ) (at stop most : ℕ) → SoFar s stop (typesFrom most s at stop) most at []
+so-start s at stop most = record { left = most; sum = omega arith; is = refl }
+
+module _ (s : List ℕ) (stop : ℕ) (whole : Types) (most at : ℕ) (done : List ℕ) (w : SoFar s stop whole most at done) where
+  module _ (h : length done < most) (below : at < stop) where
+    some-left : (k : ℕ) × (w .left ≡ suc k)
+    some-left = go (w .left) (w .sum)
+      where
+        go : (l : ℕ) → length done + l ≡ most → (k : ℕ) × (l ≡ suc k)
+        go zero e = absurd (omega arith)
+        go (suc k) e = (k, refl)
+
+    pub so-on : (t : ℕ) (c : Cursor) → varintAt s at ≡ Value t c → SoFar s stop whole most (c .at) (done ++ (t ∷ []))
+    so-on t c e =
+        let k = some-left in
+        record {
+          left = k .0;
+          sum = simp length-append (omega (arith, k .1, w .sum));
+          is = rw (k .1, types-step (k .0) s at stop t c below e) at (w .is) ∙ sym (before-one done t (typesFrom (k .0) s (c .at) stop));
+        }
+
+    pub so-cut : varintAt s at ≡ Short → whole ≡ cut
+    so-cut e = let k = some-left in rw (k .1, types-cut (k .0) s at stop below e) at (w .is) ∙ before-cut done
+
+  -- no place is left, or no type
+  pub so-past : stop ≤ at → whole ≡ read done at
+  so-past h = rw (types-end (w .left) s at stop h) at (w .is) ∙ before-read done at
+
+  pub so-all : most ≤ length done → whole ≡ read done at
+  so-all h = let z : w .left ≡ 0 = omega (arith, w .sum) in rw (z, types-none s at stop) at (w .is) ∙ before-read done at
+
+  -- THE LAW: if there are types in the end, these are the first of them
+  pub so-first : (ts : List ℕ) (end : ℕ) → whole ≡ read ts end → (us : List ℕ) × (ts ≡ done ++ us)
+  so-first ts end e = first-ones done (typesFrom (w .left) s at stop) ts end (sym (w .is) ∙ e)
+
+-- so many were read
+pub record Counted (s : List ℕ) (stop : ℕ) (whole : Types) (most at count : ℕ) : Type 0 where
+  pub done : List ℕ
+  pub counts : length done ≡ count
+  pub so : SoFar s stop whole most at done
+
+pub counted-start : (s : List ℕ) (at stop most : ℕ) → Counted s stop (typesFrom most s at stop) most at 0
+counted-start s at stop most = record { done = []; counts = refl; so = so-start s at stop most }
+
+module _ (s : List ℕ) (stop : ℕ) (whole : Types) (most at count : ℕ) (w : Counted s stop whole most at count) where
+  module _ (h : count < most) (below : at < stop) where
+    more : length (w .done) < most
+    more = rw (w .counts) h
+
+    pub counted-on : (t : ℕ) (c : Cursor) → varintAt s at ≡ Value t c → Counted s stop whole most (c .at) (count + 1)
+    counted-on t c e =
+        record { done = w .done ++ (t ∷ []); counts = simp length-append (omega (arith, w .counts)); so = so-on s stop whole most at (w .done) (w .so) more below t c e }
+
+    pub counted-cut : varintAt s at ≡ Short → whole ≡ cut
+    counted-cut e = so-cut s stop whole most at (w .done) (w .so) more below e
+
+  pub counted-past : stop ≤ at → WholeIs whole count at
+  counted-past h = record { types = w .done; is = so-past s stop whole most at (w .done) (w .so) h; counts = w .counts }
+
+  pub counted-all : most ≤ count → WholeIs whole count at
+  counted-all h = record { types = w .done; is = so-all s stop whole most at (w .done) (w .so) (rw (w .counts) h); counts = w .counts }
+
+-- ---- where reading ends, and how many there are
 pub record Typed (s : List ℕ) (most at : ℕ) (ts : List ℕ) (end : ℕ) : Type 0 where
   pub on : at ≤ end
   pub inside : end ≤ length s

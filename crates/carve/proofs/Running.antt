@@ -1,7 +1,7 @@
 -- The modes one after the other: rows of Normal as long as there are any, and what comes where there are none.
 -- Assumes nothing.
 use Prim.Native.Nat.{ℕ, zero, suc, _+_, _*_, _≤_, _<_}
-use mathlib.Core.Path.{_≡_, refl, sym, ap, _∙_}
+use mathlib.Core.Path.{_≡_, refl, sym}
 use mathlib.Core.Bool.{false}
 use mathlib.Core.List.{List, [], _∷_, _++_}
 use native.Mathlib.Omega.{arith}
@@ -9,7 +9,7 @@ use borrow.Author.Tests.{le-leb, lt-leb, not-false, ltb-false}
 use lib.ListN.{length}
 use lib.Seq.{sets}
 use Rattle.carve.specs.Found.{Found, Tried, miss, hit, endOf, hitOf, hitsOf}
-use Rattle.carve.specs.Inner.{foundIn, FindFits, HitIs, TriedIs, TriedFits, triedHits, Fitting, Ready, Filling}
+use Rattle.carve.specs.Inner.{foundIn, HitIs, TriedIs, TriedFits, triedHits, Ready, Filling}
 use Rattle.carve.specs.Modes.{columnsOnly, listed, orElse, headlessIn, columnsOnlyIn, firstColMissingIn, normalAt, normalFrom, normalFound, headlessFound, modesFound, carveChecks}
 use Rattle.carve.specs.declared.inner.Find.{Find}
 use Rattle.carve.specs.declared.inner.Style.{Style}
@@ -19,7 +19,7 @@ use Rattle.carve.proofs.Bodies.{end-inside}
 use Rattle.carve.proofs.Carving.{Carving, carving-start, carving-done, carving-over, carving-one}
 use Rattle.carve.proofs.Trying.{normal-found}
 use Rattle.carve.proofs.Writing.{few-columns}
-use Rattle.sheet.proofs.Laws.{none-holds, count-fits, room-rows, room-cols}
+use Rattle.sheet.proofs.Laws.{none-holds, count-fits}
 use Rattle.sheet.specs.Limits.{wordsPerRow, wordsPerEntry, largestRegion, largestBase}
 use Rattle.sheet.specs.Refusal.{firstHeld}
 use Rattle.sheet.specs.Row.{rowWords}
@@ -27,13 +27,6 @@ use Rattle.sheet.specs.declared.refusal.Checked.the-variants.{Passed}
 use Rattle.walk.proofs.Carving.{carves-more, carves-stop, told-on, told-over}
 use Rattle.walk.specs.Carve.{Hit as RowHit, groupWords}
 use Rattle.walk.specs.Inner.{Told, on, over, Carves}
-
--- ---- room for a row
-pub fitting : (s : List ℕ) (base columns room n rows cols : ℕ) (x : Find) → Ready (length s) base columns room n rows cols → FindFits s columns x → n < room
-    → Fitting s x base columns n rows cols
-fitting s base columns room n rows cols x r f h =
-    let below = rw (r .room-is) at h in
-    record { small = r .small; near = r .near; fits = f; row = room-rows rows cols columns n below; group = room-cols rows cols columns n below }
 
 -- what passed the checks
 pub filling : (len base columns : ℕ) → firstHeld (carveChecks len base columns) ≡ Passed → Filling len base columns
@@ -81,8 +74,8 @@ module _ (s : List ℕ) (base columns room : ℕ) (rows₀ cols₀ : List ℕ) w
   normals-start = record { fuel = length s; enough = omega arith; inside = omega arith; carving = carving-start columns room (hitsOf (length s) base (normalFound s columns)) rows₀ cols₀ }
 
   module _ (rows cols : List ℕ) (o n : ℕ) (w : Normals s base columns room rows₀ cols₀ rows cols o n) where
-    later : ℕ → List RowHit
-    later f = hitsOf (length s) base (normalFrom f s columns o)
+    abbrev later : List RowHit
+    later = hitsOf (length s) base (normalFrom (w .fuel) s columns o)
 
     pub normals-ready : Ready (length s) base columns room 0 (length rows₀) (length cols₀) → Ready (length s) base columns room n (length rows) (length cols)
     normals-ready r =
@@ -90,7 +83,7 @@ module _ (s : List ℕ) (base columns room : ℕ) (rows₀ cols₀ : List ℕ) w
         (record { small = r .small; near = r .near; some = r .some; few = r .few; room-is = r .room-is; fits = w .carving .fits })
 
     ends : normalFrom (w .fuel) s columns o ≡ [] → Carves columns room 0 all false rows₀ cols₀ (on n) rows cols
-    ends e = carving-done columns room all (hitsOf (length s) base (normalFrom (w .fuel) s columns o)) rows₀ cols₀ rows cols n (w .carving) (rw e)
+    ends e = carving-done columns room all later rows₀ cols₀ rows cols n (w .carving) (rw e)
 
     pub normals-end : length s < o + 3 → Carves columns room 0 all false rows₀ cols₀ (on n) rows cols
     normals-end h = ends (normal-end s columns o (w .fuel) h)
@@ -112,7 +105,7 @@ module _ (s : List ℕ) (base columns room : ℕ) (rows₀ cols₀ : List ℕ) w
             go (suc g) k = (g, refl, rw (normal-on s columns o g (foundIn s x) h (f .is)))
 
         pub normals-over : room ≤ n → Carves columns room 0 all false rows₀ cols₀ over rows cols
-        normals-over full = carving-over columns room all (hitsOf (length s) base (normalFrom (w .fuel) s columns o)) rows₀ cols₀ rows cols n (w .carving) one _ (next .2) full
+        normals-over full = carving-over columns room all later rows₀ cols₀ rows cols n (w .carving) one _ (next .2) full
 
         pub normals-one : (rows′ cols′ : List ℕ) → n < room
             → rows′ ≡ sets rows (n * wordsPerRow) (rowWords (one .row)) → cols′ ≡ sets cols (n * (wordsPerEntry * columns)) (groupWords columns one)
@@ -125,7 +118,7 @@ module _ (s : List ℕ) (base columns room : ℕ) (rows₀ cols₀ : List ℕ) w
               enough = omega (arith, w .enough, next .1, m .0);
               inside = m .1;
               carving =
-                  carving-one columns room all (hitsOf (length s) base (normalFrom (w .fuel) s columns o)) rows₀ cols₀ rows cols n (w .carving) one _ (next .2) rows′ cols′ lt (few-columns s base columns x (f .fits)) r c lr lc;
+                  carving-one columns room all later rows₀ cols₀ rows cols n (w .carving) one _ (next .2) rows′ cols′ lt (few-columns s base columns x (f .fits)) r c lr lc;
             }
 
 -- ---- the other two

@@ -2,18 +2,17 @@
 -- Assumes nothing.
 use Prim.Native.Nat.{ℕ, _+_, _-_, _≤_, _<_}
 use mathlib.Core.Path.{_≡_, refl, sym, ap, _∙_}
-use mathlib.Core.Bool.{Bool, true, false, cond}
 use mathlib.Core.List.{List, [], _∷_}
 use native.Mathlib.Omega.{arith}
 use borrow.Author.Tests.{le-leb, lt-leb}
 use lib.ListN.{length}
-use Rattle.carve.specs.Found.{Types, cut, read, typesFrom, Found, Tried, miss, hit}
-use Rattle.carve.specs.Inner.{WholeIs, kindsAt, foundIn, FindFits, HitIs, TriedIs}
+use Rattle.carve.specs.Found.{Types, cut, read, typesFrom, Found, miss, hit}
+use Rattle.carve.specs.Inner.{WholeIs, kindsAt, FindFits, HitIs, TriedIs}
 use Rattle.carve.specs.Modes.{normal, firstColMissing, rowOf, headedRow, normalWith, normalAt, headlessRow, headlessIn, firstColMissingIn}
 use Rattle.carve.specs.declared.inner.Find.{Find}
 use Rattle.carve.specs.declared.inner.Style.{Style}
 use Rattle.carve.specs.declared.inner.Tried.{Tried as Trial}
-use Rattle.carve.proofs.Reading.{Typed, typed}
+use Rattle.carve.proofs.Reading.{typed}
 use Rattle.record.proofs.Laws.{varint-lies}
 use Rattle.record.proofs.Numbers.{by-order}
 use Rattle.record.specs.Varint.{varintAt}

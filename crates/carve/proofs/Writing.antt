@@ -1,20 +1,20 @@
 -- The columns of a row, written one after the other: what is written, with what is left to write, comes to the whole.
 -- Assumes nothing.
-use Prim.Native.Nat.{ℕ, zero, suc, _+_, _-_, _*_, _≤_}
+use Prim.Native.Nat.{ℕ, zero, suc, _+_, _-_, _*_, _≤_, _<_}
 use mathlib.Core.Path.{_≡_, refl, sym, ap, _∙_}
 use mathlib.Core.List.{List, [], _∷_, _++_, append-assoc}
 use native.Mathlib.Omega.{arith}
 use lib.ListN.{length, length-append}
 use lib.Seq.{sets}
 use Rattle.carve.specs.Found.{columnAt, behind, columnsFrom, endFrom, lostColumns, hitOf}
-use Rattle.carve.specs.Inner.{kindsAt, foundIn, FindFits}
+use Rattle.carve.specs.Inner.{kindsAt, foundIn, FindFits, Fitting, Ready}
 use Rattle.carve.specs.declared.inner.Find.{Find}
 use Rattle.carve.proofs.Bodies.{behind-inside, columns-nil, columns-cons, columns-count, end-nil, end-cons}
 use Rattle.carve.proofs.Reading.{kinds-step, kinds-cut, kinds-none}
 use Rattle.record.specs.Varint.{varintAt}
 use Rattle.record.specs.declared.varint.Cursor.{Cursor}
 use Rattle.record.specs.declared.varint.Varint.the-variants.{Value, Short}
-use Rattle.sheet.proofs.Laws.{column-words-length, columns-words-length, sets-append}
+use Rattle.sheet.proofs.Laws.{column-words-length, columns-words-length, sets-append, room-rows, room-cols}
 use Rattle.sheet.specs.Columns.{columnWords, unusedWords}
 use Rattle.sheet.specs.Limits.{wordsPerEntry}
 use Rattle.sheet.specs.Sheet.{columnsWords}
@@ -88,3 +88,10 @@ few-columns s base width x f =
     let lost = lostColumns (x .style .lost) in
     let read = columnsFrom (length s) (x .start) (kindsAt (x .count) s (x .from)) in
     omega (arith, length-append lost read, lost-length (x .style .lost), columns-count (length s) (x .start) (kindsAt (x .count) s (x .from)), f .counts, f .few)
+
+-- ---- room for a row
+pub fitting : (s : List ℕ) (base columns room n rows cols : ℕ) (x : Find) → Ready (length s) base columns room n rows cols → FindFits s columns x → n < room
+    → Fitting s x base columns n rows cols
+fitting s base columns room n rows cols x r f h =
+    let below = rw (r .room-is) at h in
+    record { small = r .small; near = r .near; fits = f; row = room-rows rows cols columns n below; group = room-cols rows cols columns n below }

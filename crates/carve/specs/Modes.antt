@@ -4,7 +4,7 @@ use Prim.Native.Nat.{ℕ, zero, suc, _+_, _-_}
 use mathlib.Core.Bool.{Bool, cond, not, _&&_}
 use mathlib.Core.List.{List, [], _∷_, _++_}
 use lib.Dec.{ltb, leb}
-use lib.Ieee.{Float, binary32, ofBits}
+use lib.Ieee.{binary32, ofBits}
 use lib.ListN.{length}
 use Rattle.carve.specs.Found.{Types, cut, read, typesFrom, Found, Tried, miss, hit, endOf, hitsOf}
 use Rattle.carve.specs.declared.inner.Style.{Style}

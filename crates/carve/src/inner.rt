@@ -74,7 +74,7 @@ pub fn read_types(bytes: &[u8], from: usize, stop: usize, most: usize) -> TypesR
 }
 
 // The column of a type whose body would stand at a place of a slice of `len` bytes.
-fn column_at(len: usize, at: usize, kind: u64) -> Column
+pub fn column_at(len: usize, at: usize, kind: u64) -> Column
     requires { ⌜ at ≤ len ⌝ }
     ensures { λ r. ⌜ r ≡ columnAt len at kind ⌝ }
     ensures inside { λ r. ⌜ behindOf at r ≤ len ⌝ }
@@ -93,7 +93,7 @@ fn column_at(len: usize, at: usize, kind: u64) -> Column
 }
 
 // Where the next body starts: one that does not fit moves nothing.
-fn behind(at: usize, column: Column) -> usize
+pub fn behind(at: usize, column: Column) -> usize
     requires { ⌜ behindOf at column ≤ largestRegion ⌝ }
     ensures { λ r. ⌜ r ≡ behindOf at column ⌝ }
 {

@@ -5,10 +5,14 @@ use Prim.Native.Nat.{ℕ}
 use mathlib.Core.Path.{_≡_, sym, _∙_}
 use mathlib.Core.List.{List}
 use denote.Ref.{now}
-use Rattle.carving.specs.declared.inner.Carving.the-variants.{Freeblocks}
+use Rattle.carving.specs.declared.inner.Carving.the-variants.{Freeblocks, Gaps, Payload}
 use Rattle.carving.proofs.freeblocks.recover_freeblocks.Reads as recover-freeblocks
 use Rattle.carving.proofs.freeblocks.recover_page_freeblocks.Reads as recover-page-freeblocks
 use Rattle.carving.proofs.freeblocks.recover_slice_freeblocks.Reads as recover-slice-freeblocks
+use Rattle.carving.proofs.gaps.parse_cells_from_freeblock.Reads as parse-cells-from-freeblock
+use Rattle.carving.proofs.gaps.scan_page_gap.Reads as scan-page-gap
+use Rattle.carving.proofs.gaps.scan_page_gaps.Reads as scan-page-gaps
+use Rattle.carving.proofs.gaps.scan_single_page_gap.Reads as scan-single-page-gap
 use Rattle.carving.proofs.single.carve_numbered.Reads as carve-numbered
 use Rattle.carving.proofs.single.carve_slice.Reads as carve-slice
 use Rattle.carving.proofs.tables.carve_tables.Reads as carve-tables
@@ -64,3 +68,16 @@ recover-page-freeblocks-fixed k a x y s t p q = carve-numbered-fixed k (Freebloc
 pub recover-freeblocks-fixed : FixesSeen recover-freeblocks.Post
     (λ k r s. onTables r (now (s .1 .1 .1 .1 .1 .0)) (now (s .1 .1 .1 .1 .1 .1 .0)) (now (s .1 .1 .1 .1 .1 .1 .1 .0)) (now (s .1 .1 .1 .1 .1 .1 .1 .1 .0)))
 recover-freeblocks-fixed k a x y s t p q = carve-tables-fixed k (Freeblocks, a) x y (Freeblocks, s) (Freeblocks, t) p q
+
+pub scan-single-page-gap-fixed : FixesSeen scan-single-page-gap.Post (λ k r s. onPage r (now (s .1 .1 .1 .1 .0)) (now (s .1 .1 .1 .1 .1 .0)))
+scan-single-page-gap-fixed k a x y s t p q = carve-slice-fixed k (Gaps, a) x y (Gaps, s) (Gaps, t) p q
+
+pub scan-page-gap-fixed : FixesSeen scan-page-gap.Post (λ k r s. onPage r (now (s .1 .1 .1 .1 .0)) (now (s .1 .1 .1 .1 .1 .0)))
+scan-page-gap-fixed k a x y s t p q = carve-numbered-fixed k (Gaps, a) x y (Gaps, s) (Gaps, t) p q
+
+pub scan-page-gaps-fixed : FixesSeen scan-page-gaps.Post
+    (λ k r s. onTables r (now (s .1 .1 .1 .1 .1 .0)) (now (s .1 .1 .1 .1 .1 .1 .0)) (now (s .1 .1 .1 .1 .1 .1 .1 .0)) (now (s .1 .1 .1 .1 .1 .1 .1 .1 .0)))
+scan-page-gaps-fixed k a x y s t p q = carve-tables-fixed k (Gaps, a) x y (Gaps, s) (Gaps, t) p q
+
+pub parse-cells-from-freeblock-fixed : FixesSeen parse-cells-from-freeblock.Post (λ k r s. onPage r (now (s .1 .1 .1 .0)) (now (s .1 .1 .1 .1 .0)))
+parse-cells-from-freeblock-fixed k a x y s t p q = carve-slice-fixed k (Payload, (a .0, (0, a .1))) x y (Payload, (s .0, (0, s .1))) (Payload, (t .0, (0, t .1))) p q

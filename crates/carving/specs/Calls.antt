@@ -1,12 +1,14 @@
--- The calls that carve pages, by the way in which one page is carved: of a page slice, of a page by its number, and of tables (rules 9.14, 10.4, 10.5).
+-- The calls that carve pages, by the way in which one page is carved: of a page slice, of a page by its number, and of tables (rules 9.14, 10.5 and 11.9).
 -- Assumes nothing.
 use Prim.Native.Nat.{ℕ}
 use mathlib.Core.Bool.{not}
 use mathlib.Core.List.{List, _∷_}
 use lib.ListN.{length}
 use Rattle.carving.specs.declared.inner.Carving.{Carving}
-use Rattle.carving.specs.declared.inner.Carving.the-variants.{Freeblocks}
+use Rattle.carving.specs.declared.inner.Carving.the-variants.{Freeblocks, Gaps, Payload}
+use Rattle.cells.specs.Cells.{oneByte, payloadHits}
 use Rattle.freeblock.specs.Freeblock.{pageHits}
+use Rattle.gap.specs.Gap.{gapHits, pageHits as gapPageHits}
 use Rattle.hit.specs.declared.inner.Spot.{Spot}
 use Rattle.page.specs.Page.{startOf, pageOf, headOf, pageChecks}
 use Rattle.sheet.specs.Limits.{countFits, hintsKnown}
@@ -16,9 +18,12 @@ use Rattle.sheet.specs.declared.filled.Filled.{Filled}
 use Rattle.sheet.specs.declared.refusal.Refusal.the-variants.{ColumnCount, Malformed}
 use Rattle.walk.specs.Carve.{Hit, Carver, pageAnswerOf, pageRowsOf, pageColsOf, pageNumberOf, pageWrittenOf}
 
--- what stands on a page whose b-tree header is at `head`: rule 10.4 for the freeblocks
+-- what stands on a page whose b-tree header is at `head`: rule 10.4 for the freeblocks, 11.8 for the gap and the blocks behind it, 11.5 and 11.6
+-- for the payload of one block
 unfoldable pub hitsBy : Carving → List ℕ → ℕ → List ℕ → Spot → List Hit
 hitsBy Freeblocks page head hints spot = pageHits page head hints spot
+hitsBy Gaps page head hints spot = gapPageHits gapHits oneByte page head hints spot
+hitsBy Payload page head hints spot = payloadHits oneByte spot 0 page hints
 
 -- a page of a database: offsets and entries are said of the database
 unfoldable pub leafHits : Carving → List ℕ → ℕ → Carver

@@ -1,4 +1,5 @@
 // Carving one page, in the way that is asked for.
+use cells::inner::carve_payload;
 use hit::inner::Lent;
 use hit::inner::Spot;
 use walk::inner::Carved;
@@ -11,6 +12,10 @@ ghost use Rattle.walk.specs.Inner.{carvedAs, Carves};
 pub enum Carving {
     // The blocks of the page's chain.
     Freeblocks,
+    // The gap behind its cell pointers, and then its blocks.
+    Gaps,
+    // The bytes are no page, but the payload of one block.
+    Payload,
 }
 
 // The b-tree header stands at `head`.
@@ -32,5 +37,7 @@ pub fn carve_page(
         Carving::Freeblocks => {
             freeblock::inner::carve_page(page, head, hints, spot, lent, n, rows, cols)
         }
+        Carving::Gaps => gap::inner::carve_page(page, head, hints, spot, lent, n, rows, cols),
+        Carving::Payload => carve_payload(page, hints, spot, 0, lent, n, rows, cols),
     }
 }

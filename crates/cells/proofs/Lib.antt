@@ -1,5 +1,8 @@
-mod Along
+pub mod Along
+mod Cases
+pub mod Fuel
 mod Looking
-mod Rebuilding
+pub mod ReadBack
+pub mod Rebuilding
 mod Skipping
 mod Starting

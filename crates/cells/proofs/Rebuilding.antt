@@ -75,11 +75,11 @@ module _ (d hints : List ℕ) (v : ℕ) (start : v ≤ length d) (some : 1 ≤ l
           let ts = kinds (findTypes d v x) in
           one-byte-is h ∙ rw (f .hits, ← moved-at v (x .head) ts, back-moved v (columnsAt (x .head) ts))
 
-      pub rebuilt-long : 65535 < x .consumed → oneByte d hints v ≡ miss
-      rebuilt-long q = seen ∙ simp (le-ltb (x .consumed) mostBytes (omega arith))
+      pub rebuilt-long : mostBytes ≤ x .consumed → oneByte d hints v ≡ miss
+      rebuilt-long q = seen ∙ simp (le-ltb (x .consumed) mostBytes q)
 
-      pub rebuilt-is : x .consumed ≤ 65535 → oneByte d hints v ≡ hit (foundFrom d v x)
-      rebuilt-is q = seen ∙ simp (lt-ltb (x .consumed) mostBytes (omega arith))
+      pub rebuilt-is : x .consumed < mostBytes → oneByte d hints v ≡ hit (foundFrom d v x)
+      rebuilt-is q = seen ∙ simp (lt-ltb (x .consumed) mostBytes q)
 
 -- ---- one start is carved
 pub start-next : (k : ℕ) (passed : Bool) → passed ≡ false → k ≡ nextRow k passed

@@ -1,6 +1,7 @@
 // Records whose header's length is lost: it is made up, one byte, and the types stand where the bytes begin.
 use crate::turn::Turn;
 use attempt::inner::Find;
+use attempt::inner::MOST_BYTES;
 use attempt::inner::Verdict;
 use attempt::inner::given_header;
 use hit::inner::Head;
@@ -33,9 +34,6 @@ pub enum Rebuilt {
     Nothing,
 }
 
-// A row takes at most so many bytes, besides the one that is made up.
-const MOST_REBUILT: usize = 65_535;
-
 fn rebuild(payload: &[u8], hints: &[u8], v: usize) -> Rebuilt
     requires { ⌜ (v ≤ length (now payload)) × (length (now payload) ≤ largestRegion) ⌝ }
     requires { ⌜ (1 ≤ length (now hints)) × (length (now hints) ≤ mostColumns) ⌝ }
@@ -48,7 +46,8 @@ fn rebuild(payload: &[u8], hints: &[u8], v: usize) -> Rebuilt
     let Verdict::Hit(find) = given_header(payload, hints, v, columns, v) else {
         return Rebuilt::Nothing;
     };
-    if find.consumed > MOST_REBUILT {
+    // With the byte that is made up it takes one more.
+    if find.consumed >= MOST_BYTES {
         return Rebuilt::Nothing;
     }
     Rebuilt::Found(find)
@@ -101,6 +100,7 @@ fn is_cell(rows: &[u64], k: usize, cells: usize, offset: u64) -> bool
     if k >= cells {
         return false;
     }
+    // A row begins with its offset.
     rows[k * WORDS_PER_ROW] == offset
 }
 

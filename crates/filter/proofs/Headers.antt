@@ -9,9 +9,9 @@ use lib.ListN.{length, getD}
 use Rattle.attempt.proofs.Judging.{fits, fits-not, attempt-short, attempt-bad, attempt-is, places-is, headed, read-all, judge-never}
 use Rattle.attempt.specs.Attempt.{kinds, isWhole, typesFrom, headerFits, attemptAt}
 use Rattle.attempt.specs.Inner.{reach, headerTypes, Headed}
-use Rattle.filter.specs.Inner.{MissAt, IsHigh, Holds, Ends}
+use Rattle.filter.specs.Inner.{MissAt, IsHigh, Holds, Ends, Fitting, MayHave}
 use Rattle.filter.specs.declared.high.High.{High}
-use Rattle.filter.proofs.Skipping.{ends-start, ends-pass, ends-end}
+use Rattle.filter.proofs.Skipping.{ends-start, ends-pass, ends-end, unfitting}
 use Rattle.record.proofs.Laws.{varint-low, varint-large}
 use Rattle.record.proofs.Numbers.{by-order}
 use Rattle.record.specs.Places.{stopOf}
@@ -80,3 +80,7 @@ ends-at-run s o h run two in′ low r =
     let b = r .is .low-before (omega (arith, r .from-there, r .to-there)) (omega arith) in
     rw e at (ends-pass s (o + h) in′ (run .from - 1) (omega (arith, r .from-there)) b h (o + 1) (omega arith) (omega arith)))
     (λ there. let e : run .from ≡ o + 1 = omega arith in rw e (ends-start s (o + h) in′ h (o + 1) (omega arith))))
+
+-- a header of other than one to nine bytes a type has other than so many
+pub unfit : (s : List ℕ) (o h n : ℕ) → 2 ≤ h → o + h ≤ length s → Fitting n h false → MayHave (headerTypes s o h (o + 1)) n false
+unfit s o h n two in′ none w e = unfitting s (o + h) in′ h (o + 1) n (omega arith) (omega arith) (λ a b. none (omega arith) (omega arith)) w e

@@ -90,12 +90,9 @@ module _ (s : List ℕ) (stop : ℕ) (inside : stop ≤ length s) where
           rw q (omega (arith, z .nine, r .0), omega (arith, z .past, r .1)))
       go lt Short v rest = never (rw (types-cut f s at stop lt v) at e)
 
-  module _ (f at n : ℕ) (le : at ≤ stop) (h : stop ≤ at + f) where
-    pub too-long : 9 * n < stop - at → isWhole (typesFrom f s at stop) ≡ true → length (kinds (typesFrom f s at stop)) ≡ n → ⊥
-    too-long long w e = omega (arith, takes f at le h w .0)
-
-    pub too-short : stop - at < n → isWhole (typesFrom f s at stop) ≡ true → length (kinds (typesFrom f s at stop)) ≡ n → ⊥
-    too-short short w e = omega (arith, takes f at le h w .1)
+  pub unfitting : (f at n : ℕ) → at ≤ stop → stop ≤ at + f → (n ≤ stop - at → stop - at ≤ 9 * n → ⊥)
+      → isWhole (typesFrom f s at stop) ≡ true → length (kinds (typesFrom f s at stop)) ≡ n → ⊥
+  unfitting f at n le h none w e = let t = takes f at le h w in none (omega (arith, t .1)) (omega (arith, t .0))
 
   pub skipped-start : (f at : ℕ) → stop ≤ at + f → Skipped s stop (typesFrom f s at stop) at 0
   unfolding Skipped

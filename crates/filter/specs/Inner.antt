@@ -10,10 +10,11 @@ use Rattle.attempt.specs.Inner.{reach, MissIs, HitIs}
 use Rattle.attempt.specs.Places.{mostPlaces, attemptPlaces}
 use Rattle.attempt.specs.declared.inner.Find.{Find}
 use Rattle.filter.specs.declared.high.High.{High}
-use Rattle.filter.specs.declared.inner.Seen.{Seen}
 use Rattle.filter.specs.declared.inner.Next.{Next}
 use Rattle.filter.specs.declared.inner.Next.the-variants.{Row, Through}
 use Rattle.filter.specs.declared.inner.Over.{Over}
+use Rattle.filter.specs.declared.inner.Step.{Step}
+use Rattle.filter.specs.declared.inner.Step.the-variants.{Row as Stands, On}
 
 -- ---- runs of bytes from 128 up
 
@@ -44,6 +45,11 @@ pub record Holds (s : List ℕ) (p : ℕ) (run : High) : Type 0 where
 
 -- ---- types
 
+-- false says that n types of one to nine bytes are fewer bytes than the header has behind its first, or more
+abbrev pub Fitting : ℕ → ℕ → Bool → Type 0
+Fitting n head true = Unit
+Fitting n head false = (n < head → head - 1 ≤ 9 * n → ⊥)
+
 -- false says that the types are not n, or are cut
 abbrev pub MayHave : Types → ℕ → Bool → Type 0
 MayHave ts n true = Unit
@@ -59,9 +65,8 @@ abbrev pub MissAt : List ℕ → List ℕ → ℕ → ℕ → Type 0
 MissAt s hints o read = MissIs (attemptAt s hints o) (attemptPlaces s o) read
 
 -- a number of header bytes says that the attempt fails and reads so many; 0 says nothing
-pub record Looked (s hints : List ℕ) (o : ℕ) (r : Seen) : Type 0 where
-  pub misses : 0 < r .read → MissAt s hints o (r .read)
-  pub run-is : IsHigh s (r .run)
+abbrev pub Dismissed : List ℕ → List ℕ → ℕ → ℕ → Type 0
+Dismissed s hints o read = 0 < read → MissAt s hints o read
 
 -- the attempts at k offsets from o on fail, and read so many header bytes in all
 abbrev pub MissFrom : List ℕ → List ℕ → ℕ → ℕ → ℕ → Type 0
@@ -75,9 +80,14 @@ pub record Passed (s hints : List ℕ) (start to read : ℕ) : Type 0 where
   pub over : MissFrom s hints start count read
   pub few : read ≤ mostPlaces * count
 
-pub record Went (s hints : List ℕ) (start last : ℕ) (r : Over) : Type 0 where
-  pub passed : Passed s hints start (r .to) (r .read)
-  pub near : start < last → r .to ≤ last
+-- and none from `last` on
+pub record Went (s hints : List ℕ) (start last to read : ℕ) : Type 0 where
+  pub passed : Passed s hints start to read
+  pub near : start < last → to ≤ last
+  pub early : last ≤ start → (to ≡ start) × (read ≡ 0)
+
+pub record Met (s hints : List ℕ) (start last : ℕ) (r : Over) : Type 0 where
+  pub went : Went s hints start last (r .to) (r .read)
   pub run-is : IsHigh s (r .run)
 
 -- ---- the next row, behind offsets that are passed over
@@ -90,10 +100,17 @@ pub record RowIs (s hints : List ℕ) (start last at : ℕ) (x : Find) (read : �
 -- or all are passed over
 pub record ThroughIs (s hints : List ℕ) (start last read : ℕ) : Type 0 where
   pub to : ℕ
-  pub passed : Passed s hints start to read
+  pub went : Went s hints start last to read
   pub there : last ≤ to
-  pub near : start < last → to ≤ last
-  pub early : last ≤ start → (to ≡ start) × (read ≡ 0)
+
+-- or one step on
+pub record OnIs (s hints : List ℕ) (o last : ℕ) (over : Over) : Type 0 where
+  pub met : Met s hints o last over
+  pub further : o < last → o < over .to
+
+abbrev pub StepSays : List ℕ → List ℕ → ℕ → ℕ → Step → Type 0
+StepSays s hints o last (Stands x) = (o < last) × HitIs s hints o (attemptAt s hints o) (attemptPlaces s o) x
+StepSays s hints o last (On over) = OnIs s hints o last over
 
 abbrev pub NextSays : List ℕ → List ℕ → ℕ → ℕ → Next → Type 0
 NextSays s hints start last (Row at x read run) = RowIs s hints start last at x read run

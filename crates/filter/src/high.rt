@@ -68,3 +68,9 @@ pub fn varint_end(len: usize, to: usize, at: usize) -> usize
     }
     len
 }
+
+pub fn lesser(x: usize, y: usize) -> usize
+    ensures { λ r. ⌜ r ≡ min x y ⌝ }
+{
+    if x < y { x } else { y }
+}

@@ -1,7 +1,9 @@
 // The next row of a region, for our own crates. An attempt decides only where nothing is soon seen.
 pub use crate::high::High;
+use crate::high::lesser;
 use crate::high::run_around;
 use crate::high::varint_end;
+use crate::types::may_fit;
 use crate::types::may_have;
 use crate::types::types_end;
 use attempt::inner::Find;
@@ -9,22 +11,28 @@ use attempt::inner::Verdict;
 use attempt::inner::attempt;
 use record::inner::wide;
 ghost use mathlib.Core.Path.{_≡_};
-ghost use Prim.Native.Nat.{_≤_, _<_};
+ghost use Prim.Native.Nat.{_+_, _≤_, _<_};
 ghost use lib.ListN.{length, getD};
-ghost use Rattle.filter.specs.Inner.{IsHigh, Looked, Went, NextSays};
+ghost use Rattle.filter.specs.Inner.{IsHigh, Holds, Dismissed, Went, Met, StepSays, NextSays};
 ghost use Rattle.sheet.specs.Limits.{mostColumns, largestRegion};
 
-// The header bytes that an attempt reads where it is seen that it fails, else 0; and the run of high bytes that was met last.
-struct Seen {
-    pub read: usize,
-    pub run: High,
+// Up to where offsets are passed over, and the header bytes that attempts there read.
+struct Gone {
+    to: usize,
+    read: usize,
 }
 
-// Up to where offsets are passed over, and the header bytes that attempts there read.
+// The same, and the run of high bytes that was met last.
 struct Over {
-    pub to: usize,
-    pub read: usize,
-    pub run: High,
+    to: usize,
+    read: usize,
+    run: High,
+}
+
+// A row that starts here, or how far it is passed over.
+enum Step {
+    Row(Find),
+    On(Over),
 }
 
 // The next row, and the header bytes that attempts before it read; or there is none.
@@ -38,79 +46,157 @@ pub enum Next {
     Through(usize),
 }
 
-// A header of 2 to 127 bytes: its length is its first byte.
-fn look_header(bytes: &[u8], hints: &[u8], o: usize, head: usize, run: High) -> Seen
+// The header bytes that an attempt at o reads, where bytes below 128 show soon that it fails; else 0. A first byte below 2 is too short a
+// header, and types end with a header whose last byte is below 128.
+fn look_low(bytes: &[u8], hints: &[u8], o: usize) -> usize
+    requires { ⌜ (o < length (now bytes)) × (length (now bytes) ≤ largestRegion) × (length (now hints) ≤ mostColumns) ⌝ }
+    ensures { λ r. ⌜ Dismissed (now (bytes .entry)) (now (hints .entry)) o r ⌝ }
+{
+    let head = wide(bytes[o]) as usize;
+    if head < 2 {
+        return 1;
+    }
+    if head > 127 {
+        return 0;
+    }
+    if head > bytes.len() - o {
+        return 1;
+    }
+    if bytes[o + head - 1] > 127 {
+        return 0;
+    }
+    if may_fit(hints.len(), head) {
+        if may_have(hints.len(), bytes, o, head) {
+            return 0;
+        }
+    }
+    head
+}
+
+// A loop of its own, since these are most offsets.
+fn pass_low(bytes: &[u8], hints: &[u8], start: usize, last: usize) -> Gone
+    requires { ⌜ (last ≤ length (now bytes)) × (length (now bytes) ≤ largestRegion) × (length (now hints) ≤ mostColumns) ⌝ }
+    ensures { λ r. ⌜ Went (now (bytes .entry)) (now (hints .entry)) start last (r .to) (r .read) ⌝ }
+{
+    let mut o = start;
+    let mut read: usize = 0;
+    while o < last {
+        let r = look_low(bytes, hints, o);
+        if r == 0 {
+            return Gone { to: o, read };
+        }
+        read = read + r;
+        o = o + 1;
+    }
+    Gone { to: o, read }
+}
+
+// The same of first bytes from 133 up in a run: they begin numbers above 512.
+fn pass_high(bytes: &[u8], hints: &[u8], start: usize, last: usize, run: High) -> Gone
+    requires { ⌜ (last ≤ length (now bytes)) × (length (now bytes) ≤ largestRegion) ⌝ }
+    requires { ⌜ Holds (now bytes) start run ⌝ }
+    ensures { λ r. ⌜ Went (now (bytes .entry)) (now (hints .entry)) start last (r .to) (r .read) ⌝ }
+{
+    let end = lesser(run.to, last);
+    let mut o = start;
+    let mut read: usize = 0;
+    while o < end {
+        if bytes[o] < 133 {
+            return Gone { to: o, read };
+        }
+        read = read + (varint_end(bytes.len(), run.to, o) - o);
+        o = o + 1;
+    }
+    Gone { to: o, read }
+}
+
+// A header of 2 to 127 bytes that ends in a run.
+fn pass_header(bytes: &[u8], hints: &[u8], o: usize, head: usize, run: High) -> Over
     requires { ⌜ (o < length (now bytes)) × (head ≡ getD (now bytes) o 0) × (2 ≤ head) × (head < 128) ⌝ }
     requires { ⌜ (length (now bytes) ≤ largestRegion) × (length (now hints) ≤ mostColumns) ⌝ }
     requires { ⌜ IsHigh (now bytes) run ⌝ }
-    ensures { λ r. ⌜ Looked (now (bytes .entry)) (now (hints .entry)) o r ⌝ }
+    ensures { λ r. ⌜ Met (now (bytes .entry)) (now (hints .entry)) o (o + 1) r ⌝ }
 {
     if head > bytes.len() - o {
-        return Seen { read: 1, run };
-    }
-    if may_have(hints.len(), bytes, o, head) {
-        return Seen { read: 0, run };
+        return Over {
+            to: o,
+            read: 0,
+            run,
+        };
     }
     let last = o + head - 1;
     if bytes[last] < 128 {
-        return Seen { read: head, run };
+        return Over {
+            to: o,
+            read: 0,
+            run,
+        };
+    }
+    if may_fit(hints.len(), head) {
+        return Over {
+            to: o,
+            read: 0,
+            run,
+        };
     }
     let around = run_around(bytes, last, run);
-    Seen {
+    Over {
+        to: o + 1,
         read: types_end(bytes, o, head, around) - o,
         run: around,
     }
 }
 
-// A first byte below 2 is too short a header; one from 133 up begins a number above 512.
-fn look(bytes: &[u8], hints: &[u8], o: usize, run: High) -> Seen
-    requires { ⌜ (o < length (now bytes)) × (length (now bytes) ≤ largestRegion) × (length (now hints) ≤ mostColumns) ⌝ }
+// Offsets at which a run of high bytes decides.
+fn pass_run(bytes: &[u8], hints: &[u8], o: usize, last: usize, run: High) -> Over
+    requires { ⌜ (o < last) × (last ≤ length (now bytes)) × (length (now bytes) ≤ largestRegion) × (length (now hints) ≤ mostColumns) ⌝ }
     requires { ⌜ IsHigh (now bytes) run ⌝ }
-    ensures { λ r. ⌜ Looked (now (bytes .entry)) (now (hints .entry)) o r ⌝ }
+    ensures { λ r. ⌜ Met (now (bytes .entry)) (now (hints .entry)) o last r ⌝ }
 {
     let first = wide(bytes[o]);
     if first < 2 {
-        return Seen { read: 1, run };
+        return Over {
+            to: o,
+            read: 0,
+            run,
+        };
     }
     if first < 128 {
-        return look_header(bytes, hints, o, first as usize, run);
-    }
-    if first < 133 {
-        return Seen { read: 0, run };
+        return pass_header(bytes, hints, o, first as usize, run);
     }
     let around = run_around(bytes, o, run);
-    Seen {
-        read: varint_end(bytes.len(), around.to, o) - o,
+    let gone = pass_high(bytes, hints, o, last, around);
+    Over {
+        to: gone.to,
+        read: gone.read,
         run: around,
     }
 }
 
-// Passes over offsets from `start` on, up to one at which a row may start, or to `last`.
-fn pass_over(bytes: &[u8], hints: &[u8], start: usize, last: usize, run: High) -> Over
+// One step on: past what a run decides, or else by an attempt.
+fn one_step(bytes: &[u8], hints: &[u8], o: usize, last: usize, run: High) -> Step
     requires { ⌜ (last ≤ length (now bytes)) × (length (now bytes) ≤ largestRegion) × (length (now hints) ≤ mostColumns) ⌝ }
     requires { ⌜ IsHigh (now bytes) run ⌝ }
-    ensures { λ r. ⌜ Went (now (bytes .entry)) (now (hints .entry)) start last r ⌝ }
+    ensures { λ r. ⌜ StepSays (now (bytes .entry)) (now (hints .entry)) o last r ⌝ }
 {
-    let mut o = start;
-    let mut read: usize = 0;
-    let mut met = run;
-    while o < last {
-        let seen = look(bytes, hints, o, met);
-        if seen.read == 0 {
-            return Over {
-                to: o,
-                read,
-                run: met,
-            };
-        }
-        read = read + seen.read;
-        met = seen.run;
-        o = o + 1;
+    if o >= last {
+        return Step::On(Over {
+            to: o,
+            read: 0,
+            run,
+        });
     }
-    Over {
-        to: o,
-        read,
-        run: met,
+    let over = pass_run(bytes, hints, o, last, run);
+    if over.to > o {
+        return Step::On(over);
+    }
+    match attempt(bytes, hints, o) {
+        Verdict::Hit(find) => Step::Row(find),
+        Verdict::Miss(read) => Step::On(Over {
+            to: o + 1,
+            read,
+            run,
+        }),
     }
 }
 
@@ -124,24 +210,22 @@ pub fn next_row(bytes: &[u8], hints: &[u8], start: usize, last: usize, run: High
     let mut read: usize = 0;
     let mut met = run;
     while o < last {
-        let over = pass_over(bytes, hints, o, last, met);
-        o = over.to;
-        read = read + over.read;
-        met = over.run;
-        if o < last {
-            match attempt(bytes, hints, o) {
-                Verdict::Hit(find) => {
-                    return Next::Row {
-                        at: o,
-                        find,
-                        read,
-                        run: met,
-                    };
-                }
-                Verdict::Miss(r) => {
-                    o = o + 1;
-                    read = read + r;
-                }
+        let low = pass_low(bytes, hints, o, last);
+        let at = low.to;
+        read = read + low.read;
+        match one_step(bytes, hints, at, last, met) {
+            Step::Row(find) => {
+                return Next::Row {
+                    at,
+                    find,
+                    read,
+                    run: met,
+                };
+            }
+            Step::On(over) => {
+                o = over.to;
+                read = read + over.read;
+                met = over.run;
             }
         }
     }

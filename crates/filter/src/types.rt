@@ -6,21 +6,28 @@ ghost use mathlib.Core.Path.{_≡_};
 ghost use Prim.Native.Nat.{_+_, _-_, _≤_, _<_};
 ghost use lib.ListN.{length, getD};
 ghost use Rattle.attempt.specs.Inner.{headerTypes, reach};
-ghost use Rattle.filter.specs.Inner.{MayHave, Holds};
+ghost use Rattle.filter.specs.Inner.{Fitting, MayHave, Holds};
 ghost use Rattle.sheet.specs.Limits.{mostColumns};
 
-// Each type has one to nine bytes.
+// Each type has one to nine bytes, so a header of so many has room for neither too few nor too many.
+pub fn may_fit(columns: usize, head: usize) -> bool
+    requires { ⌜ columns ≤ mostColumns ⌝ }
+    ensures { λ r. ⌜ Fitting columns head r ⌝ }
+{
+    if head <= columns {
+        return false;
+    }
+    if head - 1 > 9 * columns {
+        return false;
+    }
+    true
+}
+
+// Whether just so many types stand in a header, if they are whole.
 pub fn may_have(columns: usize, bytes: &[u8], o: usize, head: usize) -> bool
-    requires { ⌜ (1 ≤ head) × (o + head ≤ length (now bytes)) × (columns ≤ mostColumns) ⌝ }
+    requires { ⌜ (1 ≤ head) × (o + head ≤ length (now bytes)) ⌝ }
     ensures { λ r. ⌜ MayHave (headerTypes (now (bytes .entry)) o head (o + 1)) columns r ⌝ }
 {
-    let long = head - 1;
-    if long < columns {
-        return false;
-    }
-    if long > 9 * columns {
-        return false;
-    }
     let stop = o + head;
     let mut at = o + 1;
     let mut k: usize = 0;

@@ -1,6 +1,6 @@
 mod Cases
 mod Chaining
 mod Gaps
-mod Going
+pub mod ReadBack
 mod Regions
 pub mod Room

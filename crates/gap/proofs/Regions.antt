@@ -11,7 +11,7 @@ use Rattle.attempt.specs.Attempt.{Found, miss, hit, attemptAt}
 use Rattle.attempt.specs.Inner.{foundAt}
 use Rattle.attempt.specs.declared.inner.Find.{Find}
 use Rattle.gap.specs.Gap.{regionHit, runHits, regionHits}
-use Rattle.gap.proofs.Going.{Going, going-start, going-end, going-on, going-full}
+use Rattle.cells.proofs.Along.{Along, along-start, along-end, along-on, along-full}
 use Rattle.hit.proofs.Laws.{headAt, there-is}
 use Rattle.hit.specs.Inner.{hitThere}
 use Rattle.hit.specs.declared.inner.Lent.{Lent}
@@ -43,68 +43,65 @@ module _ (s : List ℕ) (from : ℕ) (hints : List ℕ) (spot : Spot) where
     pub rows-found : ℕ
     pub enough : length s ≤ o + fuel
     pub few : rows-found ≤ o
-    pub going : Going lent n₀ rows₀ cols₀ (regionHits spot from s hints) (left-hits fuel o rows-found) rows cols m
+    pub along : Along lent n₀ (regionHits spot from s hints) rows₀ cols₀ (left-hits fuel o rows-found) rows cols m
 
   module _ (lent : Lent) (n₀ : ℕ) (rows₀ cols₀ : List ℕ) where
     pub scanning-start : n₀ ≤ lent .room → Scanning lent n₀ rows₀ cols₀ rows₀ cols₀ 0 n₀
     unfolding regionHits
-    scanning-start h = record { fuel = length s; rows-found = 0; enough = omega arith; few = omega arith; going = going-start lent n₀ rows₀ cols₀ _ h }
+    scanning-start h = record { fuel = length s; rows-found = 0; enough = omega arith; few = omega arith; along = along-start lent n₀ _ rows₀ cols₀ h }
 
     module _ (rows cols : List ℕ) (o m : ℕ) (w : Scanning lent n₀ rows₀ cols₀ rows cols o m) where
       pub scanning-end : length s ≤ o + 2 → Carves (lent .width) (lent .room) n₀ (regionHits spot from s hints) false rows₀ cols₀ (on m) rows cols
-      scanning-end h =
-          going-end _ _ _ _ _ _ _ _ _ (w .going)
-          (ap (λ (t : Run). runHits spot (length hints) from t) (scan-end (w .fuel) s hints (length s) o (w .rows-found) (omega arith)))
+      scanning-end h = along-end _ _ _ _ _ _ _ _ (rw (scan-end (w .fuel) s hints (length s) o (w .rows-found) (omega arith)) at (w .along))
 
       module _ (in′ : o + 2 < length s) where
         below : o < length s - 2
         below = omega arith
 
-        pub scanning-missed : attemptAt s hints o ≡ miss → Scanning lent n₀ rows₀ cols₀ rows cols (o + 1) m
-        scanning-missed e = go (w .fuel) (w .enough) (w .going)
+        -- there is fuel for one attempt more
+        more : {C : Type 0} → ((f : ℕ) → length s ≤ o + suc f → Along lent n₀ (regionHits spot from s hints) rows₀ cols₀ (left-hits (suc f) o (w .rows-found)) rows cols m → C) → C
+        more {C} then = go (w .fuel) (w .enough) (w .along)
           where
-            go : (f : ℕ) → length s ≤ o + f → Going lent n₀ rows₀ cols₀ (regionHits spot from s hints) (left-hits f o (w .rows-found)) rows cols m
-                → Scanning lent n₀ rows₀ cols₀ rows cols (o + 1) m
+            go : (f : ℕ) → length s ≤ o + f → Along lent n₀ (regionHits spot from s hints) rows₀ cols₀ (left-hits f o (w .rows-found)) rows cols m → C
             go zero q g = absurd (omega arith)
-            go (suc f) q g =
-                record {
-                  fuel = f;
-                  rows-found = w .rows-found;
-                  enough = omega arith;
-                  few = omega (arith, w .few);
-                  going = rw (scan-missed f s hints (length s) o (w .rows-found) below e) at g;
-                }
+            go (suc f) q g = then f q g
 
-        module _ (x : Found) (e : attemptAt s hints o ≡ hit x) where
+        pub scanning-missed : attemptAt s hints o ≡ miss → Scanning lent n₀ rows₀ cols₀ rows cols (o + 1) m
+        scanning-missed e =
+            more
+            (λ f q g.
+            record {
+              fuel = f;
+              rows-found = w .rows-found;
+              enough = omega arith;
+              few = omega (arith, w .few);
+              along = rw (scan-missed f s hints (length s) o (w .rows-found) below e) at g;
+            })
+
+        module _ (x : Found) (e : attemptAt s hints o ≡ hit x) (rows′ cols′ : List ℕ) where
           abbrev one : List Hit
           one = regionHit spot (length hints) from o x ∷ []
 
-          -- the row comes first in what is left
-          next : (f : ℕ) × (length s ≤ o + suc f) × (left-hits (w .fuel) o (w .rows-found) ≡ one ++ left-hits f (o + x .consumed) (w .rows-found + 1))
-          next = go (w .fuel) (w .enough)
-            where
-              go : (f : ℕ) → length s ≤ o + f
-                  → (g : ℕ) × (length s ≤ o + suc g) × (left-hits f o (w .rows-found) ≡ one ++ left-hits g (o + x .consumed) (w .rows-found + 1))
-              go zero q = absurd (omega arith)
-              go (suc f) q = (
-                f,
-                q,
-                ap (λ (t : Run). runHits spot (length hints) from t) (scan-found f s hints (length s) o (w .rows-found) below x e (omega (arith, w .few))),
-              )
+          pub scanning-found : (k : ℕ) → Carves (lent .width) (lent .room) m one false rows cols (on k) rows′ cols′
+              → Scanning lent n₀ rows₀ cols₀ rows′ cols′ (o + x .consumed) k
+          scanning-found k c =
+              let takes = hit-takes s hints o x e .0 in
+              more
+              (λ f q g.
+              record {
+                fuel = f;
+                rows-found = w .rows-found + 1;
+                enough = omega arith;
+                few = omega (arith, w .few);
+                along =
+                    along-on _ _ _ _ _ _ _ _ one (left-hits f (o + x .consumed) (w .rows-found + 1))
+                    (rw (scan-found f s hints (length s) o (w .rows-found) below x e (omega (arith, w .few))) at g) rows′ cols′ k c;
+              })
 
-          module _ (rows′ cols′ : List ℕ) where
-            pub scanning-found : (k : ℕ) → Carves (lent .width) (lent .room) m one false rows cols (on k) rows′ cols′
-                → Scanning lent n₀ rows₀ cols₀ rows′ cols′ (o + x .consumed) k
-            scanning-found k c =
-                let takes = hit-takes s hints o x e .0 in
-                record {
-                  fuel = next .0;
-                  rows-found = w .rows-found + 1;
-                  enough = omega (arith, next .1);
-                  few = omega (arith, w .few);
-                  going = going-on _ _ _ _ _ _ _ _ _ (w .going) one _ (next .2) rows′ cols′ k c;
-                }
-
-            pub scanning-full : Carves (lent .width) (lent .room) m one false rows cols over rows′ cols′
-                → Carves (lent .width) (lent .room) n₀ (regionHits spot from s hints) false rows₀ cols₀ over rows′ cols′
-            scanning-full c = going-full _ _ _ _ _ _ _ _ _ (w .going) one _ (next .2) rows′ cols′ c
+          pub scanning-full : Carves (lent .width) (lent .room) m one false rows cols over rows′ cols′
+              → Carves (lent .width) (lent .room) n₀ (regionHits spot from s hints) false rows₀ cols₀ over rows′ cols′
+          scanning-full c =
+              more
+              (λ f q g.
+              along-full _ _ _ _ _ _ _ _ one (left-hits f (o + x .consumed) (w .rows-found + 1))
+              (rw (scan-found f s hints (length s) o (w .rows-found) below x e (omega (arith, w .few))) at g) rows′ cols′ c)

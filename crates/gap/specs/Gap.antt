@@ -51,7 +51,7 @@ runHits spot columns from (noRoom o) = []
 runHits spot columns from (missed o t) = runHits spot columns from t
 runHits spot columns from (found o x t) = regionHit spot columns from o x ∷ runHits spot columns from t
 
--- Rule 11.2: a region is scanned by the scan's rule (4.8); with room for as many rows as it has bytes, none finds no room
+-- Rule 11.2: a region is scanned by the scan's rule (4.8), with room for as many rows as it has bytes: each finds it (`proofs/Room.antt`)
 unfoldable pub regionHits : Spot → ℕ → List ℕ → List ℕ → List Hit
 regionHits spot from s hints = runHits spot (length hints) from (scanFrom (length s) s hints (length s) 0 0)
 
@@ -66,7 +66,7 @@ abbrev pub blockThen : List ℕ → ℕ → List Block → List Block
 blockThen page at rest =
     cond (ltb (blockSize page at) 4 || ltb (length page) (at + blockSize page at)) rest (record { at = at; size = blockSize page at } ∷ rest)
 
--- Rule 11.3: the chain ends at 0, and where a block's four bytes pass the page;
+-- Rule 11.3: the chain ends at 0, and where a block's four bytes pass the page,
 unfoldable pub chainEnds : List ℕ → ℕ → Bool
 chainEnds page at = eqb at 0 || ltb (length page) (at + 4)
 

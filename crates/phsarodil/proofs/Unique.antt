@@ -6,9 +6,14 @@ use Rattle.record.proofs.Unique.{Fixes, FixesSeen}
 use Rattle.phsarodil.proofs.freeblocks.phs_recover_freeblocks.Reads as recover-freeblocks
 use Rattle.phsarodil.proofs.freeblocks.phs_recover_page_freeblocks.Reads as recover-page-freeblocks
 use Rattle.phsarodil.proofs.freeblocks.phs_recover_slice_freeblocks.Reads as recover-slice-freeblocks
+use Rattle.phsarodil.proofs.learned.phs_carve_unallocated.Reads as carve-unallocated
 use Rattle.phsarodil.proofs.learned.phs_learn_signatures.Reads as learn-signatures
 use Rattle.phsarodil.proofs.lists.phs_boyer_moore_search.Reads as boyer-moore-search
 use Rattle.phsarodil.proofs.lists.phs_from_create_sql.Reads as from-create-sql
+use Rattle.phsarodil.proofs.gaps.phs_parse_cells_from_freeblock.Reads as parse-cells-from-freeblock
+use Rattle.phsarodil.proofs.gaps.phs_scan_page_gap.Reads as scan-page-gap
+use Rattle.phsarodil.proofs.gaps.phs_scan_page_gaps.Reads as scan-page-gaps
+use Rattle.phsarodil.proofs.gaps.phs_scan_single_page_gap.Reads as scan-single-page-gap
 use Rattle.phsarodil.proofs.modes.phs_carve_freeblock.Reads as carve-freeblock
 use Rattle.phsarodil.proofs.pages.phs_collect_leaf_pages.Reads as collect-leaf-pages
 use Rattle.phsarodil.proofs.pages.phs_get_page_data.Reads as get-page-data
@@ -169,6 +174,61 @@ recover-slice-freeblocks-rows k a x y s t p q = p .1 .1 .0 ∙ sym (q .1 .1 .0)
 pub recover-slice-freeblocks-cols : FixesSeen recover-slice-freeblocks.Post (λ k r s. now (s .1 .1 .1 .1 .1 .0))
 recover-slice-freeblocks-cols k a x y s t p q = p .1 .1 .1 ∙ sym (q .1 .1 .1)
 
+-- ---- the free space of pages
+pub scan-page-gaps-number : Fixes scan-page-gaps.Post
+scan-page-gaps-number k a x y s t p q = p .0 ∙ sym (q .0)
+
+pub scan-page-gaps-words : FixesSeen scan-page-gaps.Post (λ k r s. now (s .1 .1 .1 .1 .1 .1 .1 .1 .1 .0))
+scan-page-gaps-words k a x y s t p q = p .1 .0 ∙ sym (q .1 .0)
+
+pub scan-page-gaps-rows : FixesSeen scan-page-gaps.Post (λ k r s. now (s .1 .1 .1 .1 .1 .1 .1 .0))
+scan-page-gaps-rows k a x y s t p q = p .1 .1 .0 ∙ sym (q .1 .1 .0)
+
+pub scan-page-gaps-cols : FixesSeen scan-page-gaps.Post (λ k r s. now (s .1 .1 .1 .1 .1 .1 .1 .1 .0))
+scan-page-gaps-cols k a x y s t p q = p .1 .1 .1 .0 ∙ sym (q .1 .1 .1 .0)
+
+pub scan-page-gaps-flags : FixesSeen scan-page-gaps.Post (λ k r s. now (s .1 .1 .1 .1 .1 .0))
+scan-page-gaps-flags k a x y s t p q = p .1 .1 .1 .1 .0 ∙ sym (q .1 .1 .1 .1 .0)
+
+pub scan-page-gaps-stack : FixesSeen scan-page-gaps.Post (λ k r s. now (s .1 .1 .1 .1 .1 .1 .0))
+scan-page-gaps-stack k a x y s t p q = p .1 .1 .1 .1 .1 ∙ sym (q .1 .1 .1 .1 .1)
+
+pub scan-page-gap-number : Fixes scan-page-gap.Post
+scan-page-gap-number k a x y s t p q = p .0 ∙ sym (q .0)
+
+pub scan-page-gap-words : FixesSeen scan-page-gap.Post (λ k r s. now (s .1 .1 .1 .1 .1 .1 .0))
+scan-page-gap-words k a x y s t p q = p .1 .0 ∙ sym (q .1 .0)
+
+pub scan-page-gap-rows : FixesSeen scan-page-gap.Post (λ k r s. now (s .1 .1 .1 .1 .0))
+scan-page-gap-rows k a x y s t p q = p .1 .1 .0 ∙ sym (q .1 .1 .0)
+
+pub scan-page-gap-cols : FixesSeen scan-page-gap.Post (λ k r s. now (s .1 .1 .1 .1 .1 .0))
+scan-page-gap-cols k a x y s t p q = p .1 .1 .1 ∙ sym (q .1 .1 .1)
+
+pub scan-single-page-gap-number : Fixes scan-single-page-gap.Post
+scan-single-page-gap-number k a x y s t p q = p .0 ∙ sym (q .0)
+
+pub scan-single-page-gap-words : FixesSeen scan-single-page-gap.Post (λ k r s. now (s .1 .1 .1 .1 .1 .1 .0))
+scan-single-page-gap-words k a x y s t p q = p .1 .0 ∙ sym (q .1 .0)
+
+pub scan-single-page-gap-rows : FixesSeen scan-single-page-gap.Post (λ k r s. now (s .1 .1 .1 .1 .0))
+scan-single-page-gap-rows k a x y s t p q = p .1 .1 .0 ∙ sym (q .1 .1 .0)
+
+pub scan-single-page-gap-cols : FixesSeen scan-single-page-gap.Post (λ k r s. now (s .1 .1 .1 .1 .1 .0))
+scan-single-page-gap-cols k a x y s t p q = p .1 .1 .1 ∙ sym (q .1 .1 .1)
+
+pub parse-cells-from-freeblock-number : Fixes parse-cells-from-freeblock.Post
+parse-cells-from-freeblock-number k a x y s t p q = p .0 ∙ sym (q .0)
+
+pub parse-cells-from-freeblock-words : FixesSeen parse-cells-from-freeblock.Post (λ k r s. now (s .1 .1 .1 .1 .1 .0))
+parse-cells-from-freeblock-words k a x y s t p q = p .1 .0 ∙ sym (q .1 .0)
+
+pub parse-cells-from-freeblock-rows : FixesSeen parse-cells-from-freeblock.Post (λ k r s. now (s .1 .1 .1 .0))
+parse-cells-from-freeblock-rows k a x y s t p q = p .1 .1 .0 ∙ sym (q .1 .1 .0)
+
+pub parse-cells-from-freeblock-cols : FixesSeen parse-cells-from-freeblock.Post (λ k r s. now (s .1 .1 .1 .1 .0))
+parse-cells-from-freeblock-cols k a x y s t p q = p .1 .1 .1 ∙ sym (q .1 .1 .1)
+
 -- ---- the three modes, and learned hints
 pub carve-freeblock-number : Fixes carve-freeblock.Post
 carve-freeblock-number k a x y s t p q = p .0 ∙ sym (q .0)
@@ -190,3 +250,15 @@ learn-signatures-words k a x y s t p q = p .1 .0 ∙ sym (q .1 .0)
 
 pub learn-signatures-types : FixesSeen learn-signatures.Post (λ k r s. now (s .1 .1 .1 .0))
 learn-signatures-types k a x y s t p q = p .1 .1 ∙ sym (q .1 .1)
+
+pub carve-unallocated-number : Fixes carve-unallocated.Post
+carve-unallocated-number k a x y s t p q = p .0 ∙ sym (q .0)
+
+pub carve-unallocated-words : FixesSeen carve-unallocated.Post (λ k r s. now (s .1 .1 .1 .1 .1 .0))
+carve-unallocated-words k a x y s t p q = p .1 .0 ∙ sym (q .1 .0)
+
+pub carve-unallocated-rows : FixesSeen carve-unallocated.Post (λ k r s. now (s .1 .1 .1 .0))
+carve-unallocated-rows k a x y s t p q = p .1 .1 .0 ∙ sym (q .1 .1 .0)
+
+pub carve-unallocated-cols : FixesSeen carve-unallocated.Post (λ k r s. now (s .1 .1 .1 .1 .0))
+carve-unallocated-cols k a x y s t p q = p .1 .1 .1 ∙ sym (q .1 .1 .1)

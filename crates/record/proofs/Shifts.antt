@@ -89,3 +89,10 @@ value-moved {by} {p} {s} part t at n h = rw (big-endian-moved part at n h) (go (
     go false false false true e = refl
     go false false false false true = refl
     go false false false false false = refl
+
+pub moved-again : (a b : ℕ) (v : Cell) → movedValue a (movedValue b v) ≡ movedValue (a + b) v
+moved-again a b Null = refl
+moved-again a b (Int z) = refl
+moved-again a b (Real x) = refl
+moved-again a b (Text at n) = rw (← add-assoc a b at)
+moved-again a b (Blob at n) = rw (← add-assoc a b at)

@@ -206,5 +206,5 @@ module _ (s hints : List ℕ) (base start room : ℕ) (rows₀ cols₀ rows cols
 
   pub on-through : ThroughIs s hints o last r → (to : ℕ) × (length s - 2 ≤ to) × On s hints base start room rows₀ cols₀ rows cols to n (read + r)
   on-through t =
-      by-order o last (λ lt. (t .to, omega (arith, t .there), on-passed (t .to) (t .near lt) (t .passed)))
-      (λ ge. let z : read + r ≡ read = omega (arith, t .early ge .1) in (o, omega arith, rw z on))
+      by-order o last (λ lt. (t .to, omega (arith, t .there), on-passed (t .to) (t .went .near lt) (t .went .passed)))
+      (λ ge. let z : read + r ≡ read = omega (arith, t .went .early ge .1) in (o, omega arith, rw z on))

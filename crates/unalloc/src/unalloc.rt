@@ -2,13 +2,14 @@
 use carve::inner::Find;
 use carve::inner::Style;
 use carve::inner::Tried;
+use carve::inner::behind;
+use carve::inner::column_at;
 use carve::inner::put_find;
-use record::record::Length;
-use record::record::body_length;
 use record::varint::Cursor;
 use record::varint::Varint;
 use sheet::LARGEST_BASE;
 use sheet::LARGEST_REGION;
+use sheet::columns::Column;
 use sheet::columns::room;
 use sheet::confidence::suited_share;
 use sheet::filled::Filled;
@@ -18,6 +19,18 @@ use sheet::refusal::Refusal;
 use sheet::row::Mode;
 use sheet::row::Source;
 use walk::inner::Carved;
+ghost use mathlib.Core.Path.{_≡_};
+ghost use mathlib.Core.Bool.{false};
+ghost use Prim.Native.Nat.{_≤_, _<_};
+ghost use lib.ListN.{length};
+ghost use Rattle.carve.specs.Found.{typesFrom, hitsOf};
+ghost use Rattle.carve.specs.Inner.{TriedIs, Ready, Filling};
+ghost use Rattle.sheet.specs.Filled.{filledNumber, filledWritten};
+ghost use Rattle.sheet.specs.Limits.{mostColumns, largestRegion};
+ghost use Rattle.sheet.specs.Refusal.{firstHeld};
+ghost use Rattle.unalloc.specs.Inner.{matchesAt, Headed, Walked};
+ghost use Rattle.unalloc.specs.Learned.{isInteger, isText, isBlob, matches, learnedStyle, isThere, attemptAt, rowsFound, learnedChecks, learnedAnswer, learnedRows, learnedCols, learnedNumber, learnedWritten};
+ghost use Rattle.walk.specs.Inner.{carvedAs, Carves, FilledIs};
 
 // What the types of a header come to: how many there are, and how many match.
 enum Walk {
@@ -28,56 +41,73 @@ enum Walk {
 
 const MOST_HEADER: u64 = 512;
 
-fn is_integer(kind: u64) -> bool {
-    (1 <= kind && kind <= 6) || (kind == 8 || kind == 9)
+fn is_integer(kind: u64) -> bool
+    ensures { λ r. ⌜ r ≡ isInteger kind ⌝ }
+{
+    if kind < 1 {
+        return false;
+    }
+    kind <= 6 || (kind == 8 || kind == 9)
 }
 
-fn is_text(kind: u64) -> bool {
+fn is_text(kind: u64) -> bool
+    ensures { λ r. ⌜ r ≡ isText kind ⌝ }
+{
     13 <= kind && kind % 2 == 1
 }
 
-fn is_blob(kind: u64) -> bool {
+fn is_blob(kind: u64) -> bool
+    ensures { λ r. ⌜ r ≡ isBlob kind ⌝ }
+{
     12 <= kind && kind % 2 == 0
 }
 
-// Whether two types are of one class.
-fn serial_types_compatible(found: u64, hint: u64) -> bool {
-    if found == hint {
+fn serial_types_compatible(found: u64, learned: u64) -> bool
+    ensures { λ r. ⌜ r ≡ matches found learned ⌝ }
+{
+    if found == learned {
         return true;
     }
     if is_integer(found) {
-        return is_integer(hint);
+        return is_integer(learned);
     }
     if is_text(found) {
-        return is_text(hint);
+        return is_text(learned);
     }
     if is_blob(found) {
-        return is_blob(hint);
+        return is_blob(learned);
     }
     false
 }
 
 // 1 where the type matches the one learned for the column k.
-fn matches_at(types: &[u64], k: usize, kind: u64) -> usize {
+fn matches_at(types: &[u64], k: usize, kind: u64) -> usize
+    requires { ⌜ k < length (now types) ⌝ }
+    ensures { λ r. ⌜ r ≡ matchesAt (now (types .entry)) k kind ⌝ }
+    ensures small { λ r. ⌜ r ≤ 1 ⌝ }
+{
     if serial_types_compatible(kind, types[k]) {
         return 1;
     }
     0
 }
 
-// The end of a body that fits, one more than the region's length for one that does not.
-fn body_end(len: usize, at: usize, kind: u64) -> usize {
-    let Length::Bytes(n) = body_length(kind) else {
-        return len + 1;
-    };
-    if n > len - at {
-        return len + 1;
+fn is_there(column: Column) -> bool
+    ensures { λ r. ⌜ r ≡ isThere column ⌝ }
+{
+    match column {
+        Column::Body { .. } => true,
+        Column::Unfit(_) => false,
+        Column::Lost => false,
+        Column::Unused => false,
     }
-    at + n
 }
 
 // Reads the types from `from` on, up to the header's end, where their bodies start.
-fn walk_types(region: &[u8], types: &[u64], from: usize, stop: usize) -> Walk {
+fn walk_types(region: &[u8], types: &[u64], from: usize, stop: usize) -> Walk
+    requires { ⌜ Headed (now region) (now types) from stop ⌝ }
+    ensures { λ r. ⌜ Walked (now (region .entry)) (now (types .entry)) stop (typesFrom (length (now (types .entry))) (now (region .entry)) from stop) r ⌝ }
+{
     let mut at = from;
     let mut end = stop;
     let mut count: usize = 0;
@@ -90,11 +120,12 @@ fn walk_types(region: &[u8], types: &[u64], from: usize, stop: usize) -> Walk {
         let Varint::Value(kind, next) = c.serial_type(region) else {
             return Walk::Fails;
         };
-        end = body_end(region.len(), end, kind);
-        if end > region.len() {
+        let column = column_at(region.len(), end, kind);
+        if !is_there(column) {
             return Walk::Fails;
         }
         matched = matched + matches_at(types, count, kind);
+        end = behind(end, column);
         count = count + 1;
         at = next.at;
     }
@@ -102,7 +133,10 @@ fn walk_types(region: &[u8], types: &[u64], from: usize, stop: usize) -> Walk {
 }
 
 // What is said of a row of which so many types match.
-fn learned(matched: usize, columns: usize) -> Style {
+fn learned(matched: usize, columns: usize) -> Style
+    requires { ⌜ (matched ≤ mostColumns) × (1 ≤ columns) ⌝ }
+    ensures { λ r. ⌜ r ≡ learnedStyle matched columns ⌝ }
+{
     let percent = matched * 100 / columns;
     Style {
         source: Source::CarvedUnalloc(percent as u64),
@@ -112,7 +146,11 @@ fn learned(matched: usize, columns: usize) -> Style {
     }
 }
 
-fn try_parse_record(region: &[u8], types: &[u64], o: usize) -> Tried {
+fn try_parse_record(region: &[u8], types: &[u64], o: usize) -> Tried
+    requires { ⌜ (o ≤ length (now region)) × (length (now region) ≤ largestRegion) ⌝ }
+    requires { ⌜ (1 ≤ length (now types)) × (length (now types) ≤ mostColumns) ⌝ }
+    ensures { λ r. ⌜ TriedIs (now (region .entry)) (length (now (types .entry))) (attemptAt (now (region .entry)) (now (types .entry)) o) r ⌝ }
+{
     let c = Cursor { at: o };
     let Varint::Value(h, next) = c.header_length(region) else {
         return Tried::Miss;
@@ -144,14 +182,17 @@ fn try_parse_record(region: &[u8], types: &[u64], o: usize) -> Tried {
     })
 }
 
-fn carve(
+fn carve_rows(
     region: &[u8],
     types: &[u64],
     base: u64,
     room: usize,
     rows: &mut [u64],
     cols: &mut [u64],
-) -> Carved {
+) -> Carved
+    requires { ⌜ Ready (length (now region)) base (length (now types)) room 0 (length (now rows)) (length (now cols)) ⌝ }
+    ensures { λ r. ⌜ Carves (length (now (types .entry))) room 0 (hitsOf (length (now (region .entry))) base (rowsFound (now (region .entry)) (now (types .entry)))) false (now (rows .entry)) (now (cols .entry)) (carvedAs r) (now (rows .exit)) (now (cols .exit)) ⌝ }
+{
     let least = 1 + types.len();
     let mut o: usize = 0;
     let mut n: usize = 0;
@@ -172,16 +213,21 @@ fn carve(
     Carved::On(n)
 }
 
-fn fill(region: &[u8], types: &[u64], base: u64, rows: &mut [u64], cols: &mut [u64]) -> Filled {
+fn fill(region: &[u8], types: &[u64], base: u64, rows: &mut [u64], cols: &mut [u64]) -> Filled
+    requires { ⌜ Filling (length (now region)) base (length (now types)) ⌝ }
+    ensures { λ r. ⌜ FilledIs (hitsOf (length (now (region .entry))) base (rowsFound (now (region .entry)) (now (types .entry)))) (length (now (types .entry))) (now (rows .entry)) (now (cols .entry)) r (now (rows .exit)) (now (cols .exit)) ⌝ }
+{
     let most = room(rows.len(), cols.len(), types.len());
-    let Carved::On(n) = carve(region, types, base, most, rows, cols) else {
+    let Carved::On(n) = carve_rows(region, types, base, most, rows, cols) else {
         return Filled::Full(most);
     };
     Filled::Done(n)
 }
 
 // The checks, in rising order of their numbers.
-fn check(len: usize, columns: usize, base: u64) -> Checked {
+fn check(len: usize, columns: usize, base: u64) -> Checked
+    ensures { λ r. ⌜ r ≡ firstHeld (learnedChecks len columns base) ⌝ }
+{
     if !hint_count_fits(columns) {
         return Checked::Refused(Refusal::ColumnCount);
     }
@@ -194,13 +240,20 @@ fn check(len: usize, columns: usize, base: u64) -> Checked {
     Checked::Passed
 }
 
+// `types` are the learned ones, one a column.
 pub fn carve_unallocated(
     region: &[u8],
     types: &[u64],
     base: u64,
     rows: &mut [u64],
     cols: &mut [u64],
-) -> Filled {
+) -> Filled
+    ensures answer { λ r. ⌜ r ≡ learnedAnswer (now (region .entry)) (now (types .entry)) base (length (now (rows .entry))) (length (now (cols .entry))) ⌝ }
+    ensures rows { λ _. ⌜ now (rows .exit) ≡ learnedRows (now (region .entry)) (now (types .entry)) base (now (rows .entry)) (now (cols .entry)) ⌝ }
+    ensures cols { λ _. ⌜ now (cols .exit) ≡ learnedCols (now (region .entry)) (now (types .entry)) base (now (rows .entry)) (now (cols .entry)) ⌝ }
+    ensures number { λ r. ⌜ filledNumber r ≡ learnedNumber (now (region .entry)) (now (types .entry)) base (length (now (rows .entry))) (length (now (cols .entry))) ⌝ }
+    ensures written { λ r. ⌜ filledWritten r ≡ learnedWritten (now (region .entry)) (now (types .entry)) base (length (now (rows .entry))) (length (now (cols .entry))) ⌝ }
+{
     match check(region.len(), types.len(), base) {
         Checked::Refused(refusal) => Filled::Refused(refusal),
         Checked::Passed => fill(region, types, base, rows, cols),

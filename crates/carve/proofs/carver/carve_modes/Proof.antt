@@ -31,7 +31,7 @@ same-length-4 : tie.Need-same-length-4
 same-length-4 c = search needs
 
 returns-2 : tie.Need-returns-2
-returns-2 c = modes-some _ _ _ _ _ _ _ _ _ (rw (c .before .before .n .given .1) at (c .before .before .before .before .before .before .before .before .carve-normal .ensures)) (c .if1 .taken)
+returns-2 c = modes-some _ _ _ _ _ _ _ _ _ (rw (c .before .before .n .given .1) at (c .before .before .before .before .before .before .before .before .carve-normal .ensures)) (omega (arith, c .if1 .taken))
 
 carve-headless-requires : tie.Need-carve-headless-requires
 carve-headless-requires c κs =

@@ -5,7 +5,8 @@ use native.Mathlib.Omega.{arith}
 use borrow.Author.Needs.{needs}
 use denote.Ref.{now}
 use lib.ListN.{length}
-use Rattle.carve.proofs.Running.{fitting, normal-ends, Normals, normals-start, normals-ready, normals-stop, normals-end, normals-over, normals-one}
+use Rattle.carve.proofs.Running.{normal-ends, Normals, normals-start, normals-ready, normals-stop, normals-end, normals-over, normals-one}
+use Rattle.carve.proofs.Writing.{fitting}
 use Rattle.carve.proofs.carver.carve_normal.Statement.{statement}
 use Rattle.carve.proofs.carver.carve_normal.Tie as tie
 use Rattle.carve.specs.Inner.{HitIs}

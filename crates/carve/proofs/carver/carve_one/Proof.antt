@@ -1,10 +1,8 @@
 -- `carve::carver::carve_one` meets its contract: nothing was found, or there is no room, or one row is written.
 -- Assumes nothing.
-use native.Mathlib.Omega.{arith}
 use borrow.Author.Needs.{needs}
 use denote.Ref.{now}
-use Rattle.carve.proofs.Running.{fitting}
-use Rattle.carve.proofs.Writing.{few-columns}
+use Rattle.carve.proofs.Writing.{few-columns, fitting}
 use Rattle.carve.proofs.carver.carve_one.Statement.{statement}
 use Rattle.carve.proofs.carver.carve_one.Tie as tie
 use Rattle.carve.specs.Inner.{FindFits}

@@ -1,6 +1,5 @@
 -- `carve::carver::fill` meets its contract: the first row is written behind none.
 -- Assumes nothing.
-use native.Mathlib.Omega.{arith}
 use borrow.Author.Needs.{needs}
 use Rattle.carve.proofs.carver.fill.Statement.{statement}
 use Rattle.carve.proofs.carver.fill.Tie as tie

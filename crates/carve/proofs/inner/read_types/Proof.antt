@@ -1,25 +1,25 @@
--- `carve::inner::read_types` meets its contract: what the loop has read, with what is left, comes to the whole (`SoFar`).
+-- `carve::inner::read_types` meets its contract: what the loop has read, with what is left, comes to the whole (`Counted`).
 -- Assumes nothing.
 use Prim.Native.Nat.{_-_, _≤_}
 use mathlib.Core.Path.{sym, _∙_}
 use native.Mathlib.Omega.{arith}
 use borrow.Author.Needs.{needs}
 use Rattle.carve.specs.Found.{typesFrom}
-use Rattle.carve.proofs.Reading.{SoFar, so-start, so-on, so-cut, so-past, so-all}
+use Rattle.carve.proofs.Reading.{Counted, counted-start, counted-on, counted-cut, counted-past, counted-all}
 use Rattle.carve.proofs.inner.read_types.Statement.{statement}
 use Rattle.carve.proofs.inner.read_types.Tie as tie
 
 abbrev Inv-loop : tie.InvT-loop
-Inv-loop bytes from stop most at₀ count₀ at count = (count ≤ most) × SoFar bytes stop (typesFrom most bytes from stop) most at count
+Inv-loop bytes from stop most at₀ count₀ at count = (count ≤ most) × Counted bytes stop (typesFrom most bytes from stop) most at count
 
 abbrev μ-loop : tie.MeasureT-loop
 μ-loop bytes from stop most at₀ count₀ at count = most - count
 
 loop-holds : tie.Need-loop-holds Inv-loop μ-loop
-loop-holds c = (omega arith, so-start _ _ _ _)
+loop-holds c = (omega arith, counted-start _ _ _ _)
 
 returns : tie.Need-returns Inv-loop μ-loop
-returns c = so-past _ _ _ _ _ _ (c .before .before .loop .inv .1) (c .if1 .taken)
+returns c = counted-past _ _ _ _ _ _ (c .before .before .loop .inv .1) (c .if1 .taken)
 
 serial-type-requires : tie.Need-serial-type-requires Inv-loop μ-loop
 serial-type-requires c κs = search needs
@@ -31,7 +31,7 @@ enum-told : tie.Need-enum-told Inv-loop μ-loop
 enum-told c = search needs
 
 returns-2 : tie.Need-returns-2 Inv-loop μ-loop
-returns-2 c = so-cut _ _ _ _ _ _ (c .before .before .before .before .before .loop .inv .1) (c .before .before .before .before .loop-test .taken) (c .before .before .before .if1 .left) (sym (c .before .before .serial-type .ensures) ∙ c .enum-told .given .1)
+returns-2 c = counted-cut _ _ _ _ _ _ (c .before .before .before .before .before .loop .inv .1) (c .before .before .before .before .loop-test .taken) (c .before .before .before .if1 .left) (sym (c .before .before .serial-type .ensures) ∙ c .enum-told .given .1)
 
 add-count : tie.Need-add-count Inv-loop μ-loop
 add-count c = search needs
@@ -42,11 +42,11 @@ loop-less c = search needs
 loop-again : tie.Need-loop-again Inv-loop μ-loop
 loop-again c = (
   search needs,
-  so-on _ _ _ _ _ _ (c .before .before .before .before .before .before .loop .inv .1) (c .before .before .before .before .before .loop-test .taken) (c .before .before .before .before .if1 .left) _ _ (sym (c .before .before .before .serial-type .ensures) ∙ c .before .next .given .1),
+  counted-on _ _ _ _ _ _ (c .before .before .before .before .before .before .loop .inv .1) (c .before .before .before .before .before .loop-test .taken) (c .before .before .before .before .if1 .left) _ _ (sym (c .before .before .before .serial-type .ensures) ∙ c .before .next .given .1),
 )
 
 returns-3 : tie.Need-returns-3 Inv-loop μ-loop
-returns-3 c = so-all _ _ _ _ _ _ (c .before .loop .inv .1) (c .loop-test .left)
+returns-3 c = counted-all _ _ _ _ _ _ (c .before .loop .inv .1) (c .loop-test .left)
 
 pub read-types-spec : {M : Type 1} → statement M
 read-types-spec =

@@ -1,19 +1,27 @@
 -- `carving::inner::carve_page` meets its contract: each way of carving is the function of its own crate.
 -- Assumes nothing.
-use Prim.Native.Nat.{ℕ}
-use mathlib.Core.Path.{_≡_, refl}
-use mathlib.Core.List.{List}
 use borrow.Author.Needs.{needs}
 use Rattle.carving.specs.Calls.{hitsBy}
-use Rattle.carving.specs.declared.inner.Carving.{Carving}
-use Rattle.carving.specs.declared.inner.Carving.the-variants.{Freeblocks}
 use Rattle.carving.proofs.inner.carve_page.Statement.{statement}
 use Rattle.carving.proofs.inner.carve_page.Tie as tie
-use Rattle.freeblock.specs.Freeblock.{pageHits}
-use Rattle.hit.specs.declared.inner.Spot.{Spot}
+
+enum-told : tie.Need-enum-told
+enum-told c = search needs
 
 carve-page-requires : tie.Need-carve-page-requires
 carve-page-requires c κs = search needs
+
+enum-told-2 : tie.Need-enum-told-2
+enum-told-2 c = search needs
+
+carve-page-requires-2 : tie.Need-carve-page-requires-2
+carve-page-requires-2 c κs = search needs
+
+enum-told-3 : tie.Need-enum-told-3
+enum-told-3 c = search needs
+
+carve-payload-requires : tie.Need-carve-payload-requires
+carve-payload-requires c κs = search needs
 
 same-length : tie.Need-same-length
 same-length c = search needs
@@ -21,13 +29,46 @@ same-length c = search needs
 same-length-2 : tie.Need-same-length-2
 same-length-2 c = search needs
 
--- there is one way
-only : (how : Carving) (page : List ℕ) (head : ℕ) (hints : List ℕ) (spot : Spot) → hitsBy how page head hints spot ≡ pageHits page head hints spot
-unfolding hitsBy
-only Freeblocks page head hints spot = refl
-
 returns : tie.Need-returns
-returns c = rw (only (c .before .before .before .before .before .before .before .before .before .before .before .args .how) _ _ _ _) (c .before .before .before .before .carve-page .ensures)
+unfolding hitsBy
+returns c = rw (c .before .before .before .before .before .before .before .enum-told .given .1) (c .before .before .before .before .carve-page .ensures)
+
+same-length-3 : tie.Need-same-length-3
+same-length-3 c = search needs
+
+same-length-4 : tie.Need-same-length-4
+same-length-4 c = search needs
+
+returns-2 : tie.Need-returns-2
+unfolding hitsBy
+returns-2 c = rw (c .before .before .before .before .before .before .before .enum-told2 .given .1) (c .before .before .before .before .carve-page2 .ensures)
+
+same-length-5 : tie.Need-same-length-5
+same-length-5 c = search needs
+
+same-length-6 : tie.Need-same-length-6
+same-length-6 c = search needs
+
+returns-3 : tie.Need-returns-3
+unfolding hitsBy
+returns-3 c = rw (c .before .before .before .before .before .before .before .enum-told3 .given .1) (c .before .before .before .before .carve-payload .ensures)
 
 pub carve-page-spec : {M : Type 1} → statement M
-carve-page-spec = tie.close (tie.spec carve-page-requires same-length same-length-2 returns)
+carve-page-spec =
+    tie.close
+    (tie.spec
+    enum-told
+    carve-page-requires
+    enum-told-2
+    carve-page-requires-2
+    enum-told-3
+    carve-payload-requires
+    same-length
+    same-length-2
+    returns
+    same-length-3
+    same-length-4
+    returns-2
+    same-length-5
+    same-length-6
+    returns-3)

@@ -9,7 +9,7 @@ use lib.ListN.{length}
 use Rattle.attempt.specs.Attempt.{attemptAt}
 use Rattle.attempt.specs.Inner.{MissIs, HitIs}
 use Rattle.attempt.specs.Places.{attemptPlaces}
-use Rattle.gap.proofs.Going.{going-rows, going-cols, going-ready}
+use Rattle.cells.proofs.Along.{along-long, along-ready}
 use Rattle.gap.proofs.Regions.{Scanning, scanning-start, scanning-end, scanning-missed, scanning-found, scanning-full}
 use Rattle.gap.proofs.region.carve_region.Statement.{statement}
 use Rattle.gap.proofs.region.carve_region.Tie as tie
@@ -61,7 +61,7 @@ enum-known-find : tie.Need-enum-known-find Inv-loop μ-loop
 enum-known-find c = search needs
 
 add-row-requires : tie.Need-add-row-requires Inv-loop μ-loop
-add-row-requires c κs = (found (c .before .before), going-ready _ _ _ _ _ _ _ _ _ (c .before .before .before .before .before .before .before .loop .inv .1 .going) _ _ _ (c .before .before .before .before .before .before .before .before .before .before .before .before .pre))
+add-row-requires c κs = (found (c .before .before), along-ready _ _ _ _ _ _ _ _ _ _ _ _ (c .before .before .before .before .before .before .before .loop .inv .1 .along) (c .before .before .before .before .before .before .before .before .before .before .before .before .pre))
 
 enum-known-next : tie.Need-enum-known-next Inv-loop μ-loop
 enum-known-next c = search needs
@@ -70,10 +70,10 @@ enum-told-2 : tie.Need-enum-told-2 Inv-loop μ-loop
 enum-told-2 c = search needs
 
 same-length : tie.Need-same-length Inv-loop μ-loop
-same-length c = c .before .before .before .before .before .before .add-row .kept .1 .1 .1 .1 .1 .1 .1 .1 .0 ∙ going-rows _ _ _ _ _ _ _ _ _ (c .before .before .before .before .before .before .before .before .before .before .before .before .before .before .loop .inv .1 .going)
+same-length c = c .before .before .before .before .before .before .add-row .kept .1 .1 .1 .1 .1 .1 .1 .1 .0 ∙ along-long _ _ _ _ _ _ _ _ _ (c .before .before .before .before .before .before .before .before .before .before .before .before .before .before .loop .inv .1 .along) .0
 
 same-length-2 : tie.Need-same-length-2 Inv-loop μ-loop
-same-length-2 c = c .before .before .before .before .before .before .add-row .kept .1 .1 .1 .1 .1 .1 .1 .1 .1 .0 ∙ going-cols _ _ _ _ _ _ _ _ _ (c .before .before .before .before .before .before .before .before .before .before .before .before .before .before .loop .inv .1 .going)
+same-length-2 c = c .before .before .before .before .before .before .add-row .kept .1 .1 .1 .1 .1 .1 .1 .1 .1 .0 ∙ along-long _ _ _ _ _ _ _ _ _ (c .before .before .before .before .before .before .before .before .before .before .before .before .before .before .loop .inv .1 .along) .1
 
 returns : tie.Need-returns Inv-loop μ-loop
 returns c =
@@ -95,10 +95,10 @@ loop-again-2 c =
     )
 
 same-length-3 : tie.Need-same-length-3 Inv-loop μ-loop
-same-length-3 c = going-rows _ _ _ _ _ _ _ _ _ (c .before .loop .inv .1 .going)
+same-length-3 c = along-long _ _ _ _ _ _ _ _ _ (c .before .loop .inv .1 .along) .0
 
 same-length-4 : tie.Need-same-length-4 Inv-loop μ-loop
-same-length-4 c = going-cols _ _ _ _ _ _ _ _ _ (c .before .loop .inv .1 .going)
+same-length-4 c = along-long _ _ _ _ _ _ _ _ _ (c .before .loop .inv .1 .along) .1
 
 returns-2 : tie.Need-returns-2 Inv-loop μ-loop
 returns-2 c = scanning-end _ _ _ _ _ _ _ _ _ _ _ _ (c .before .loop .inv .1) (omega (arith, c .loop-test .left))

@@ -85,8 +85,8 @@ add-t21 c =
     let l = c .before .before .before .before .loop in
     let p = c .before .before .before .before .before .before .before .before .before .before .pre .0 in
     by-order (l .o) (c .before .before .before .before .before .last-of .result)
-    (λ lt. omega (arith, l .inv .1, t .passed .few, t .passed .to-is, t .near lt, c .before .before .before .before .before .last-of .ensures, p .small))
-    (λ ge. omega (arith, l .inv .2, t .early ge .1, p .small))
+    (λ lt. omega (arith, l .inv .1, t .went .passed .few, t .went .passed .to-is, t .went .near lt, c .before .before .before .before .before .last-of .ensures, p .small))
+    (λ ge. omega (arith, l .inv .2, t .went .early ge .1, p .small))
 
 same-length : tie.Need-same-length Inv-loop μ-loop
 same-length c = on-long _ _ _ _ _ _ _ _ _ _ _ _ (c .before .before .before .before .loop .inv .3) .0

@@ -1,0 +1,101 @@
+-- The columns of the rows in a page's free space, read back over the slice in which the page lies: the values of each row, every one at its place.
+-- Assumes nothing.
+use Prim.Native.Nat.{ℕ, zero, suc, _+_, _-_, _≤_, _<_}
+use mathlib.Core.Path.{_≡_, refl}
+use mathlib.Core.Bool.{Bool, true, false, cond, not, _&&_, _||_}
+use mathlib.Core.List.{List, [], _∷_}
+use native.Mathlib.Omega.{arith}
+use borrow.Author.Tests.{leb-true, ltb-true, ltb-false}
+use lib.Dec.{ltb, leb}
+use lib.ListN.{length}
+use Rattle.attempt.proofs.ReadBack.{part-hit-reads}
+use Rattle.attempt.specs.Attempt.{Tried, miss, hit, attemptAt}
+use Rattle.cells.proofs.ReadBack.{AllRead, inSlice, payload-reads}
+use Rattle.cells.specs.Cells.{oneByte, payloadHits}
+use Rattle.cells.specs.Values.{payloadValues}
+use Rattle.gap.specs.Gap.{gapFrom, gapTo, hasGap, gapOf, allZero, runHits, regionHits, gapHits, chainEnds, blockThen, chainFrom, chain}
+use Rattle.gap.specs.Values.{rowsValues, regionValues, gapValues}
+use Rattle.hit.specs.declared.inner.Spot.{Spot}
+use Rattle.page.specs.Page.{Block, payloadOf, blockNext, blockSize}
+use Rattle.record.proofs.Numbers.{by-order}
+use Rattle.record.proofs.Shifts.{PartOf, part-taken, part-within}
+use Rattle.scan.proofs.Laws.{scan-none, scan-missed, scan-found, scan-full, scan-end}
+use Rattle.scan.specs.Scan.{scanFrom}
+use Rattle.sheet.specs.Limits.{mostColumns}
+
+-- ---- a region that begins at `from` in its page
+module _ (slice : List ℕ) (spot : Spot) (from : ℕ) (s hints : List ℕ) (part : PartOf (spot .start + from) s slice) where
+  abbrev RunRead : ℕ → ℕ → ℕ → Type 0
+  RunRead f o n =
+      AllRead slice (runHits spot (length hints) from (scanFrom f s hints (length s) o n)) (inSlice (spot .start + from) (rowsValues s (scanFrom f s hints (length s) o n)))
+
+  run-reads : (f o n : ℕ) → RunRead f o n
+  run-reads zero o n = rw (scan-none s hints (length s) o n) tt
+  run-reads (suc f) o n =
+      by-order o (length s - 2) (λ lt. go lt (attemptAt s hints o) refl (λ o′ n′. run-reads f o′ n′)) (λ ge. rw (scan-end (suc f) s hints (length s) o n ge) tt)
+    where
+      go : o < length s - 2 → (t : Tried) → attemptAt s hints o ≡ t → ((o′ n′ : ℕ) → RunRead f o′ n′) → RunRead (suc f) o n
+      go lt miss e rest = rw (scan-missed f s hints (length s) o n lt e) (rest (o + 1) n)
+      go lt (hit x) e rest =
+          by-order n (length s)
+          (λ in′. rw (scan-found f s hints (length s) o n lt x e in′) (part-hit-reads part hints o x e, rest (o + x .consumed) (n + 1)))
+          (λ out. rw (scan-full f s hints (length s) o n lt x e out) tt)
+
+  -- THE LAW: the rows of a region
+  pub region-reads : AllRead slice (regionHits spot from s hints) (inSlice (spot .start + from) (regionValues s hints))
+  unfolding regionHits regionValues
+  region-reads = run-reads (length s) 0 0
+
+-- ---- a page
+
+-- the rows of each of its blocks read over the slice
+abbrev pub BlocksRead : List ℕ → Spot → List ℕ → List ℕ → List Block → Type 0
+BlocksRead slice spot page hints [] = Unit
+BlocksRead slice spot page hints (b ∷ bs) =
+    AllRead slice (payloadHits oneByte spot (b .at + 4) (payloadOf page b) hints) (inSlice (spot .start + (b .at + 4)) (payloadValues oneByte (payloadOf page b) hints))
+    × BlocksRead slice spot page hints bs
+
+module _ (slice : List ℕ) (spot : Spot) (page hints : List ℕ) (part : PartOf (spot .start) page slice) where
+  -- THE LAW: the rows of its gap
+  pub gap-reads : (head : ℕ) → AllRead slice (gapHits page head hints spot) (inSlice (spot .start + gapFrom page head) (gapValues page head hints))
+  unfolding gapHits gapValues hasGap
+  gap-reads head = go (ltb (gapFrom page head) (gapTo page head)) (leb (gapTo page head) (length page)) (not (allZero (gapOf page head))) refl refl
+    where
+      go : (a b c : Bool) → ltb (gapFrom page head) (gapTo page head) ≡ a → leb (gapTo page head) (length page) ≡ b
+          → AllRead slice (cond ((a && b) && c) (regionHits spot (gapFrom page head) (gapOf page head) hints) [])
+          (inSlice (spot .start + gapFrom page head) (cond ((a && b) && c) (regionValues (gapOf page head) hints) []))
+      go true true true e f =
+          let lt = ltb-true (gapFrom page head) (gapTo page head) e in
+          let le = leb-true (gapTo page head) (length page) f in
+          region-reads slice spot (gapFrom page head) (gapOf page head) hints (part-within (part-taken page (gapFrom page head) (gapTo page head - gapFrom page head) (omega arith)) part)
+      go true true false e f = tt
+      go true false c e f = tt
+      go false b c e f = tt
+
+  module _ (some : 1 ≤ length hints) (few : length hints ≤ mostColumns) where
+    then-reads : (at : ℕ) (rest : List Block) → BlocksRead slice spot page hints rest → BlocksRead slice spot page hints (blockThen page at rest)
+    then-reads at rest r = go (ltb (blockSize page at) 4) (ltb (length page) (at + blockSize page at)) refl refl
+      where
+        go : (a b : Bool) → ltb (blockSize page at) 4 ≡ a → ltb (length page) (at + blockSize page at) ≡ b
+            → BlocksRead slice spot page hints (cond (a || b) rest (record { at = at; size = blockSize page at } ∷ rest))
+        go true b e f = r
+        go false true e f = r
+        go false false e f =
+            let four = ltb-false (blockSize page at) 4 e in
+            let inside = ltb-false (length page) (at + blockSize page at) f in
+            (payload-reads slice spot (at + 4) _ hints (part-within (part-taken page (at + 4) (blockSize page at - 4) (omega arith)) part) some few, r)
+
+    steps-read : (k at : ℕ) → BlocksRead slice spot page hints (chainFrom k page at)
+    unfolding chainFrom
+    steps-read zero at = tt
+    steps-read (suc k) at = go (chainEnds page at) (leb (blockNext page at) at) (steps-read k (blockNext page at))
+      where
+        go : (a b : Bool) → BlocksRead slice spot page hints (chainFrom k page (blockNext page at)) → BlocksRead slice spot page hints (cond a [] (blockThen page at (cond b [] (chainFrom k page (blockNext page at)))))
+        go true b rest = tt
+        go false true rest = then-reads at [] tt
+        go false false rest = then-reads at (chainFrom k page (blockNext page at)) rest
+
+    -- THE LAW: and those of the blocks of its chain
+    pub blocks-read : (head : ℕ) → BlocksRead slice spot page hints (chain page head)
+    unfolding chain
+    blocks-read head = steps-read _ _

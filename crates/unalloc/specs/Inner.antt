@@ -1,0 +1,42 @@
+-- What the code carries between its own functions; nothing that a caller has to believe.
+-- Assumes nothing.
+use Prim.Native.Nat.{ℕ, _≤_}
+use mathlib.Core.Path.{_≡_}
+use mathlib.Core.Bool.{true, false, cond}
+use mathlib.Core.List.{List}
+use lib.ListN.{length, getD}
+use Rattle.carve.specs.Found.{Types, cut, read, columnsFrom}
+use Rattle.sheet.specs.Limits.{mostColumns, largestRegion}
+use Rattle.unalloc.specs.Learned.{matches, matched, allThere}
+use Rattle.unalloc.specs.declared.unalloc.Walk.{Walk}
+use Rattle.unalloc.specs.declared.unalloc.Walk.the-variants.{Whole, Fails}
+
+-- 1 where the type matches the one learned for the column k
+abbrev pub matchesAt : List ℕ → ℕ → ℕ → ℕ
+matchesAt ls k t = cond (matches t (getD ls k 0)) 1 0
+
+-- a header that ends at `stop`: its types stand from `from` on
+pub record Headed (s ls : List ℕ) (from stop : ℕ) : Type 0 where
+  pub small : length s ≤ largestRegion
+  pub few : length ls ≤ mostColumns
+  pub inside : from ≤ length s
+  pub within : stop ≤ length s
+
+-- types of which each has its body, and so many match
+pub record AllIs (s ls : List ℕ) (stop : ℕ) (w : Types) (count n : ℕ) : Type 0 where
+  pub types : List ℕ
+  pub end : ℕ
+  pub is : w ≡ read types end
+  pub counts : length types ≡ count
+  pub matches-are : matched ls types ≡ n
+  pub there : allThere (columnsFrom (length s) stop types) ≡ true
+  pub few : n ≤ count
+
+-- types that run off, or one of which has no body
+abbrev pub FailsIs : List ℕ → ℕ → Types → Type 0
+FailsIs s stop cut = Unit
+FailsIs s stop (read ts end) = allThere (columnsFrom (length s) stop ts) ≡ false
+
+abbrev pub Walked : List ℕ → List ℕ → ℕ → Types → Walk → Type 0
+Walked s ls stop w (Whole count n) = AllIs s ls stop w count n
+Walked s ls stop w Fails = FailsIs s stop w

@@ -1,6 +1,6 @@
 -- What a recorded case says (oracle/README.md), and when a list holds what it should after a call.
 -- Assumes nothing.
-use Prim.Native.Nat.{ℕ, zero, suc, _+_, _*_, _%_}
+use Prim.Native.Nat.{ℕ, zero, suc, _+_, _*_, _/_, _%_}
 use mathlib.Core.Bool.{Bool, true, cond, not, _&&_}
 use mathlib.Core.List.{List, [], _∷_, _++_}
 use lib.Dec.{eqb, ltb}
@@ -15,11 +15,15 @@ wordAt s at = cond (ltb (length s) (at + 8)) 0 (bigEndian s at 8)
 
 -- bytes of a slice and cells of a list, at most
 abbrev pub mostSize : ℕ
-mostSize = 1200
+mostSize = 2400
+
+-- and words of a slice
+abbrev pub mostWords : ℕ
+mostWords = 300
 
 -- bytes behind a head, at most: two slices, and two lists of words
 abbrev pub mostBody : ℕ
-mostBody = 21600
+mostBody = 43200
 
 unfoldable pub sizeAt : List ℕ → ℕ → ℕ
 sizeAt h at = cond (ltb mostSize (wordAt h at)) mostSize (wordAt h at)
@@ -60,6 +64,10 @@ unfoldable pub cells : (ℕ → ℕ) → ℕ → List ℕ
 cells f zero = []
 cells f (suc n) = cells f n ++ (f n ∷ [])
 
+-- the words of a slice, eight bytes each
+unfoldable pub wordsIn : List ℕ → List ℕ
+wordsIn s = cells (λ i. wordAt s (8 * i)) (length s / 8)
+
 -- what a cell has to hold after a call that writes so many, recorded at `at`
 abbrev pub cellAfter : List ℕ → ℕ → ℕ → ℕ → ℕ → ℕ
 cellAfter b at written i fresh = cond (ltb i written) (wordAt b (at + 8 * i)) fresh
@@ -75,6 +83,13 @@ below l f (suc n) = below l f n && eqb (getD l n 0) (f n)
 -- whether all do, and none of the written is missing
 unfoldable pub holds : (ℕ → ℕ) → List ℕ → List ℕ → ℕ → ℕ → Bool
 holds fresh l b at written = not (ltb (length l) written) && below l (after fresh b at written) (length l)
+
+-- the first list that a call is lent is recorded behind the slices, the second behind it
+abbrev pub firstHolds : (ℕ → ℕ) → List ℕ → List ℕ → List ℕ → Bool
+firstHolds fresh h b l = holds fresh l b (cellsAt h) (sizeAt h 80)
+
+abbrev pub secondHolds : List ℕ → List ℕ → List ℕ → Bool
+secondHolds h b l = holds freshWord l b (cellsAt h + 8 * sizeAt h 80) (sizeAt h 88)
 
 -- what a call is lent
 abbrev pub lent : (ℕ → ℕ) → ℕ → List ℕ → List ℕ

@@ -9,10 +9,13 @@ ghost use Rattle.recording.specs.Recording.{wordAt, mostSize, mostBody, 
 pub const HEAD: usize = 144;
 
 // Bytes of a slice and cells of a list, at most,
-pub const MOST: usize = 1_200;
+pub const MOST: usize = 2_400;
+
+// words of a slice that holds such,
+pub const WORDS: usize = 300;
 
 // and bytes behind a head: two slices and two lists.
-pub const BODY: usize = 21_600;
+pub const BODY: usize = 43_200;
 
 // Where the words of a head stand.
 pub const SIZE: usize = 0;

@@ -2,11 +2,15 @@
 use crate::case::MOST;
 use crate::case::OUT;
 use crate::case::RETURNED;
+use crate::case::WORDS;
+use crate::case::WRITTEN;
+use crate::case::cells_at;
+use crate::case::size_at;
 use crate::case::word_at;
 ghost use mathlib.Core.Path.{_≡_};
-ghost use Prim.Native.Nat.{_≤_};
-ghost use lib.ListN.{length};
-ghost use Rattle.recording.specs.Recording.{mostSize, mostBody, freshWord, freshByte, cells, cellAfter, holds, answered as answeredBy};
+ghost use Prim.Native.Nat.{_≤_, _/_};
+ghost use lib.ListN.{length, take};
+ghost use Rattle.recording.specs.Recording.{mostSize, mostWords, mostBody, freshWord, freshByte, cells, cellAfter, holds, firstHolds, secondHolds, answered as answeredBy, wordsIn};
 
 fn fresh_word(i: usize) -> u64
     requires { ⌜ i ≤ mostSize ⌝ }
@@ -40,6 +44,22 @@ pub fn fresh_bytes() -> [u8; MOST]
     let mut i = 0;
     while i < MOST {
         list[i] = fresh_byte(i);
+        i = i + 1;
+    }
+    list
+}
+
+// The words of a slice, eight bytes each, in the first cells; a rest of it is left out.
+pub fn words_in(bytes: &[u8]) -> [u64; WORDS]
+    requires { ⌜ length (now bytes) ≤ mostSize ⌝ }
+    ensures { λ r. ⌜ take (length (now (bytes .entry)) / 8) r ≡ wordsIn (now (bytes .entry)) ⌝ }
+    ensures size { λ r. ⌜ mostWords ≡ length r ⌝ }
+{
+    let mut list = [0; WORDS];
+    let n = bytes.len() / 8;
+    let mut i = 0;
+    while i < n {
+        list[i] = word_at(bytes, 8 * i);
         i = i + 1;
     }
     list
@@ -90,6 +110,23 @@ pub fn bytes_agree(list: &[u8], bytes: &[u8], at: usize, written: usize) -> bool
         i = i + 1;
     }
     true
+}
+
+// Whether the first list that a call is lent holds what it should,
+pub fn first_agrees(head: &[u8], body: &[u8], list: &[u64]) -> bool
+    requires { ⌜ length (now list) ≤ mostSize ⌝ }
+    ensures { λ r. ⌜ r ≡ firstHolds freshWord (now (head .entry)) (now (body .entry)) (now (list .entry)) ⌝ }
+{
+    words_agree(list, body, cells_at(head), size_at(head, WRITTEN))
+}
+
+// and the second.
+pub fn second_agrees(head: &[u8], body: &[u8], list: &[u64]) -> bool
+    requires { ⌜ length (now list) ≤ mostSize ⌝ }
+    ensures { λ r. ⌜ r ≡ secondHolds (now (head .entry)) (now (body .entry)) (now (list .entry)) ⌝ }
+{
+    let at = cells_at(head) + 8 * size_at(head, WRITTEN);
+    words_agree(list, body, at, size_at(head, WRITTEN + 8))
 }
 
 // Whether the number and the words are those of the head.

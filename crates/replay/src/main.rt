@@ -1,8 +1,6 @@
 // Replays the calls of a recording, and holds each to the answer that is recorded with it: `replay FILE`.
 // oracle/README.md says how a recording is made and what it looks like.
 mod judge;
-mod lists;
-mod values;
 
 use judge::Verdict;
 use judge::judged;

@@ -1,0 +1,70 @@
+-- `rowcases::rows::carve` meets its contract: each arm is the call's own contract.
+-- Assumes nothing.
+use borrow.Author.Needs.{needs}
+use Rattle.rowcases.proofs.rows.carve.Statement.{statement}
+use Rattle.rowcases.proofs.rows.carve.Tie as tie
+
+enum-told : tie.Need-enum-told
+enum-told c = search needs
+
+phs-recover-page-freeblocks-requires : tie.Need-phs-recover-page-freeblocks-requires
+phs-recover-page-freeblocks-requires c κs = search needs
+
+enum-told-2 : tie.Need-enum-told-2
+enum-told-2 c = search needs
+
+phs-recover-slice-freeblocks-requires : tie.Need-phs-recover-slice-freeblocks-requires
+phs-recover-slice-freeblocks-requires c κs = search needs
+
+enum-told-3 : tie.Need-enum-told-3
+enum-told-3 c = search needs
+
+phs-carve-freeblock-requires : tie.Need-phs-carve-freeblock-requires
+phs-carve-freeblock-requires c κs = search needs
+
+same-length : tie.Need-same-length
+same-length c = search needs
+
+same-length-2 : tie.Need-same-length-2
+same-length-2 c = search needs
+
+returns : tie.Need-returns
+returns c = let e = c .before .before .before .before .phs-recover-page-freeblocks .ensures in rw (c .before .before .before .before .before .before .before .before .enum-told .given .1) (record { number-is = e .0; words-are = e .1 .0; rows-are = e .1 .1 .0; cols-are = e .1 .1 .1 })
+
+same-length-3 : tie.Need-same-length-3
+same-length-3 c = search needs
+
+same-length-4 : tie.Need-same-length-4
+same-length-4 c = search needs
+
+returns-2 : tie.Need-returns-2
+returns-2 c = let e = c .before .before .before .before .phs-recover-slice-freeblocks .ensures in rw (c .before .before .before .before .before .before .before .before .enum-told2 .given .1) (record { number-is = e .0; words-are = e .1 .0; rows-are = e .1 .1 .0; cols-are = e .1 .1 .1 })
+
+same-length-5 : tie.Need-same-length-5
+same-length-5 c = search needs
+
+same-length-6 : tie.Need-same-length-6
+same-length-6 c = search needs
+
+returns-3 : tie.Need-returns-3
+returns-3 c = let e = c .before .before .before .before .phs-carve-freeblock .ensures in rw (c .before .before .before .before .before .before .before .before .enum-told3 .given .1) (record { number-is = e .0; words-are = e .1 .0; rows-are = e .1 .1 .0; cols-are = e .1 .1 .1 })
+
+pub carve-spec : {M : Type 1} → statement M
+carve-spec =
+    tie.close
+    (tie.spec
+    enum-told
+    phs-recover-page-freeblocks-requires
+    enum-told-2
+    phs-recover-slice-freeblocks-requires
+    enum-told-3
+    phs-carve-freeblock-requires
+    same-length
+    same-length-2
+    returns
+    same-length-3
+    same-length-4
+    returns-2
+    same-length-5
+    same-length-6
+    returns-3)

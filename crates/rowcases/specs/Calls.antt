@@ -1,0 +1,96 @@
+-- When a call that writes rows agrees with a recorded case. The answers are the definitions' own, so a case that agrees is one where they are what
+-- was recorded.
+-- Assumes nothing.
+use Prim.Native.Nat.{ℕ}
+use mathlib.Core.Path.{_≡_}
+use mathlib.Core.Bool.{Bool, _&&_}
+use mathlib.Core.List.{List, [], _∷_}
+use lib.ListN.{length}
+use Rattle.carve.specs.Modes.{carveRows, carveCols, carveNumber, carveWritten}
+use Rattle.carving.specs.Calls.{sliceRows, sliceCols, sliceNumber, sliceWritten, numberedRows, numberedCols, numberedNumber, numberedWritten}
+use Rattle.carving.specs.declared.inner.Carving.the-variants.{Freeblocks}
+use Rattle.phsarodil.specs.Door.{scanWords}
+use Rattle.recording.specs.Recording.{number, slice, secondSlice, freshWord, firstHolds, secondHolds, answered}
+use Rattle.rowcases.specs.declared.rows.Attempts.{Attempts}
+use Rattle.rowcases.specs.declared.rows.Attempts.the-variants.{One, All, By}
+use Rattle.rowcases.specs.declared.rows.Carver.{Carver}
+use Rattle.rowcases.specs.declared.rows.Carver.the-variants.{PageFreeblocks, SliceFreeblocks, Modes}
+use Rattle.scan.specs.Once.{onceRows, onceCols, onceNumber, onceWritten}
+use Rattle.scan.specs.Scan.{scanRows, scanCols, scanNumber}
+
+-- what a call returns and leaves: its number, its words, and both lists
+pub record Left : Type 0 where
+  pub number : ℕ
+  pub words : List ℕ
+  pub rows : List ℕ
+  pub cols : List ℕ
+
+pub record Leaves (l : Left) (number : ℕ) (words rows cols : List ℕ) : Type 0 where
+  pub number-is : number ≡ l .number
+  pub words-are : words ≡ l .words
+  pub rows-are : rows ≡ l .rows
+  pub cols-are : cols ≡ l .cols
+
+-- ---- calls whose one word says how many rows were written
+pub record Carved : Type 0 where
+  pub number : ℕ
+  pub written : ℕ
+  pub rows : List ℕ
+  pub cols : List ℕ
+
+-- the freeblocks of a page by its number, where the numbers are the page size and it, or of a slice, where they are the header's place and the
+-- base; and the three modes, where they are the base and how many columns there are
+abbrev pub carvedBy : Carver → List ℕ → List ℕ → ℕ → ℕ → List ℕ → List ℕ → Carved
+carvedBy PageFreeblocks s hints size page rows cols =
+    record {
+      number = numberedNumber Freeblocks s size page hints (length rows) (length cols);
+      written = numberedWritten Freeblocks s size page hints (length rows) (length cols);
+      rows = numberedRows Freeblocks s size page hints rows cols;
+      cols = numberedCols Freeblocks s size page hints rows cols;
+    }
+carvedBy SliceFreeblocks s hints head base rows cols =
+    record {
+      number = sliceNumber Freeblocks s head base hints (length rows) (length cols);
+      written = sliceWritten Freeblocks s head base hints (length rows) (length cols);
+      rows = sliceRows Freeblocks s head base hints rows cols;
+      cols = sliceCols Freeblocks s head base hints rows cols;
+    }
+carvedBy Modes s hints base columns rows cols =
+    record {
+      number = carveNumber s base columns (length rows) (length cols);
+      written = carveWritten s base columns (length rows) (length cols);
+      rows = carveRows s base columns rows cols;
+      cols = carveCols s base columns rows cols;
+    }
+
+-- what it leaves, in so many words
+abbrev pub wordy : Carved → List ℕ → Left
+wordy l more = record { number = l .number; words = l .written ∷ more; rows = l .rows; cols = l .cols }
+
+-- ---- all calls: one attempt and all of a region, where the numbers are the base and a place, and those above, whose other words are recorded as 0
+abbrev pub attempted : Attempts → List ℕ → List ℕ → ℕ → ℕ → List ℕ → List ℕ → Left
+attempted One s hints base at rows cols =
+    record {
+      number = onceNumber s hints base at (length rows) (length cols);
+      words = onceWritten s hints base at (length rows) (length cols) ∷ 0 ∷ 0 ∷ [];
+      rows = onceRows s hints base at rows cols;
+      cols = onceCols s hints base at rows cols;
+    }
+attempted All s hints base at rows cols =
+    record {
+      number = scanNumber s hints base at (length rows) (length cols);
+      words = scanWords s hints base at (length rows) (length cols);
+      rows = scanRows s hints base at rows cols;
+      cols = scanCols s hints base at rows cols;
+    }
+attempted (By how) s hints a b rows cols = wordy (carvedBy how s hints a b rows cols) (0 ∷ 0 ∷ [])
+
+-- a call with what the case gives: cells lent at 64 and 72, cells written at 80 and 88
+abbrev pub onCase : Attempts → List ℕ → List ℕ → List ℕ → List ℕ → Left
+onCase how h b rows cols = attempted how (slice h b) (secondSlice h b) (number 0 h) (number 1 h) rows cols
+
+abbrev pub leftAgrees : List ℕ → List ℕ → Left → Bool
+leftAgrees h b l = answered h (l .number) (l .words) && firstHolds freshWord h b (l .rows) && secondHolds h b (l .cols)
+
+unfoldable pub rowsAgree : Attempts → List ℕ → List ℕ → List ℕ → List ℕ → Bool
+rowsAgree how h b rows cols = leftAgrees h b (onCase how h b rows cols)

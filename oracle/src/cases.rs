@@ -7,7 +7,10 @@ pub mod databases;
 pub mod entries;
 pub mod gaps;
 pub mod large;
+pub mod learned;
+pub mod learning;
 pub mod limits;
+pub mod modes;
 pub mod numbers;
 pub mod payloads;
 pub mod records;
@@ -53,6 +56,9 @@ const PAGE_GROUPS: [(usize, Group); 4] = [(1, numbers::all), (30, chains::all), 
 /// The same for the carver of gaps and freed blocks.
 const GAP_GROUPS: [(usize, Group); 3] = [(36, gaps::all), (12, gaps::walks), (30, blocks::all)];
 
+/// The same for the three modes, and for learning.
+const CARVING_GROUPS: [(usize, Group); 3] = [(24, modes::all), (20, learning::all), (24, learned::all)];
+
 /// The calls on values, regions and statements.
 pub fn all(sink: &mut dyn Sink, plan: &Plan) {
     groups(sink, plan, &GROUPS, 0);
@@ -74,6 +80,14 @@ pub fn gaps(sink: &mut dyn Sink, plan: &Plan) {
     groups(sink, plan, &GAP_GROUPS, GROUPS.len() + PAGE_GROUPS.len());
     if plan.large {
         large::gaps(sink);
+    }
+}
+
+/// The three modes, and learning.
+pub fn carving(sink: &mut dyn Sink, plan: &Plan) {
+    groups(sink, plan, &CARVING_GROUPS, GROUPS.len() + PAGE_GROUPS.len() + GAP_GROUPS.len());
+    if plan.large {
+        large::carving(sink);
     }
 }
 

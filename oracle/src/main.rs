@@ -105,6 +105,7 @@ fn compare(mut runner: Runner, options: &Options) -> bool {
     cases::all(&mut runner, &plan);
     cases::pages(&mut runner, &plan);
     cases::gaps(&mut runner, &plan);
+    cases::carving(&mut runner, &plan);
     runner.finish();
     runner.tally.print();
     let seconds = begun.elapsed().as_secs_f64();

@@ -1,7 +1,7 @@
 //! Where the given Rust panics, as a rule and as a fixed list. Each case of either must make it panic, with our side
 //! answering by the rules; a panic anywhere else is a difference.
 
-use crate::calls::carver::lent_tables;
+use crate::calls::forms::lent_tables;
 use crate::calls::{BLOCK, DECODE, GAPS, GAP_PAGE, GAP_SLICE, RECOVER_SLICE, STATEMENT};
 use crate::case::Case;
 use crate::cases::bytes::varint;

@@ -1,10 +1,11 @@
 //! The comparison can fail: with one number of the rules changed by one, a difference must be found and cut down,
 //! against our side and, where the Rust has that number too, against the Rust.
 
-use crate::calls::{BLOCK, CALLS, COMPATIBLE, GAP_SLICE, LEAVES, PAGE_DATA, READ_VARINT, RECOVER, RECOVER_SLICE};
-use crate::calls::{SCAN, STATEMENT};
+use crate::calls::{BLOCK, CALLS, COMPATIBLE, GAP_SLICE, LEARN, LEAVES, MODES, PAGE_DATA, READ_VARINT};
+use crate::calls::{RECOVER, RECOVER_SLICE, SCAN, STATEMENT, UNALLOC};
 use crate::cases::gaps::{self, AsGaps};
-use crate::cases::{blocks, chains, large, limits, numbers, statements, tables, values, varints, walks};
+use crate::cases::{blocks, chains, large, learned, learning, limits, modes, numbers};
+use crate::cases::{statements, tables, values, varints, walks};
 use crate::random::Random;
 use crate::rules::limits::Limits;
 use crate::runner::{Runner, Sides, Sink};
@@ -310,6 +311,166 @@ const CHANGES: &[Change] = &[
         cases: |sink, _, _| gaps::shares(&mut AsGaps(sink)),
         in_the_rust: true,
         at_most: 700,
+    },
+    Change {
+        what: "a row with its header has the confidence behind 0.8",
+        change: |l| l.modes[0] = 0.8f32.next_up(),
+        call: MODES,
+        cases: |sink, _, _| modes::short(sink),
+        in_the_rust: true,
+        at_most: 30,
+    },
+    Change {
+        what: "a row of types alone has the confidence behind 0.5",
+        change: |l| l.modes[1] = 0.5f32.next_up(),
+        call: MODES,
+        cases: |sink, _, _| modes::short(sink),
+        in_the_rust: true,
+        at_most: 30,
+    },
+    Change {
+        what: "a row without its first column has the confidence behind 0.3",
+        change: |l| l.modes[2] = 0.3f32.next_up(),
+        call: MODES,
+        cases: |sink, _, _| modes::lost(sink),
+        in_the_rust: true,
+        at_most: 40,
+    },
+    Change {
+        what: "a row may stand where 2 bytes are left",
+        change: |l| l.least_normal = 2,
+        call: MODES,
+        cases: |sink, _, _| modes::short(sink),
+        in_the_rust: true,
+        at_most: 16,
+    },
+    Change {
+        what: "a row needs 4 bytes",
+        change: |l| l.least_normal = 4,
+        call: MODES,
+        cases: |sink, _, _| modes::short(sink),
+        in_the_rust: true,
+        at_most: 30,
+    },
+    Change {
+        what: "a link takes 3 bytes",
+        change: |l| l.lost = 3,
+        call: MODES,
+        cases: |sink, _, _| modes::lost(sink),
+        in_the_rust: true,
+        at_most: 30,
+    },
+    Change {
+        what: "a link takes 5 bytes",
+        change: |l| l.lost = 5,
+        call: MODES,
+        cases: |sink, _, _| modes::lost(sink),
+        in_the_rust: true,
+        at_most: 30,
+    },
+    Change {
+        what: "a block of 126 columns is refused",
+        change: |l| l.columns = 125,
+        call: MODES,
+        cases: |sink, _, _| modes::refusals(sink, &[2, 8, 0]),
+        in_the_rust: false,
+        at_most: 3,
+    },
+    Change {
+        what: "0 and 1 count as the type 1",
+        change: |l| l.zero_and_one = 1,
+        call: LEARN,
+        cases: |sink, _, _| learning::integers(sink),
+        in_the_rust: true,
+        at_most: 6,
+    },
+    Change {
+        what: "an integer of 48 bits counts as the type 5",
+        change: |l| l.integers = &[(8, 1), (16, 2), (24, 3), (32, 4), (48, 5), (64, 6)],
+        call: LEARN,
+        cases: |sink, _, _| learning::integers(sink),
+        in_the_rust: true,
+        at_most: 12,
+    },
+    Change {
+        what: "an integer of 8 bits counts as the type 2",
+        change: |l| l.integers = &[(7, 1), (16, 2), (24, 3), (32, 4), (64, 6)],
+        call: LEARN,
+        cases: |sink, _, _| learning::integers(sink),
+        in_the_rust: true,
+        at_most: 6,
+    },
+    Change {
+        what: "a tie goes to the largest type",
+        change: |l| l.tie = u64::max,
+        call: LEARN,
+        cases: |sink, _, _| learning::commonest(sink),
+        in_the_rust: false,
+        at_most: 20,
+    },
+    Change {
+        what: "1,024 rows to learn from are refused",
+        change: |l| l.learned_rows = 1023,
+        call: LEARN,
+        cases: |sink, _, _| learning::many(sink),
+        in_the_rust: false,
+        at_most: 4110,
+    },
+    Change {
+        what: "rows of 126 columns to learn from are refused",
+        change: |l| l.columns = 125,
+        call: LEARN,
+        cases: |sink, _, _| learning::refusals(sink, &[7; 8]),
+        in_the_rust: false,
+        at_most: 0,
+    },
+    Change {
+        what: "a percent of matched columns is the nearest whole one",
+        change: |l| l.matched = |matched, columns| (matched as f64 * 100.0 / columns as f64).round() as u64,
+        call: UNALLOC,
+        cases: |sink, _, _| learned::shares(sink),
+        in_the_rust: true,
+        at_most: 30,
+    },
+    Change {
+        what: "an attempt needs as many bytes as columns",
+        change: |l| l.before_types = 0,
+        call: UNALLOC,
+        cases: |sink, _, _| learned::ends(sink),
+        in_the_rust: true,
+        at_most: 8,
+    },
+    Change {
+        what: "an attempt needs two bytes more than columns",
+        change: |l| l.before_types = 2,
+        call: UNALLOC,
+        cases: |sink, _, _| learned::ends(sink),
+        in_the_rust: true,
+        at_most: 8,
+    },
+    Change {
+        what: "a header of 512 bytes is too long for learned types",
+        change: |l| l.most_header = 511,
+        call: UNALLOC,
+        cases: |sink, _, _| learned::header_lengths(sink),
+        in_the_rust: true,
+        at_most: 700,
+    },
+    Change {
+        what: "a header of 513 bytes is not too long for learned types",
+        change: |l| l.most_header = 513,
+        call: UNALLOC,
+        cases: |sink, _, _| learned::header_lengths(sink),
+        in_the_rust: true,
+        at_most: 700,
+    },
+    Change {
+        what: "126 learned types are refused",
+        change: |l| l.columns = 125,
+        call: UNALLOC,
+        cases: |sink, _, _| learned::refusals(sink, &[2, 8, 0]),
+        in_the_rust: false,
+        at_most: 130,
     },
     Change {
         what: "a database of 16,777,216 bytes is refused",

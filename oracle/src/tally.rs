@@ -82,6 +82,13 @@ impl Tally {
         println!("{:<27} {:>10} {:>12} {:>10}  {}", "all", self.total(), asked, "", numbered(&all));
         println!("the Rust panicked, as foreseen, on {} of these; the rules alone decide there", self.panicked);
         println!("column states written by a call (0 to 3): {:?}", self.states_written);
+        let refusals = (1..=9).filter(|number| !all.contains_key(number));
+        let states = (0..STATES as u64).filter(|&state| self.states_written[state as usize] == 0);
+        for (what, missed) in [("refusals", refusals.collect::<Vec<u64>>()), ("states", states.collect())] {
+            if !missed.is_empty() {
+                println!("NOT REACHED: {what} {missed:?}");
+            }
+        }
         println!("column states read by a call (0 to 3, above): {:?}", self.states_read);
         println!("values read (none, NULL, integer, real, text, blob): {:?}", self.values);
     }

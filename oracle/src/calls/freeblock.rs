@@ -1,6 +1,6 @@
 //! Rows out of free blocks: of a page slice, of one page of a database, and of all leaves of lent tables.
 
-use super::carver::{self, Rooted, Table};
+use super::forms::{self, Rooted, Table};
 use super::scan::entries;
 use super::sheet::{Header, Row, Said, Sheet, FREELIST};
 use super::{all, held, Given};
@@ -34,15 +34,15 @@ fn carve(limits: &Limits, sheet: &mut Sheet, page: &Page, table: &Table) -> bool
 }
 
 pub fn slice(limits: &Limits, case: &Case) -> Answer {
-    carver::slice(limits, case, carve)
+    forms::slice(limits, case, carve)
 }
 
 pub fn page(limits: &Limits, case: &Case) -> Answer {
-    carver::page(limits, case, carve)
+    forms::page(limits, case, carve)
 }
 
 pub fn tables(limits: &Limits, case: &Case) -> Answer {
-    carver::tables(limits, case, carve)
+    forms::tables(limits, case, carve)
 }
 
 fn said(record: RecoveredRecord) -> Said {
@@ -75,14 +75,14 @@ fn same_chain(page: &[u8], head: usize) -> Given {
 }
 
 pub fn given_slice(case: &Case, answer: &Answer) -> Given {
-    match carver::given_slice(case, answer, rust_page) {
+    match forms::given_slice(case, answer, rust_page) {
         Given::NotAsked => Given::NotAsked,
         rows => all([same_chain(&case.slices[0], case.numbers[0] as usize), rows]),
     }
 }
 
 pub fn given_page(case: &Case, answer: &Answer) -> Given {
-    carver::given_page(case, answer, rust_page, rust_tables)
+    forms::given_page(case, answer, rust_page, rust_tables)
 }
 
 /// One table at a time, since the Rust takes them in a hash map's order.
@@ -102,5 +102,5 @@ fn rust_table(table: &Rooted, db: &[u8], size: u64) -> Vec<RecoveredRecord> {
 }
 
 pub fn given_tables(case: &Case, answer: &Answer) -> Given {
-    carver::given_tables(case, answer, rust_tables)
+    forms::given_tables(case, answer, rust_tables)
 }

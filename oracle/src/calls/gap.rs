@@ -1,7 +1,7 @@
 //! Rows out of gaps and of the cells in free blocks: of one block, of a page slice, of one page of a database, and of all
 //! leaves of lent tables.
 
-use super::carver::{self, Rooted, Table};
+use super::forms::{self, Rooted, Table};
 use super::scan::{entries, signature};
 use super::sheet::{same_rows, Header, Lent, Row, Said, Sheet, INTRA_PAGE};
 use super::Given;
@@ -42,15 +42,15 @@ fn carve(limits: &Limits, sheet: &mut Sheet, page: &Page, table: &Table) -> bool
 }
 
 pub fn tables(limits: &Limits, case: &Case) -> Answer {
-    carver::tables(limits, case, carve)
+    forms::tables(limits, case, carve)
 }
 
 pub fn page(limits: &Limits, case: &Case) -> Answer {
-    carver::page(limits, case, carve)
+    forms::page(limits, case, carve)
 }
 
 pub fn slice(limits: &Limits, case: &Case) -> Answer {
-    carver::slice(limits, case, carve)
+    forms::slice(limits, case, carve)
 }
 
 pub fn block(limits: &Limits, case: &Case) -> Answer {
@@ -102,15 +102,15 @@ fn leaf_by_leaf(table: &Rooted, db: &[u8], size: u64) -> Vec<Said> {
 }
 
 pub fn given_tables(case: &Case, answer: &Answer) -> Given {
-    carver::given_tables(case, answer, rust_tables)
+    forms::given_tables(case, answer, rust_tables)
 }
 
 pub fn given_page(case: &Case, answer: &Answer) -> Given {
-    carver::given_page(case, answer, rust_page, rust_tables)
+    forms::given_page(case, answer, rust_page, rust_tables)
 }
 
 pub fn given_slice(case: &Case, answer: &Answer) -> Given {
-    carver::given_slice(case, answer, rust_page)
+    forms::given_slice(case, answer, rust_page)
 }
 
 /// The Rust copies what is left of a block at every byte of it: above this it takes too long.

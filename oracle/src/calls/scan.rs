@@ -147,7 +147,7 @@ fn same_row(p: &Parts, start: usize, rust: &CarvedCandidate, answer: &Answer, i:
     ];
     let width = WORDS_PER_ENTRY * p.hints.len();
     let group = &answer.lists[1][i * width..][..width];
-    let Some(header) = header(&p.region[at..]) else {
+    let Some(header) = header(&p.region[at..], usize::MAX) else {
         return Given::Differs("the Rust's reader sees no header where the Rust has a row".into());
     };
     let columns = same_columns(p.region, at, &header, &rust.values, rust.bytes_consumed, group);

@@ -5,7 +5,7 @@ use super::value::same_value;
 use super::{all, held, Given};
 use crate::case::Answer;
 use crate::rules::limits::{room, WORDS_PER_ENTRY, WORDS_PER_ROW};
-use crate::rules::value::decode;
+use crate::rules::value::read_entry;
 use crate::rules::walk::End;
 use given::record::{decode_serial_type, RecoveredRecord, SqlValue};
 use given::varint::read_varint;
@@ -13,7 +13,9 @@ use given::EvidenceSource;
 
 pub const FREELIST: u64 = 1;
 pub const INTRA_PAGE: u64 = 2;
+pub const UNALLOCATED: u64 = 3;
 
+const LOST: [u64; WORDS_PER_ENTRY] = [2, 0, 0, 0];
 const UNUSED: [u64; WORDS_PER_ENTRY] = [3, 0, 0, 0];
 
 /// A row, but for its columns.
@@ -83,6 +85,12 @@ pub enum Header {
     Whole,
     /// As many bytes as there are columns, behind a length that was made up.
     Rebuilt,
+    /// Behind a header length, up to it, and at most so many.
+    UpTo(usize),
+    /// From the row's start on, at most so many; bodies stand behind the last of them.
+    Bare(usize),
+    /// The same behind the four bytes of a link, with a column lost before them.
+    Lost(usize),
 }
 
 /// A row of the Rust. Its table's name is the table's index, or empty where none is lent.
@@ -112,7 +120,7 @@ fn same_row(lent: &Lent, said: &Said, row: &[u64], group: &[u64]) -> Given {
         EvidenceSource::Live => return Given::Differs("a live row".into()),
         EvidenceSource::Freelist => (FREELIST, 0),
         EvidenceSource::CarvedIntraPage { confidence_pct } => (INTRA_PAGE, u64::from(confidence_pct)),
-        EvidenceSource::CarvedUnalloc { confidence_pct } => (3, u64::from(confidence_pct)),
+        EvidenceSource::CarvedUnalloc { confidence_pct } => (UNALLOCATED, u64::from(confidence_pct)),
     };
     let id = rust.row_id.map(|id| id as u64);
     // The Rust does not say how long a row is: that is held against its bodies.
@@ -124,11 +132,19 @@ fn same_row(lent: &Lent, said: &Said, row: &[u64], group: &[u64]) -> Given {
     let Some(header) = reread(said, &lent.bytes[at..]) else {
         return Given::Differs("the Rust's reader sees no header where the Rust has a row".into());
     };
+    // A lost column stands before those that have types.
+    let lost = usize::from(matches!(said.header, Header::Lost(_)));
+    let (before, used) = used.split_at(WORDS_PER_ENTRY * lost);
     all([
         held("row", &expected.words()[..], row),
-        same_columns(lent.bytes, at, &header, &rust.values, consumed as usize, used),
+        held("a lost column", (&LOST[..WORDS_PER_ENTRY * lost], lost), (before, nulls(&rust.values[..lost]))),
+        same_columns(lent.bytes, at, &header, &rust.values[lost..], consumed as usize, used),
         held("unused entries", &UNUSED.repeat(unused.len() / WORDS_PER_ENTRY)[..], unused),
     ])
+}
+
+fn nulls(values: &[SqlValue]) -> usize {
+    values.iter().filter(|value| **value == SqlValue::Null).count()
 }
 
 /// Where the bodies of a row begin, counted from its start, and its types.
@@ -136,29 +152,33 @@ pub type Reread = (usize, Vec<u64>);
 
 fn reread(said: &Said, part: &[u8]) -> Option<Reread> {
     match said.header {
-        Header::Whole => header(part),
+        Header::Whole => header(part, usize::MAX),
         Header::Rebuilt => {
             let columns = said.record.values.len();
-            Some((columns, kinds(part, 0, columns)?))
+            Some((columns, kinds(part, 0, columns, usize::MAX)?.1))
         }
+        Header::UpTo(most) => header(part, most),
+        Header::Bare(most) => kinds(part, 0, part.len(), most),
+        Header::Lost(most) => kinds(part, 4, part.len(), most),
     }
 }
 
 /// A header's length and types, by the Rust's varints.
-pub fn header(part: &[u8]) -> Option<Reread> {
+pub fn header(part: &[u8], most: usize) -> Option<Reread> {
     let (header, width) = read_varint(part, 0)?;
-    Some((header as usize, kinds(part, width, header as usize)?))
+    Some((header as usize, kinds(part, width, header as usize, most)?.1))
 }
 
-fn kinds(part: &[u8], from: usize, until: usize) -> Option<Vec<u64>> {
+/// Where the last type ends, and all of them.
+fn kinds(part: &[u8], from: usize, until: usize, most: usize) -> Option<Reread> {
     let mut kinds = Vec::new();
     let mut at = from;
-    while at < until {
+    while at < until && kinds.len() < most {
         let (kind, width) = read_varint(part, at)?;
         kinds.push(kind);
         at += width;
     }
-    Some(kinds)
+    Some((at, kinds))
 }
 
 /// The entries of a row that begins at `at`, against the Rust's values and the types that its reader sees there.
@@ -172,14 +192,14 @@ pub fn same_columns(
 ) -> Given {
     let mut start = at + header.0;
     for ((entry, value), &kind) in group.chunks(WORDS_PER_ENTRY).zip(values).zip(&header.1) {
-        let taken = decode_serial_type(kind, bytes, start).map_or(0, |v| v.1);
-        let read = decode(entry[1], bytes, entry[2]).unwrap_or_default();
-        let same =
-            all([held("entry", &[0, kind, start as u64, taken as u64][..], entry), same_value(value, &read, bytes)]);
+        let taken = decode_serial_type(kind, bytes, start).map(|v| v.1);
+        let expected = taken.map_or([1, kind, 0, 0], |taken| [0, kind, start as u64, taken as u64]);
+        let read = read_entry([entry[0], entry[1], entry[2], entry[3]], bytes).unwrap_or_default();
+        let same = all([held("entry", &expected[..], entry), same_value(value, &read, bytes)]);
         if same != Given::Agrees {
             return same;
         }
-        start += taken;
+        start += taken.unwrap_or(0);
     }
     let count = (values.len(), header.1.len());
     all([

@@ -1,11 +1,12 @@
 //! Slices of the largest size and one more.
 
+use super::bytes::varint;
 use super::databases::Database;
 use super::gaps::AsGaps;
 use super::limits::refusals;
 use super::regions::{attempt, lists, scan};
 use super::{chains, tables};
-use crate::calls::{BLOCK, GAPS, GAP_PAGE, GAP_SLICE};
+use crate::calls::{BLOCK, GAPS, GAP_PAGE, GAP_SLICE, LEARN, MODES, UNALLOC};
 use crate::calls::{LEAVES, PAGE_DATA, RECOVER, RECOVER_PAGE, RECOVER_SLICE, SCAN, SEARCH, STATEMENT};
 use crate::case::Case;
 use crate::random::Random;
@@ -153,6 +154,38 @@ pub fn freed(sink: &mut dyn Sink, length: usize) {
     payload[..5].copy_from_slice(&[3, 7, 2, 1, 9]);
     payload[length - 5..].copy_from_slice(&[3, 8, 2, 1, 9]);
     sink.put(Case::new(BLOCK, &[1 << 48], &[&payload, &[0]], &lists(8, 1)));
+}
+
+/// Blocks in three modes, bytes to learn from and regions to carve, of the largest size and one more.
+pub fn carving(sink: &mut dyn Sink) {
+    let types = vec![13; 2];
+    for length in LARGEST - 1..=LARGEST + 1 {
+        let text = 13 + 2 * (length as u64 - 6);
+        let header = [vec![6, 8], varint(text, 4)].concat();
+        let mut bytes = vec![b'a'; length];
+        bytes[..6].copy_from_slice(&header);
+        // The row takes just all bytes; without its first one, or with a text longer by one, its body does not fit.
+        for block in [&bytes[..], &bytes[1..], &[&[6, 8][..], &varint(text + 2, 4), &bytes[6..]].concat()] {
+            sink.put(Case::new(MODES, &[1 << 48, 2], &[block], &lists(2, 2)));
+            sink.put(Case::new(UNALLOC, &[1 << 48], &[block], &lists(1, 2)).with_words(&[&types]));
+        }
+        let entries = [0, text, 6, length as u64 - 6];
+        sink.put(Case::new(LEARN, &[1], &[&bytes], &[1]).with_words(&[&entries]));
+        sink.put(Case::new(LEARN, &[1], &[&bytes[1..]], &[1]).with_words(&[&entries]));
+    }
+    let bytes = vec![2; LARGEST + 1];
+    for base in [0, 1 << 60] {
+        for columns in [0, 1, 127] {
+            sink.put(Case::new(MODES, &[base, columns], &[&bytes], &[0, 0]));
+            let types = vec![1; columns as usize];
+            sink.put(Case::new(UNALLOC, &[base], &[&bytes], &[0, 0]).with_words(&[&types]));
+        }
+    }
+    for width in [0, 1, 127] {
+        for state in [0, 4] {
+            sink.put(Case::new(LEARN, &[width], &[&bytes], &[0]).with_words(&[&[state, 1, 0, 1]]));
+        }
+    }
 }
 
 /// Long statements: with columns, with none, and without brackets.

@@ -60,11 +60,10 @@ pub fn lent_tables(case: &Case) -> Vec<(u64, &[u8])> {
 
 fn tables_refusal(limits: &Limits, case: &Case) -> Option<u64> {
     let (db, hints, roots, counts) = (&case.slices[0], &case.slices[1], &case.words[0], &case.words[1]);
-    let bad_count = |&count: &u64| count == 0 || count > limits.columns as u64;
     let all_hints: u128 = counts.iter().map(|&c| u128::from(c)).sum();
     let unlike = roots.len() != counts.len() || all_hints != hints.len() as u128;
     first(&[
-        (1, counts.iter().any(bad_count)),
+        (1, counts.iter().any(|&count| limits.bad_count(count))),
         (2, unlike || hints.iter().any(|&h| h > limits.hint)),
         (3, db.len() > limits.region || roots.len() > limits.tables),
         (5, !limits.page_size(case.numbers[0])),

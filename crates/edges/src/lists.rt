@@ -1,9 +1,9 @@
 // Statements (6.5) and places (7.1) for lists that are just long enough and one cell short, with the cells behind them; statements of the
 // largest size and one more (1.1).
-use crate::say;
 use phsarodil::lists::phs_boyer_moore_search;
 use phsarodil::lists::phs_from_create_sql;
 use record::inner::wide;
+use shown::say;
 
 // Of the cells a part was lent.
 fn said(name: &[u8], number: u64, written: u64, cells: [u64; 4]) {

@@ -2,7 +2,6 @@
 mod lists;
 mod reals;
 mod records;
-mod say;
 mod shares;
 mod sheets;
 

@@ -1,9 +1,9 @@
 // Reals (2.7) by their bits: the C interface has them from the slice, and so does a recorded case.
-use crate::say;
 use record::inner::big_endian;
 use record::record::Decoded;
 use record::record::Value;
 use record::record::decode_serial_type;
+use shown::say;
 ghost use mathlib.Core.Path.{_≡_};
 ghost use lib.Ieee.{binary64, toBits};
 

@@ -1,7 +1,7 @@
 // Scans into lists that are just full and a row short (4.11), and rows of the largest size and one more (4.6).
-use crate::say;
 use phsarodil::rows::phs_scan_region;
 use phsarodil::rows::phs_try_parse_record;
+use shown::say;
 
 // Rows of one text each.
 fn scan(name: &[u8], region: &[u8], rows: &mut [u64], cols: &mut [u64]) {

@@ -1,5 +1,4 @@
 // Confidences by their bits (5.4), each with its percent (5.5).
-use crate::say;
 use sheet::confidence::freed;
 use sheet::confidence::percent;
 use sheet::confidence::rebuilt;
@@ -9,6 +8,7 @@ use sheet::row::Row;
 use sheet::row::RowId;
 use sheet::row::Source;
 use sheet::row::words;
+use shown::say;
 
 // As a row has them.
 fn bits(confidence: f32) -> u64 {

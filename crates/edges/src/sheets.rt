@@ -1,5 +1,4 @@
 // Refusals (1.1), rows (5.1), entries (3.1) and room (5.3).
-use crate::say;
 use sheet::columns;
 use sheet::columns::Column;
 use sheet::columns::room;
@@ -11,6 +10,7 @@ use sheet::row::Mode;
 use sheet::row::Row;
 use sheet::row::RowId;
 use sheet::row::Source;
+use shown::say;
 
 fn refusal(name: &[u8], refusal: Refusal) {
     say::text(b"refusal ");

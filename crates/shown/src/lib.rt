@@ -1,0 +1,2 @@
+// What the programs that show cases write: a line a case, in words.
+pub mod say;

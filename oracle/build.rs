@@ -24,6 +24,9 @@ const PARTS: &[Part] = &[
     Part { module: "context", only: None, opened: 0, fields: &[] },
     Part { module: "btree", only: Some("get_page_data"), opened: 1, fields: &[] },
     Part { module: "freeblock", only: None, opened: 5, fields: &["page_offset: usize", "data: Vec<u8>"] },
+    Part { module: "gap", only: None, opened: 3, fields: &[] },
+    Part { module: "carver", only: None, opened: 3, fields: &[] },
+    Part { module: "unalloc", only: None, opened: 3, fields: &["patterns: Vec<ColumnPattern>"] },
 ];
 
 const PRIVATE: [&str; 3] = ["fn ", "pub(crate) fn ", "struct "];

@@ -1,10 +1,15 @@
 //! The calls of the C interface: for each, the answer by the rules and the answer of the given Rust. A new call is a
 //! line here, a case in server/server.c, and a file of cases.
 
+pub mod carve;
 pub mod entry;
+pub mod forms;
 pub mod freeblock;
+pub mod gap;
+pub mod learn;
 pub mod page;
 pub mod scan;
+pub mod sheet;
 pub mod statement;
 pub mod value;
 
@@ -48,6 +53,13 @@ pub const LEAVES: u8 = 12;
 pub const RECOVER: u8 = 13;
 pub const RECOVER_PAGE: u8 = 14;
 pub const RECOVER_SLICE: u8 = 15;
+pub const GAPS: u8 = 16;
+pub const GAP_PAGE: u8 = 17;
+pub const GAP_SLICE: u8 = 18;
+pub const BLOCK: u8 = 19;
+pub const MODES: u8 = 20;
+pub const LEARN: u8 = 21;
+pub const UNALLOC: u8 = 22;
 
 const ROWS_AND_COLUMNS: &[Cell] = &[Cell::Word, Cell::Entry];
 const WALK_AND_LEAVES: &[Cell] = &[Cell::Flag, Cell::Word, Cell::Word];
@@ -73,6 +85,13 @@ pub const CALLS: &[Call] = &[
     },
     call("recover_page_freeblocks", (2, 2, 1), ROWS_AND_COLUMNS, freeblock::page, freeblock::given_page),
     call("recover_slice_freeblocks", (2, 2, 1), ROWS_AND_COLUMNS, freeblock::slice, freeblock::given_slice),
+    Call { words: 2, ..call("scan_page_gaps", (1, 2, 1), WALK_AND_ROWS, gap::tables, gap::given_tables) },
+    call("scan_page_gap", (2, 2, 1), ROWS_AND_COLUMNS, gap::page, gap::given_page),
+    call("scan_single_page_gap", (2, 2, 1), ROWS_AND_COLUMNS, gap::slice, gap::given_slice),
+    call("parse_cells_from_freeblock", (1, 2, 1), ROWS_AND_COLUMNS, gap::block, gap::given_block),
+    call("carve_freeblock", (2, 1, 1), ROWS_AND_COLUMNS, carve::modes, carve::given_modes),
+    Call { words: 1, ..call("learn_signatures", (1, 1, 1), &[Cell::Word], learn::learn, learn::given_learn) },
+    Call { words: 1, ..call("carve_unallocated", (1, 1, 1), ROWS_AND_COLUMNS, learn::carve, learn::given_carve) },
 ];
 
 const fn call(

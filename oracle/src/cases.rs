@@ -1,11 +1,16 @@
 //! The cases: fixed ones for every boundary of the rules, short inputs exhaustively, and random ones.
 
+pub mod blocks;
 pub mod bytes;
 pub mod chains;
 pub mod databases;
 pub mod entries;
+pub mod gaps;
 pub mod large;
+pub mod learned;
+pub mod learning;
 pub mod limits;
+pub mod modes;
 pub mod numbers;
 pub mod payloads;
 pub mod records;
@@ -48,6 +53,12 @@ const GROUPS: [(usize, Group); 8] = [
 /// The same for the calls on pages, whose random cases come on top.
 const PAGE_GROUPS: [(usize, Group); 4] = [(1, numbers::all), (30, chains::all), (8, walks::all), (8, tables::all)];
 
+/// The same for the carver of gaps and freed blocks.
+const GAP_GROUPS: [(usize, Group); 3] = [(36, gaps::all), (12, gaps::walks), (30, blocks::all)];
+
+/// The same for the three modes, and for learning.
+const CARVING_GROUPS: [(usize, Group); 3] = [(24, modes::all), (20, learning::all), (24, learned::all)];
+
 /// The calls on values, regions and statements.
 pub fn all(sink: &mut dyn Sink, plan: &Plan) {
     groups(sink, plan, &GROUPS, 0);
@@ -61,6 +72,22 @@ pub fn pages(sink: &mut dyn Sink, plan: &Plan) {
     groups(sink, plan, &PAGE_GROUPS, GROUPS.len());
     if plan.large {
         large::databases(sink, plan.long);
+    }
+}
+
+/// The carver of gaps and freed blocks.
+pub fn gaps(sink: &mut dyn Sink, plan: &Plan) {
+    groups(sink, plan, &GAP_GROUPS, GROUPS.len() + PAGE_GROUPS.len());
+    if plan.large {
+        large::gaps(sink);
+    }
+}
+
+/// The three modes, and learning.
+pub fn carving(sink: &mut dyn Sink, plan: &Plan) {
+    groups(sink, plan, &CARVING_GROUPS, GROUPS.len() + PAGE_GROUPS.len() + GAP_GROUPS.len());
+    if plan.large {
+        large::carving(sink);
     }
 }
 

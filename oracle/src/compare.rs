@@ -2,6 +2,7 @@
 
 use crate::calls::{self, Given};
 use crate::case::{Answer, Case};
+use crate::panics::foreseen;
 use crate::rules::limits::Limits;
 use crate::server::Left;
 use std::panic::{catch_unwind, AssertUnwindSafe};
@@ -24,13 +25,13 @@ pub fn expected(limits: &Limits, case: &Case) -> (Answer, Asked) {
     (answer, asked)
 }
 
-/// Why the Rust is not at one with the rules, if it is not. A panic counts: those that are known stand in a list of
-/// their own, apart from the other cases.
-pub fn against_the_rust(asked: &Asked) -> Option<String> {
+/// Why the Rust is not at one with the rules, if it is not. It has to panic where that is foreseen, and nowhere else.
+pub fn against_the_rust(case: &Case, asked: &Asked) -> Option<String> {
     match asked {
         Asked::Said(Given::Differs(why)) => Some(why.clone()),
-        Asked::Said(_) => None,
-        Asked::Panicked => Some("the Rust panics".into()),
+        Asked::Said(Given::NotAsked) => None,
+        Asked::Said(Given::Agrees) => foreseen(case).then(|| "the Rust does not stop where it should panic".into()),
+        Asked::Panicked => (!foreseen(case)).then(|| "the Rust panics".into()),
     }
 }
 

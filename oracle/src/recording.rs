@@ -11,9 +11,10 @@ use crate::text;
 use std::collections::{HashMap, HashSet};
 use std::{fs, io, path::Path};
 
-/// Slices and cells of a recorded case, and bytes of the whole file, at most.
+/// Slices and cells of a recorded case, words of a slice, and bytes of the whole file, at most.
 const LARGEST_CASE: usize = 1200;
-const LARGEST_FILE: usize = 2_000_000;
+const MOST_WORDS: usize = 300;
+const LARGEST_FILE: usize = 3_000_000;
 
 /// Cases of one kind: the first few, and then ever fewer of the many.
 const FIRST: usize = 8;
@@ -63,7 +64,7 @@ impl Recorder {
             return;
         }
         let (answer, asked) = expected(&self.limits, case);
-        if let Some(why) = against_the_rust(&asked).filter(|_| asked != Asked::Panicked) {
+        if let Some(why) = against_the_rust(case, &asked) {
             self.differs = Some(format!("{why}: {}", text::line(case)));
             return;
         }
@@ -74,16 +75,22 @@ impl Recorder {
     }
 }
 
-/// A head has room for two slices of bytes and two lists: walks take more.
+/// A head has room for two slices and two lists: walks take more.
 fn fits(case: &Case) -> bool {
-    case.size() <= LARGEST_CASE && case.words.is_empty() && case.lists.len() <= 2
+    case.size() <= LARGEST_CASE
+        && case.slices.len() + case.words.len() <= 2
+        && case.words.iter().all(|words| words.len() <= MOST_WORDS)
+        && case.lists.len() <= 2
 }
 
-/// A head of eighteen words, then the bytes of the slices, then the written cells of the lists.
+/// A head of eighteen words, then the bytes of the slices, those of words behind the others, then the written cells of the
+/// lists.
 fn put_case(file: &mut Vec<u8>, case: &Case, answer: &Answer, rust: bool) {
-    let mut body: Vec<u8> = case.slices.concat();
+    let words = case.words.iter().map(|words| words.iter().flat_map(|word| word.to_be_bytes()).collect());
+    let slices: Vec<Vec<u8>> = case.slices.iter().map(|slice| slice.to_vec()).chain(words).collect();
+    let mut body: Vec<u8> = slices.concat();
     body.extend(answer.lists.iter().flatten().flat_map(|cell| cell.to_be_bytes()));
-    let lengths: Vec<u64> = case.slices.iter().map(|slice| slice.len() as u64).collect();
+    let lengths: Vec<u64> = slices.iter().map(|slice| slice.len() as u64).collect();
     let cells: Vec<u64> = case.lists.iter().map(|&n| n as u64).collect();
     let written: Vec<u64> = answer.lists.iter().map(|list| list.len() as u64).collect();
     put_words(file, &[body.len() as u64, u64::from(case.call)], 2);
@@ -127,6 +134,8 @@ pub fn record(folder: &str, seed: u64) -> io::Result<bool> {
     let plan = Plan { seed, random: 200_000, large: false, long: false };
     cases::all(&mut recorder, &plan);
     cases::pages(&mut recorder, &plan);
+    cases::gaps(&mut recorder, &plan);
+    cases::carving(&mut recorder, &plan);
     if let Some(why) = recorder.differs {
         println!("DIFFERENCE: {why}");
         return Ok(false);

@@ -2,7 +2,10 @@
 //! from the proved code, and nothing is fast.
 
 pub mod attempt;
+pub mod carve;
 pub mod freeblock;
+pub mod gap;
+pub mod learn;
 pub mod limits;
 pub mod page;
 pub mod statement;

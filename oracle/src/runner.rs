@@ -92,7 +92,7 @@ impl Runner {
             return self.one_by_one(batch);
         }
         for (case, (answer, asked)) in batch.iter().zip(&due) {
-            let rust = against_the_rust(asked).filter(|_| self.sides != Sides::OursOnly);
+            let rust = against_the_rust(case, asked).filter(|_| self.sides != Sides::OursOnly);
             let mut differs = None;
             if self.has(case) {
                 let Ok(ours) = self.server.receive(case) else {
@@ -130,7 +130,7 @@ impl Runner {
     /// Why a case by itself differs.
     pub fn differs(&mut self, case: &Case) -> Option<String> {
         let (answer, asked) = expected(&self.limits, case);
-        let rust = against_the_rust(&asked);
+        let rust = against_the_rust(case, &asked);
         if self.sides != Sides::OursOnly && rust.is_some() {
             return rust;
         }
@@ -165,7 +165,7 @@ impl Runner {
     fn cut_down(&mut self, first: Case, why: String) {
         let panics = |why: &str| why.contains("panics");
         let case = shrink(first.clone(), |smaller| {
-            // A panic must stay one, and a difference must not turn into a known panic.
+            // A panic must stay one, and a difference must not turn into one.
             self.differs(smaller).is_some_and(|w| panics(&w) == panics(&why))
         });
         let why = self.differs(&case).unwrap_or(why);

@@ -1,10 +1,15 @@
 //! Cuts a differing case down: whatever can go while the case still differs, goes.
 
+use crate::calls::LEARN;
 use crate::case::Case;
+use crate::rules::limits::WORDS_PER_ENTRY;
+use std::time::{Duration, Instant};
 
-/// What trying may cost: each try counts its bytes and cells, and a little for itself.
+/// What trying may cost: each try counts its bytes and cells, and a little for itself. On long blocks the Rust is slow,
+/// and then it is the time that ends it.
 const BUDGET: usize = 150_000_000;
 const EACH_TRY: usize = 5_000;
+const TIME: Duration = Duration::from_secs(10);
 
 /// Only slices below this have their bytes made plainer one by one.
 const SHORT: usize = 2000;
@@ -16,11 +21,12 @@ struct Shrink<D> {
     best: Case,
     differs: D,
     left: usize,
+    until: Instant,
     changed: bool,
 }
 
 pub fn shrink(case: Case, differs: impl FnMut(&Case) -> bool) -> Case {
-    let mut shrink = Shrink { best: case, differs, left: BUDGET, changed: true };
+    let mut shrink = Shrink { best: case, differs, left: BUDGET, until: Instant::now() + TIME, changed: true };
     while shrink.changed {
         shrink.changed = false;
         shrink.pass();
@@ -34,8 +40,12 @@ impl<D: FnMut(&Case) -> bool> Shrink<D> {
             let cells = self.best.lists[l] as u64;
             self.lower(cells, |case, n| case.lists[l] = n as usize);
         }
-        for table in (0..self.best.words.first().map_or(0, Vec::len)).rev() {
-            self.try_with(|case| drop_table(case, table));
+        if self.best.words.len() == 1 {
+            self.shorten_words();
+        } else {
+            for table in (0..self.best.words.first().map_or(0, Vec::len)).rev() {
+                self.try_with(|case| drop_table(case, table));
+            }
         }
         for n in 0..self.best.numbers.len() {
             let number = self.best.numbers[n];
@@ -60,7 +70,8 @@ impl<D: FnMut(&Case) -> bool> Shrink<D> {
     /// Takes the changed case in place of the best one, if it differs too.
     fn try_with(&mut self, change: impl FnOnce(&mut Case)) -> bool {
         let cost = EACH_TRY + self.best.size();
-        if self.left < cost {
+        if self.left < cost || Instant::now() > self.until {
+            self.left = 0;
             return false;
         }
         self.left -= cost;
@@ -86,6 +97,28 @@ impl<D: FnMut(&Case) -> bool> Shrink<D> {
                 if self.left < EACH_TRY + self.best.size() {
                     return;
                 }
+            }
+            size /= 2;
+        }
+    }
+
+    /// Takes parts out of a list of words that stands alone: rows and columns of entries to learn from, then halves.
+    fn shorten_words(&mut self) {
+        if self.best.call == LEARN {
+            for row in (0..self.best.words[0].len() / WORDS_PER_ENTRY).rev() {
+                self.try_with(|case| drop_row(case, row));
+            }
+            for column in (0..self.best.numbers[0]).rev() {
+                self.try_with(|case| drop_column(case, column));
+            }
+        }
+        let mut size = self.best.words[0].len();
+        while size > 0 {
+            for start in (0..self.best.words[0].len()).step_by(size).rev() {
+                self.try_with(|case| {
+                    let end = (start + size).min(case.words[0].len());
+                    case.words[0].drain(start.min(end)..end);
+                });
             }
             size /= 2;
         }
@@ -135,6 +168,25 @@ fn drop_table(case: &mut Case, table: usize) {
     }
 }
 
+/// A row to learn from, if there are so many.
+fn drop_row(case: &mut Case, row: usize) {
+    let width = WORDS_PER_ENTRY.saturating_mul(case.numbers[0] as usize);
+    let start = row.saturating_mul(width);
+    if let Some(end) = start.checked_add(width).filter(|&end| end <= case.words[0].len()) {
+        case.words[0].drain(start..end);
+    }
+}
+
+/// A column of all rows to learn from.
+fn drop_column(case: &mut Case, column: u64) {
+    let width = case.numbers[0];
+    if column < width && width <= case.words[0].len() as u64 {
+        let kept = |i: &usize| (i / WORDS_PER_ENTRY) as u64 % width != column;
+        case.words[0] = (0..case.words[0].len()).filter(kept).map(|i| case.words[0][i]).collect();
+        case.numbers[0] -= 1;
+    }
+}
+
 #[cfg(test)]
 mod tests {
     use super::*;
@@ -153,6 +205,15 @@ mod tests {
         let small = shrink(case, |c| fits(c) && c.slices[1].contains(&2));
         assert_eq!(small.words, [[0], [2]]);
         assert_eq!(small.slices[1], [0, 2]);
+    }
+
+    #[test]
+    fn rows_and_columns_to_learn_from_go() {
+        let entries: Vec<u64> = (0..24).map(|i| if i == 20 { 7 } else { 0 }).collect();
+        let case = Case::new(LEARN, &[2], &[&[]], &[2]).with_words(&[&entries]);
+        let small =
+            shrink(case, |c| c.words[0].len() as u64 % (4 * c.numbers[0].max(1)) == 0 && c.words[0].contains(&7));
+        assert_eq!(small, Case::new(LEARN, &[0], &[&[]], &[0]).with_words(&[&[7, 0, 0, 0]]));
     }
 
     #[test]

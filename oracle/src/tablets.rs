@@ -1,12 +1,16 @@
 //! Real databases: what comes back of rows that were deleted. The script `tablets` makes the databases and says, for
 //! each, which rows were deleted and which were kept.
 
+mod carvers;
+
 use crate::calls::{self, ATTEMPT, SCAN, STATEMENT};
 use crate::case::Case;
+use crate::cases::databases::FIRST_HEADER;
 use crate::cases::regions::lists;
 use crate::random::Random;
 use crate::rules::attempt::attempt;
-use crate::rules::value::{self, decode};
+use crate::rules::limits::WORDS_PER_ENTRY;
+use crate::rules::value::{self, read_entry};
 use crate::runner::{Runner, Sink};
 use std::collections::HashSet;
 use std::path::Path;
@@ -15,6 +19,7 @@ use std::{fs, io};
 /// No row of these tables is shorter.
 const SHORTEST_ROW: usize = 5;
 const NULL_HINT: u8 = 4;
+const UNUSED: u64 = 3;
 /// Of the rows that are looked for at every offset; with four or five columns one may be unsuited.
 const LEAST_CONFIDENCE: f32 = 0.7;
 
@@ -24,6 +29,15 @@ struct Tablet {
     hints: Vec<u8>,
     deleted: HashSet<String>,
     kept: HashSet<String>,
+    /// Learned from the rows that its pages point at.
+    types: Vec<u64>,
+}
+
+/// A page, where it stands in its file, and where its b-tree header stands in it.
+struct Leaf<'a> {
+    at: usize,
+    header: usize,
+    bytes: &'a [u8],
 }
 
 #[derive(Default)]
@@ -33,14 +47,26 @@ struct Back {
     none: usize,
 }
 
+impl Back {
+    fn shown(&self) -> String {
+        format!("{}, {}, {}", self.deleted.len(), self.live, self.none)
+    }
+}
+
 pub fn run(runner: &mut Runner, folder: &str) -> io::Result<bool> {
     let mut names: Vec<String> = fs::read_dir(folder)?
         .filter_map(|e| Some(e.ok()?.file_name().to_string_lossy().strip_suffix(".db")?.to_string()))
         .collect();
     names.sort();
-    println!("Rows found: deleted, kept, and none; by the scan, and at every offset with confidence from {LEAST_CONFIDENCE}.\n");
-    println!("| database | hints | deleted | the scan | every offset |");
-    println!("|---|---|---|---|---|");
+    let missing = runner.missing();
+    if !missing.is_empty() {
+        println!("WITH THE RUST ALONE, since the archive does not have it: {}\n", missing.join(", "));
+    }
+    println!("Rows found: deleted, kept, and none; by the scan, at every offset with confidence from {LEAST_CONFIDENCE}, by the gap's");
+    println!("carver over the table's leaves (in a log over each leaf), in three modes of each free block of a leaf, and by learned");
+    println!("types over each page.\n");
+    println!("| database | hints | deleted | the scan | every offset | gaps | three modes | learned |");
+    println!("|---|---|---|---|---|---|---|---|");
     for name in &names {
         let statement = fs::read(Path::new(folder).join(format!("{name}.sql")))?;
         let hints = hints_of(runner, &statement);
@@ -57,7 +83,8 @@ pub fn run(runner: &mut Runner, folder: &str) -> io::Result<bool> {
         return Ok(false);
     }
     println!("\nThe Rust, the rules and our side agree on all {} cases:", runner.tally.total());
-    println!("the statements, every page and every frame of a log, a damaged copy of each, and rows at every offset.");
+    println!("the statements, every page and every frame of a log, a damaged copy of each, and rows at every offset; the tables'");
+    println!("leaves, each free block, the rows that are learned from, and a damaged copy of each of these.");
     Ok(true)
 }
 
@@ -75,17 +102,23 @@ fn scan_both(runner: &mut Runner, folder: &str, name: &str, hints: Vec<u8>, whic
         Ok(fs::read_to_string(path(end))?.lines().map(String::from).collect())
     };
     let db = fs::read(path(".db"))?;
-    let tablet = Tablet {
+    let mut tablet = Tablet {
         name: name.to_string(),
         page: page_size(&db),
         hints,
         deleted: lines(".deleted")?,
         kept: lines(".kept")?,
+        types: Vec::new(),
     };
-    report(runner, &tablet, which, &pages(&db, 0, 0, tablet.page));
+    let leaves = pages(&db, 0, 0, tablet.page);
+    tablet.types = carvers::learn(runner, &tablet, &db, &leaves);
+    let gaps = carvers::table(runner, &tablet, &db);
+    report(runner, &tablet, which, &leaves, &gaps);
     if let Ok(log) = fs::read(path(".db-wal")) {
         let which = format!("{which}, log");
-        report(runner, &tablet, &which, &pages(&log, 32, 24, tablet.page));
+        let leaves = pages(&log, 32, 24, tablet.page);
+        let gaps = carvers::leaves(runner, &tablet, &leaves);
+        report(runner, &tablet, &which, &leaves, &gaps);
     }
     Ok(())
 }
@@ -98,30 +131,42 @@ fn page_size(db: &[u8]) -> usize {
     }
 }
 
-/// The pages with their places, each behind `before` bytes of its own.
-fn pages(file: &[u8], head: usize, before: usize, size: usize) -> Vec<(usize, &[u8])> {
-    (head..file.len())
-        .step_by(before + size)
-        .filter_map(|at| Some((at + before, file.get(at + before..at + before + size)?)))
-        .collect()
+/// The pages, each behind `before` bytes of its own, which begin with its number.
+fn pages(file: &[u8], head: usize, before: usize, size: usize) -> Vec<Leaf<'_>> {
+    let page = |at: usize| {
+        let first = if before == 0 { at == 0 } else { file[at..][..4] == [0, 0, 0, 1] };
+        let bytes = file.get(at + before..at + before + size)?;
+        Some(Leaf { at: at + before, header: if first { FIRST_HEADER } else { 0 }, bytes })
+    };
+    (head..file.len()).step_by(before + size).filter_map(page).collect()
 }
 
-fn report(runner: &mut Runner, tablet: &Tablet, which: &str, pages: &[(usize, &[u8])]) {
+fn report(runner: &mut Runner, tablet: &Tablet, which: &str, pages: &[Leaf], gaps: &Back) {
     let mut scanned = Back::default();
     let mut tried = Back::default();
-    for (at, page) in pages {
-        let lists = lists(page.len() / SHORTEST_ROW, tablet.hints.len());
-        let case = Case::new(SCAN, &[*at as u64, 0], &[page, &tablet.hints], &lists);
-        let answer = (calls::of(&case).answer)(&runner.limits, &case);
-        for group in answer.lists[1].chunks(4 * tablet.hints.len()) {
-            sort_in(tablet, page, group, &mut scanned);
-        }
-        put_damaged(runner, &case, *at as u64);
-        runner.put(case);
-        try_every_offset(runner, tablet, page, &mut tried);
+    for page in pages {
+        let lists = lists(page.bytes.len() / SHORTEST_ROW, tablet.hints.len());
+        let case = Case::new(SCAN, &[page.at as u64, 0], &[page.bytes, &tablet.hints], &lists);
+        put_counted(runner, tablet, case, tablet.hints.len(), &mut scanned);
+        try_every_offset(runner, tablet, page.bytes, &mut tried);
     }
-    let [scanned, tried] = [scanned, tried].map(|b| format!("{}, {}, {}", b.deleted.len(), b.live, b.none));
-    println!("| {} | {which} | {} | {scanned} | {tried} |", tablet.name, tablet.deleted.len());
+    let modes = carvers::modes(runner, tablet, pages);
+    let learned = carvers::learned(runner, tablet, pages);
+    let [scanned, tried, gaps, modes, learned] = [&scanned, &tried, gaps, &modes, &learned].map(Back::shown);
+    let Tablet { name, deleted, .. } = tablet;
+    println!("| {name} | {which} | {} | {scanned} | {tried} | {gaps} | {modes} | {learned} |", deleted.len());
+}
+
+/// Sorts in the rows of a case, and puts it and a damaged copy. Its last list has a group of so many entries for each row.
+fn put_counted(runner: &mut Runner, tablet: &Tablet, case: Case, width: usize, back: &mut Back) {
+    let answer = (calls::of(&case).answer)(&runner.limits, &case);
+    let groups = answer.lists.last().map_or(&[][..], |list| list);
+    for group in groups.chunks(WORDS_PER_ENTRY * width) {
+        sort_in(tablet, &case.slices[0], group, back);
+    }
+    let seed = case.slices[0].iter().fold(case.numbers[0], |seed, &b| seed.wrapping_mul(31) + u64::from(b));
+    put_damaged(runner, &case, seed);
+    runner.put(case);
 }
 
 /// What the scan steps over, too. Each row is put as the case of its own bytes.
@@ -144,6 +189,9 @@ fn try_every_offset(runner: &mut Runner, tablet: &Tablet, page: &[u8], back: &mu
 fn put_damaged(runner: &mut Runner, case: &Case, seed: u64) {
     let mut random = Random::new(seed);
     let mut damaged = case.clone();
+    if damaged.slices[0].is_empty() {
+        return;
+    }
     for _ in 0..1 + random.below(40) {
         let at = random.below(damaged.slices[0].len());
         damaged.slices[0][at] ^= 1 << random.below(8);
@@ -151,8 +199,10 @@ fn put_damaged(runner: &mut Runner, case: &Case, seed: u64) {
     runner.put(damaged);
 }
 
+/// A row's key, if it has a column for it, stands before the others.
 fn sort_in(tablet: &Tablet, page: &[u8], group: &[u64], back: &mut Back) {
-    let columns: Vec<String> = group.chunks(4).map(|e| shown(page, e)).collect();
+    let used = group.chunks(WORDS_PER_ENTRY).filter(|entry| entry[0] != UNUSED);
+    let columns: Vec<String> = used.map(|entry| shown(page, entry)).collect();
     let key = columns.len() - columns.len().min(4);
     let line = columns[key..].join("|");
     if tablet.deleted.contains(&line) {
@@ -166,7 +216,7 @@ fn sort_in(tablet: &Tablet, page: &[u8], group: &[u64], back: &mut Back) {
 
 /// A value as sqlite3 prints it in a list.
 fn shown(page: &[u8], entry: &[u64]) -> String {
-    let v = decode(entry[1], page, entry[2]).unwrap_or_default();
+    let v = read_entry([entry[0], entry[1], entry[2], entry[3]], page).unwrap_or_default();
     let part = || &page[v.start as usize..(v.start + v.length) as usize];
     match v.tag {
         value::INTEGER => (v.bits as i64).to_string(),

@@ -22,6 +22,7 @@ pub struct Tally {
     states_written: [u64; STATES],
     states_read: [u64; STATES + 1],
     values: [u64; 6],
+    panicked: u64,
 }
 
 impl Tally {
@@ -31,14 +32,16 @@ impl Tally {
             states_written: [0; STATES],
             states_read: [0; STATES + 1],
             values: [0; 6],
+            panicked: 0,
         }
     }
 
     pub fn add(&mut self, case: &Case, answer: &Answer, asked: &Asked) {
         let call = &mut self.calls[case.call as usize - 1];
         call.cases += 1;
-        call.with_the_rust += u64::from(*asked != Asked::Said(Given::NotAsked));
+        call.with_the_rust += u64::from(*asked == Asked::Said(Given::Agrees));
         *call.numbers.entry(answer.number).or_default() += 1;
+        self.panicked += u64::from(*asked == Asked::Panicked);
         if !case.lists.is_empty() {
             call.written += answer.out[0];
         }
@@ -60,10 +63,10 @@ impl Tally {
     }
 
     pub fn print(&self) {
-        println!("{:<25} {:>10} {:>12} {:>10}  refusals", "call", "cases", "with Rust", "written");
+        println!("{:<27} {:>10} {:>12} {:>10}  refusals", "call", "cases", "with Rust", "written");
         for (call, per) in CALLS.iter().zip(&self.calls) {
             println!(
-                "{:<25} {:>10} {:>12} {:>10}  {}",
+                "{:<27} {:>10} {:>12} {:>10}  {}",
                 call.name,
                 per.cases,
                 per.with_the_rust,
@@ -76,8 +79,16 @@ impl Tally {
             *all.entry(*number).or_default() += count;
         }
         let asked: u64 = self.calls.iter().map(|c| c.with_the_rust).sum();
-        println!("{:<25} {:>10} {:>12} {:>10}  {}", "all", self.total(), asked, "", numbered(&all));
+        println!("{:<27} {:>10} {:>12} {:>10}  {}", "all", self.total(), asked, "", numbered(&all));
+        println!("the Rust panicked, as foreseen, on {} of these; the rules alone decide there", self.panicked);
         println!("column states written by a call (0 to 3): {:?}", self.states_written);
+        let refusals = (1..=9).filter(|number| !all.contains_key(number));
+        let states = (0..STATES as u64).filter(|&state| self.states_written[state as usize] == 0);
+        for (what, missed) in [("refusals", refusals.collect::<Vec<u64>>()), ("states", states.collect())] {
+            if !missed.is_empty() {
+                println!("NOT REACHED: {what} {missed:?}");
+            }
+        }
         println!("column states read by a call (0 to 3, above): {:?}", self.states_read);
         println!("values read (none, NULL, integer, real, text, blob): {:?}", self.values);
     }

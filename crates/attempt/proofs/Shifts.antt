@@ -16,9 +16,9 @@ use Rattle.attempt.specs.Moved.{movedOne, moved, backOne, back}
 use Rattle.attempt.proofs.Bodies.{over-laid, bodies-end, bodies-step, bodies-out, bodies-none}
 use Rattle.attempt.proofs.Judging.{fits, fits-not, attempt-is, attempt-bad}
 use Rattle.attempt.proofs.Types.{types-step, types-cut, types-end}
-use Rattle.record.proofs.Laws.{varint-lies}
+use Rattle.record.proofs.Laws.{varint-lies, varint-low}
 use Rattle.record.proofs.Numbers.{by-order}
-use Rattle.record.proofs.Shifts.{PartOf, part-behind, varint-low, movedVarint, varint-moved}
+use Rattle.record.proofs.Shifts.{PartOf, part-behind, movedVarint, varint-moved}
 use Rattle.record.specs.Value.{bodyLength}
 use Rattle.record.specs.Varint.{varintAt}
 use Rattle.record.specs.declared.record.Length.{Length}

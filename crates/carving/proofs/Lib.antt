@@ -1,3 +1,5 @@
 mod Callers
 mod Cases
+mod Entries
+pub mod ReadBack
 pub mod Unique

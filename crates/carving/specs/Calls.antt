@@ -1,4 +1,4 @@
--- The calls that carve pages, by the way in which one page is carved: of a page slice, of a page by its number, and of tables (rules 9.14, 10.5 and 11.9).
+-- The calls that carve pages, by the way in which one page is carved: of a page slice, of a page by its number, and of tables (rules 9.14, 10.5 and 11.8).
 -- Assumes nothing.
 use Prim.Native.Nat.{ℕ}
 use mathlib.Core.Bool.{not}

@@ -9,7 +9,7 @@ use native.Mathlib.Omega.{arith}
 use lib.Dec.{ltb}
 use lib.ListN.{length, take, drop, length-drop}
 use Rattle.attempt.proofs.Laws.{made-from}
-use Rattle.attempt.proofs.ReadBack.{Reads, values-moved, part-reads, part-hit-reads}
+use Rattle.attempt.proofs.ReadBack.{values-moved, laid-reads, part-reads}
 use Rattle.attempt.proofs.Shifts.{back-moved, given, oneLonger, types-moved, made-up}
 use Rattle.attempt.specs.Attempt.{Found, Tried, miss, hit, kinds, mostBytes}
 use Rattle.attempt.specs.Inner.{headerTypes}
@@ -17,40 +17,20 @@ use Rattle.attempt.specs.Moved.{moved}
 use Rattle.attempt.specs.Values.{valuesFrom, rowValues}
 use Rattle.cells.specs.Cells.{CellRow, Looked, noCell, cell, cellAt, cellsFrom, cellsOf, withoutByte, oneByte, startsOf, rebuiltStarts, cellHit, cellHits, rebuiltHit, startHits, rebuiltFrom, payloadHits}
 use Rattle.cells.specs.Inner.{cellsThere, nextPlace}
-use Rattle.cells.specs.Values.{cellValues, cellsValues, rebuiltValues, startValues, rebuiltValuesFrom, payloadValues}
+use Rattle.cells.specs.Values.{cellValues, cellsValues, rebuiltValues, startValues, rebuiltValuesFrom, payloadValues, inSlice}
 use Rattle.cells.proofs.Looking.{cell-from, cells-none, cells-end, cells-on}
 use Rattle.cells.proofs.Rebuilding.{one-byte-cut}
+use Rattle.hit.proofs.ReadBack.{HitReads, AllRead, read-append, map-again, moved-length, found-reads}
 use Rattle.hit.specs.declared.inner.Spot.{Spot}
 use Rattle.page.specs.Page.{among}
 use Rattle.record.proofs.Numbers.{by-order}
-use Rattle.record.proofs.Shifts.{PartOf, part-taken, part-rest, part-within, moved-again}
+use Rattle.record.proofs.Shifts.{PartOf, part-taken, part-rest, part-within}
 use Rattle.record.specs.Value.{movedValue}
 use Rattle.record.specs.declared.record.Value.{Value}
 use Rattle.sheet.specs.Limits.{mostColumns}
 use Rattle.walk.specs.Carve.{Hit}
 
--- rows that read over a slice, each as its values
-abbrev pub AllRead : List ℕ → List Hit → List (List Value) → Type 0
-AllRead s [] [] = Unit
-AllRead s [] (vs ∷ vss) = ⊥
-AllRead s (h ∷ hs) [] = ⊥
-AllRead s (h ∷ hs) (vs ∷ vss) = Reads s (h .columns) vs × AllRead s hs vss
-
-read-append : (s : List ℕ) (a b : List Hit) (x y : List (List Value)) → AllRead s a x → AllRead s b y → AllRead s (a ++ b) (x ++ y)
-read-append s [] b [] y p q = q
-read-append s [] b (v ∷ x) y p q = absurd p
-read-append s (h ∷ a) b [] y p q = absurd p
-read-append s (h ∷ a) b (v ∷ x) y p q = (p .0, read-append s a b x y (p .1) q)
-
-map-again : (a b : ℕ) (vs : List Value) → map (movedValue a) (map (movedValue b) vs) ≡ map (movedValue (a + b)) vs
-map-again a b [] = refl
-map-again a b (v ∷ vs) = rw (moved-again a b v, map-again a b vs)
-
--- values of the payload, said of the slice
-abbrev pub inSlice : ℕ → List (List Value) → List (List Value)
-inSlice by [] = []
-inSlice by (vs ∷ vss) = map (movedValue by) vs ∷ inSlice by vss
-
+-- ---- values of the payload, said of the slice
 slice-append : (by : ℕ) (x y : List (List Value)) → inSlice by (x ++ y) ≡ inSlice by x ++ inSlice by y
 slice-append by [] y = refl
 slice-append by (v ∷ x) y = rw (slice-append by x y)
@@ -59,14 +39,14 @@ slice-append by (v ∷ x) y = rw (slice-append by x y)
 module _ (s : List ℕ) (spot : Spot) (o : ℕ) (d hints : List ℕ) (part : PartOf (spot .start + o) d s) where
   -- THE LAW: a cell's row reads as the row of its record
   pub cell-reads : (pos : ℕ) (c : CellRow) → cellAt d hints pos ≡ cell c
-      → Reads s (cellHit spot (length hints) (o + c .at) (c .id) (c .found) .columns) (map (movedValue (spot .start + o)) (cellValues d c))
+      → HitReads s (length hints) (cellHit spot (length hints) (o + c .at) (c .id) (c .found)) (map (movedValue (spot .start + o)) (cellValues d c))
   cell-reads pos c e =
       let f = cell-from d hints pos c e in
       let there = part-within (part-taken d (c .at) (c .end - c .at) (omega (arith, f .some, f .inside))) part in
       rw (← add-assoc (spot .start) o (c .at), map-again (spot .start + o) (c .at) (rowValues (take (c .end - c .at) (drop (c .at) d)) 0))
-      (part-hit-reads there hints 0 (c .found) (f .found))
+      (found-reads there hints 0 (c .found) (f .found) _)
 
-  cells-read : (f pos : ℕ) → AllRead s (cellHits spot (length hints) o (cellsFrom f d hints pos)) (inSlice (spot .start + o) (cellsValues d (cellsFrom f d hints pos)))
+  cells-read : (f pos : ℕ) → AllRead s (length hints) (cellHits spot (length hints) o (cellsFrom f d hints pos)) (inSlice (spot .start + o) (cellsValues d (cellsFrom f d hints pos)))
   cells-read zero pos = rw (cells-none d hints pos) tt
   cells-read (suc f) pos =
       by-order pos (length d)
@@ -74,8 +54,8 @@ module _ (s : List ℕ) (spot : Spot) (o : ℕ) (d hints : List ℕ) (part : Par
       (λ ge. rw (cells-end d hints (suc f) pos ge) tt)
     where
       go : (l : Looked) → cellAt d hints pos ≡ l
-          → ((next : ℕ) → AllRead s (cellHits spot (length hints) o (cellsFrom f d hints next)) (inSlice (spot .start + o) (cellsValues d (cellsFrom f d hints next))))
-          → AllRead s (cellHits spot (length hints) o (cellsThere l ++ cellsFrom f d hints (nextPlace pos l))) (inSlice (spot .start + o) (cellsValues d (cellsThere l ++ cellsFrom f d hints (nextPlace pos l))))
+          → ((next : ℕ) → AllRead s (length hints) (cellHits spot (length hints) o (cellsFrom f d hints next)) (inSlice (spot .start + o) (cellsValues d (cellsFrom f d hints next))))
+          → AllRead s (length hints) (cellHits spot (length hints) o (cellsThere l ++ cellsFrom f d hints (nextPlace pos l))) (inSlice (spot .start + o) (cellsValues d (cellsThere l ++ cellsFrom f d hints (nextPlace pos l))))
       go noCell e rest = rest (suc pos)
       go (cell c) e rest = (cell-reads pos c e, rest (c .end))
 
@@ -101,11 +81,11 @@ module _ (s : List ℕ) (spot : Spot) (o : ℕ) (d hints : List ℕ) (part : Par
 
     -- THE LAW: a rebuilt row reads as the types in the bytes from v on, as many as columns, with their bodies behind these bytes
     pub rebuilt-reads : (v : ℕ) (x : Found) → v ≤ length d → oneByte d hints v ≡ hit x
-        → Reads s (rebuiltHit spot h (o + v) x .columns) (map (movedValue (spot .start + o)) (rebuiltValues d h v))
+        → HitReads s h (rebuiltHit spot h (o + v) x) (map (movedValue (spot .start + o)) (rebuiltValues d h v))
     unfolding oneByte
     rebuilt-reads v x start e = by-order (length d - v) h (λ out. never (sym (one-byte-cut d hints v start some few out) ∙ e)) fits
       where
-        fits : h ≤ length d - v → Reads s (rebuiltHit spot h (o + v) x .columns) (map (movedValue (spot .start + o)) (rebuiltValues d h v))
+        fits : h ≤ length d - v → HitReads s h (rebuiltHit spot h (o + v) x) (map (movedValue (spot .start + o)) (rebuiltValues d h v))
         fits in′ =
             let rest = part-rest d v start in
             let long : length (drop v d) ≡ length d - v = length-drop v d in
@@ -117,25 +97,28 @@ module _ (s : List ℕ) (spot : Spot) (o : ℕ) (d hints : List ℕ) (part : Par
             let values : rebuiltValues d h v ≡ map (movedValue v) (valuesFrom (drop v d) (0 + h) ts) =
             rw (rw (add-zero v, place) at kinds-are, ← place) (values-moved rest (0 + h) ts (b .0 .columns) (0 + b .0 .consumed) (m .bodies)) in
             rw (← add-assoc (spot .start) o v, ← (b .2), values, map-again (spot .start + o) v (valuesFrom (drop v d) (0 + h) ts))
-            (part-reads (part-within rest part) (0 + h) ts (b .0 .columns) (0 + b .0 .consumed) (m .bodies))
+            (record {
+              counts = moved-length (spot .start + o + v) (b .0 .columns) ∙ (laid-reads (drop v d) (0 + h) ts (b .0 .columns) (0 + b .0 .consumed) (m .bodies) .counts ∙ m .counts);
+              as-values = part-reads (part-within rest part) (0 + h) ts (b .0 .columns) (0 + b .0 .consumed) (m .bodies);
+            })
 
-    starts-read : (S : List ℕ) (k v : ℕ) → v + k ≤ suc (length d) → AllRead s (rebuiltFrom k oneByte spot o S d hints v) (inSlice (spot .start + o) (rebuiltValuesFrom k oneByte S d hints v))
+    starts-read : (S : List ℕ) (k v : ℕ) → v + k ≤ suc (length d) → AllRead s (length hints) (rebuiltFrom k oneByte spot o S d hints v) (inSlice (spot .start + o) (rebuiltValuesFrom k oneByte S d hints v))
     unfolding rebuiltFrom rebuiltValuesFrom
     starts-read S zero v q = tt
     starts-read S (suc k) v q =
         rw (slice-append (spot .start + o) (startValues d h v (among v S) (oneByte d hints v)) (rebuiltValuesFrom k oneByte S d hints (suc v)))
-        (read-append s (startHits spot h o v (among v S) (oneByte d hints v)) (rebuiltFrom k oneByte spot o S d hints (suc v)) _ _ (one (among v S) (oneByte d hints v) refl) (starts-read S k (suc v) (omega arith)))
+        (read-append s (length hints) (startHits spot h o v (among v S) (oneByte d hints v)) (rebuiltFrom k oneByte spot o S d hints (suc v)) _ _ (one (among v S) (oneByte d hints v) refl) (starts-read S k (suc v) (omega arith)))
       where
-        one : (b : Bool) (t : Tried) → oneByte d hints v ≡ t → AllRead s (startHits spot h o v b t) (inSlice (spot .start + o) (startValues d h v b t))
+        one : (b : Bool) (t : Tried) → oneByte d hints v ≡ t → AllRead s (length hints) (startHits spot h o v b t) (inSlice (spot .start + o) (startValues d h v b t))
         one true t e = tt
         one false miss e = tt
         one false (hit x) e = (rebuilt-reads v x (omega arith) e, tt)
 
     -- THE LAW: all rows of the payload
-    pub payload-reads : AllRead s (payloadHits oneByte spot o d hints) (inSlice (spot .start + o) (payloadValues oneByte d hints))
+    pub payload-reads : AllRead s (length hints) (payloadHits oneByte spot o d hints) (inSlice (spot .start + o) (payloadValues oneByte d hints))
     unfolding payloadHits payloadValues cellsOf
     payload-reads =
         let cs = cellsFrom (length d) d hints 0 in
         rw (slice-append (spot .start + o) (cellsValues d cs) (rebuiltValuesFrom (rebuiltStarts (length d) h) oneByte (startsOf cs) d hints 0))
-        (read-append s (cellHits spot h o cs) (rebuiltFrom (rebuiltStarts (length d) h) oneByte spot o (startsOf cs) d hints 0) _ _ (cells-read (length d) 0)
+        (read-append s (length hints) (cellHits spot h o cs) (rebuiltFrom (rebuiltStarts (length d) h) oneByte spot o (startsOf cs) d hints 0) _ _ (cells-read (length d) 0)
         (starts-read (startsOf cs) (rebuiltStarts (length d) h) 0 (omega arith)))

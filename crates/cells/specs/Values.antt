@@ -37,3 +37,8 @@ rebuiltValuesFrom (suc k) rebuild cells d hints v =
 unfoldable pub payloadValues : Rebuilder → List ℕ → List ℕ → List (List Value)
 payloadValues rebuild d hints =
     cellsValues d (cellsOf d hints) ++ rebuiltValuesFrom (rebuiltStarts (length d) (length hints)) rebuild (startsOf (cellsOf d hints)) d hints 0
+
+-- such values said of a slice in which the payload begins at `by`
+abbrev pub inSlice : ℕ → List (List Value) → List (List Value)
+inSlice by [] = []
+inSlice by (vs ∷ vss) = map (movedValue by) vs ∷ inSlice by vss

@@ -2,4 +2,5 @@ mod Blocks
 pub mod Cases
 mod Chaining
 pub mod Fuel
+pub mod ReadBack
 mod Starting

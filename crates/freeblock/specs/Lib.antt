@@ -1,2 +1,3 @@
 pub mod Freeblock
 pub mod Inner
+pub mod Values

@@ -3,18 +3,18 @@
 use Prim.Native.Nat.{ℕ, zero, suc, _+_, _-_, _≤_, _<_}
 use mathlib.Core.Path.{_≡_, refl}
 use mathlib.Core.Bool.{Bool, true, false, cond, not, _&&_, _||_}
-use mathlib.Core.List.{List, [], _∷_}
+use mathlib.Core.List.{List, [], _∷_, _++_}
 use native.Mathlib.Omega.{arith}
 use borrow.Author.Tests.{leb-true, ltb-true, ltb-false}
 use lib.Dec.{ltb, leb}
 use lib.ListN.{length}
-use Rattle.attempt.proofs.ReadBack.{part-hit-reads}
 use Rattle.attempt.specs.Attempt.{Tried, miss, hit, attemptAt}
-use Rattle.cells.proofs.ReadBack.{AllRead, inSlice, payload-reads}
+use Rattle.cells.proofs.ReadBack.{payload-reads}
 use Rattle.cells.specs.Cells.{oneByte, payloadHits}
-use Rattle.cells.specs.Values.{payloadValues}
-use Rattle.gap.specs.Gap.{gapFrom, gapTo, hasGap, gapOf, allZero, runHits, regionHits, gapHits, chainEnds, blockThen, chainFrom, chain}
-use Rattle.gap.specs.Values.{rowsValues, regionValues, gapValues}
+use Rattle.cells.specs.Values.{payloadValues, inSlice}
+use Rattle.gap.specs.Gap.{gapFrom, gapTo, hasGap, gapOf, allZero, runHits, regionHits, gapHits, chainEnds, blockThen, chainFrom, chain, blocksHits, pageHits}
+use Rattle.gap.specs.Values.{rowsValues, regionValues, gapValues, blocksValues, pageValues}
+use Rattle.hit.proofs.ReadBack.{AllRead, read-append, found-reads}
 use Rattle.hit.specs.declared.inner.Spot.{Spot}
 use Rattle.page.specs.Page.{Block, payloadOf, blockNext, blockSize}
 use Rattle.record.proofs.Numbers.{by-order}
@@ -27,7 +27,7 @@ use Rattle.sheet.specs.Limits.{mostColumns}
 module _ (slice : List ℕ) (spot : Spot) (from : ℕ) (s hints : List ℕ) (part : PartOf (spot .start + from) s slice) where
   abbrev RunRead : ℕ → ℕ → ℕ → Type 0
   RunRead f o n =
-      AllRead slice (runHits spot (length hints) from (scanFrom f s hints (length s) o n)) (inSlice (spot .start + from) (rowsValues s (scanFrom f s hints (length s) o n)))
+      AllRead slice (length hints) (runHits spot (length hints) from (scanFrom f s hints (length s) o n)) (inSlice (spot .start + from) (rowsValues s (scanFrom f s hints (length s) o n)))
 
   run-reads : (f o n : ℕ) → RunRead f o n
   run-reads zero o n = rw (scan-none s hints (length s) o n) tt
@@ -38,11 +38,11 @@ module _ (slice : List ℕ) (spot : Spot) (from : ℕ) (s hints : List ℕ) (par
       go lt miss e rest = rw (scan-missed f s hints (length s) o n lt e) (rest (o + 1) n)
       go lt (hit x) e rest =
           by-order n (length s)
-          (λ in′. rw (scan-found f s hints (length s) o n lt x e in′) (part-hit-reads part hints o x e, rest (o + x .consumed) (n + 1)))
+          (λ in′. rw (scan-found f s hints (length s) o n lt x e in′) (found-reads part hints o x e _, rest (o + x .consumed) (n + 1)))
           (λ out. rw (scan-full f s hints (length s) o n lt x e out) tt)
 
   -- THE LAW: the rows of a region
-  pub region-reads : AllRead slice (regionHits spot from s hints) (inSlice (spot .start + from) (regionValues s hints))
+  pub region-reads : AllRead slice (length hints) (regionHits spot from s hints) (inSlice (spot .start + from) (regionValues s hints))
   unfolding regionHits regionValues
   region-reads = run-reads (length s) 0 0
 
@@ -52,17 +52,17 @@ module _ (slice : List ℕ) (spot : Spot) (from : ℕ) (s hints : List ℕ) (par
 abbrev pub BlocksRead : List ℕ → Spot → List ℕ → List ℕ → List Block → Type 0
 BlocksRead slice spot page hints [] = Unit
 BlocksRead slice spot page hints (b ∷ bs) =
-    AllRead slice (payloadHits oneByte spot (b .at + 4) (payloadOf page b) hints) (inSlice (spot .start + (b .at + 4)) (payloadValues oneByte (payloadOf page b) hints))
+    AllRead slice (length hints) (payloadHits oneByte spot (b .at + 4) (payloadOf page b) hints) (inSlice (spot .start + (b .at + 4)) (payloadValues oneByte (payloadOf page b) hints))
     × BlocksRead slice spot page hints bs
 
 module _ (slice : List ℕ) (spot : Spot) (page hints : List ℕ) (part : PartOf (spot .start) page slice) where
   -- THE LAW: the rows of its gap
-  pub gap-reads : (head : ℕ) → AllRead slice (gapHits page head hints spot) (inSlice (spot .start + gapFrom page head) (gapValues page head hints))
+  pub gap-reads : (head : ℕ) → AllRead slice (length hints) (gapHits page head hints spot) (inSlice (spot .start + gapFrom page head) (gapValues page head hints))
   unfolding gapHits gapValues hasGap
   gap-reads head = go (ltb (gapFrom page head) (gapTo page head)) (leb (gapTo page head) (length page)) (not (allZero (gapOf page head))) refl refl
     where
       go : (a b c : Bool) → ltb (gapFrom page head) (gapTo page head) ≡ a → leb (gapTo page head) (length page) ≡ b
-          → AllRead slice (cond ((a && b) && c) (regionHits spot (gapFrom page head) (gapOf page head) hints) [])
+          → AllRead slice (length hints) (cond ((a && b) && c) (regionHits spot (gapFrom page head) (gapOf page head) hints) [])
           (inSlice (spot .start + gapFrom page head) (cond ((a && b) && c) (regionValues (gapOf page head) hints) []))
       go true true true e f =
           let lt = ltb-true (gapFrom page head) (gapTo page head) e in
@@ -99,3 +99,23 @@ module _ (slice : List ℕ) (spot : Spot) (page hints : List ℕ) (part : PartOf
     pub blocks-read : (head : ℕ) → BlocksRead slice spot page hints (chain page head)
     unfolding chain
     blocks-read head = steps-read _ _
+
+    all-blocks : (bs : List Block) → BlocksRead slice spot page hints bs → AllRead slice (length hints) (blocksHits oneByte page hints spot bs) (blocksValues (spot .start) page hints bs)
+    all-blocks [] r = tt
+    all-blocks (b ∷ bs) r =
+        read-append slice (length hints) (payloadHits oneByte spot (b .at + 4) (payloadOf page b) hints) (blocksHits oneByte page hints spot bs)
+        (inSlice (spot .start + (b .at + 4)) (payloadValues oneByte (payloadOf page b) hints)) (blocksValues (spot .start) page hints bs) (r .0) (all-blocks bs (r .1))
+
+    -- THE LAW: so all rows of the page
+    pub page-reads : (head : ℕ) → AllRead slice (length hints) (pageHits gapHits oneByte page head hints spot) (pageValues (spot .start) page head hints)
+    unfolding pageHits pageValues
+    page-reads head = go (ltb (length page) (head + 8))
+      where
+        go : (b : Bool)
+            → AllRead slice (length hints) (cond b [] (gapHits page head hints spot ++ blocksHits oneByte page hints spot (chain page head)))
+            (cond b [] (inSlice (spot .start + gapFrom page head) (gapValues page head hints) ++ blocksValues (spot .start) page hints (chain page head)))
+        go true = tt
+        go false =
+            read-append slice (length hints) (gapHits page head hints spot) (blocksHits oneByte page hints spot (chain page head))
+            (inSlice (spot .start + gapFrom page head) (gapValues page head hints)) (blocksValues (spot .start) page hints (chain page head)) (gap-reads head)
+            (all-blocks (chain page head) (blocks-read head))

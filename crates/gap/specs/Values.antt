@@ -1,11 +1,15 @@
--- The values of the rows in a gap (rule 4.13): what their columns say, by the bodies' places.
+-- The values of the rows in a page's free space (rule 4.13): what their columns say, by the bodies' places.
 -- Assumes nothing.
-use Prim.Native.Nat.{ℕ}
+use Prim.Native.Nat.{ℕ, _+_}
 use mathlib.Core.Bool.{cond, not, _&&_}
-use mathlib.Core.List.{List, [], _∷_}
+use mathlib.Core.List.{List, [], _∷_, _++_}
+use lib.Dec.{ltb}
 use lib.ListN.{length}
 use Rattle.attempt.specs.Values.{rowValues}
-use Rattle.gap.specs.Gap.{hasGap, gapOf, allZero}
+use Rattle.cells.specs.Cells.{oneByte}
+use Rattle.cells.specs.Values.{payloadValues, inSlice}
+use Rattle.gap.specs.Gap.{gapFrom, hasGap, gapOf, allZero, chain}
+use Rattle.page.specs.Page.{Block, payloadOf}
 use Rattle.record.specs.declared.record.Value.{Value}
 use Rattle.scan.specs.Scan.{Run, through, noRoom, missed, found, scanFrom}
 
@@ -22,3 +26,15 @@ regionValues s hints = rowsValues s (scanFrom (length s) s hints (length s) 0 0)
 -- said of the gap
 unfoldable pub gapValues : List ℕ → ℕ → List ℕ → List (List Value)
 gapValues page head hints = cond (hasGap page head && not (allZero (gapOf page head))) (regionValues (gapOf page head) hints) []
+
+-- ---- said of a slice in which the page begins at `start`
+
+-- block by block, as `blocksHits` has them
+abbrev pub blocksValues : ℕ → List ℕ → List ℕ → List Block → List (List Value)
+blocksValues start page hints [] = []
+blocksValues start page hints (b ∷ bs) = inSlice (start + (b .at + 4)) (payloadValues oneByte (payloadOf page b) hints) ++ blocksValues start page hints bs
+
+-- Rule 11.8: row by row, as `pageHits` has them
+unfoldable pub pageValues : ℕ → List ℕ → ℕ → List ℕ → List (List Value)
+pageValues start page head hints =
+    cond (ltb (length page) (head + 8)) [] (inSlice (start + gapFrom page head) (gapValues page head hints) ++ blocksValues start page hints (chain page head))

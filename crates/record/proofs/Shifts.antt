@@ -45,11 +45,6 @@ part-within {a} {b} {q} {p} {s} x y =
     }
 
 -- ---- varints
--- THE LAW: a first byte below 128 is a varint by itself
-pub varint-low : (s : List ℕ) (at : ℕ) → at < length s → getD s at 0 < 128 → varintAt s at ≡ Value (getD s at 0) (record { at = at + 1 })
-unfolding varintAt
-varint-low s at h low = let e : 0 * 128 + getD s at 0 ≡ getD s at 0 = omega arith in at-last s at 0 7 h low ∙ rw e
-
 abbrev pub movedVarint : ℕ → Varint → Varint
 movedVarint by (Value v c) = Value v (record { at = by + c .at })
 movedVarint by Short = Short

@@ -10,19 +10,27 @@ use Rattle.replay.specs.declared.judge.Verdict.the-variants.{Agrees, Dif
 use Rattle.rowcases.specs.Calls.{rowsAgree}
 use Rattle.rowcases.specs.declared.rows.Attempts.{Attempts}
 use Rattle.rowcases.specs.declared.rows.Attempts.the-variants.{One, All, By}
-use Rattle.rowcases.specs.declared.rows.Carver.the-variants.{PageFreeblocks, SliceFreeblocks, Modes}
+use Rattle.rowcases.specs.declared.rows.Carver.the-variants.{PageFreeblocks, SliceFreeblocks, PageGap, SliceGap, Cells, Modes, Unallocated}
 use Rattle.valuecases.specs.Calls.{varintAgrees, lengthAgrees, decodedAgrees, entryAgrees, viewAgrees, suitsAgrees, pageAgrees, hintsAgree, placesAgree, typesAgree}
 
--- the calls that write rows; one that is not known agrees with nothing
+-- a call that writes rows
 abbrev pub rowsAgreeLent : Attempts → List ℕ → List ℕ → Bool
 rowsAgreeLent how h b = rowsAgree how h b (lent freshWord 64 h) (lent freshWord 72 h)
+
+-- the calls behind those on freeblocks; one that is not known agrees with nothing
+unfoldable pub laterAgrees : ℕ → List ℕ → List ℕ → Bool
+laterAgrees call h b =
+    cond (eqb call 17) (rowsAgreeLent (By PageGap) h b)
+    (cond (eqb call 18) (rowsAgreeLent (By SliceGap) h b)
+    (cond (eqb call 19) (rowsAgreeLent (By Cells) h b)
+    (cond (eqb call 20) (rowsAgreeLent (By Modes) h b) (cond (eqb call 22) (rowsAgreeLent (By Unallocated) h b) false))))
 
 unfoldable pub attemptsAgree : ℕ → List ℕ → List ℕ → Bool
 attemptsAgree call h b =
     cond (eqb call 7) (rowsAgreeLent One h b)
     (cond (eqb call 8) (rowsAgreeLent All h b)
     (cond (eqb call 14) (rowsAgreeLent (By PageFreeblocks) h b)
-    (cond (eqb call 15) (rowsAgreeLent (By SliceFreeblocks) h b) (cond (eqb call 20) (rowsAgreeLent (By Modes) h b) false))))
+    (cond (eqb call 15) (rowsAgreeLent (By SliceFreeblocks) h b) (laterAgrees call h b))))
 
 -- those that fill one list, and a page by its number
 unfoldable pub listAgrees : ℕ → List ℕ → List ℕ → Bool

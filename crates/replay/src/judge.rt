@@ -8,7 +8,7 @@ use rowcases::rows::rows_agree;
 use valuecases::lists;
 use valuecases::values;
 ghost use mathlib.Core.Path.{_≡_};
-ghost use Rattle.replay.specs.Verdict.{attemptsAgree, listAgrees, caseAgrees, verdict};
+ghost use Rattle.replay.specs.Verdict.{laterAgrees, attemptsAgree, listAgrees, caseAgrees, verdict};
 
 pub enum Verdict {
     // 1 if the Rust was asked and agreed with the recorded answer, 0 if the rules alone gave it.
@@ -16,7 +16,22 @@ pub enum Verdict {
     Differs { call: u64 },
 }
 
-// The calls that write rows.
+// The calls that write rows: on gaps, blocks by their columns, and regions by learned types,
+fn later_agrees(call: u64, head: &[u8], body: &[u8]) -> bool
+    ensures { λ r. ⌜ r ≡ laterAgrees call (now (head .entry)) (now (body .entry)) ⌝ }
+{
+    match call {
+        17 => rows_agree(Attempts::By(Carver::PageGap), head, body),
+        18 => rows_agree(Attempts::By(Carver::SliceGap), head, body),
+        19 => rows_agree(Attempts::By(Carver::Cells), head, body),
+        20 => rows_agree(Attempts::By(Carver::Modes), head, body),
+        22 => rows_agree(Attempts::By(Carver::Unallocated), head, body),
+        // A call that is not known agrees with nothing.
+        _ => false,
+    }
+}
+
+// and on regions by hints, and freeblocks.
 fn attempts_agree(call: u64, head: &[u8], body: &[u8]) -> bool
     ensures { λ r. ⌜ r ≡ attemptsAgree call (now (head .entry)) (now (body .entry)) ⌝ }
 {
@@ -25,9 +40,7 @@ fn attempts_agree(call: u64, head: &[u8], body: &[u8]) -> bool
         8 => rows_agree(Attempts::All, head, body),
         14 => rows_agree(Attempts::By(Carver::PageFreeblocks), head, body),
         15 => rows_agree(Attempts::By(Carver::SliceFreeblocks), head, body),
-        20 => rows_agree(Attempts::By(Carver::Modes), head, body),
-        // A call that is not known agrees with nothing.
-        _ => false,
+        _ => later_agrees(call, head, body),
     }
 }
 

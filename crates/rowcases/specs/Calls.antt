@@ -8,15 +8,16 @@ use mathlib.Core.List.{List, [], _∷_}
 use lib.ListN.{length}
 use Rattle.carve.specs.Modes.{carveRows, carveCols, carveNumber, carveWritten}
 use Rattle.carving.specs.Calls.{sliceRows, sliceCols, sliceNumber, sliceWritten, numberedRows, numberedCols, numberedNumber, numberedWritten}
-use Rattle.carving.specs.declared.inner.Carving.the-variants.{Freeblocks}
+use Rattle.carving.specs.declared.inner.Carving.the-variants.{Freeblocks, Gaps, Payload}
 use Rattle.phsarodil.specs.Door.{scanWords}
-use Rattle.recording.specs.Recording.{number, slice, secondSlice, freshWord, firstHolds, secondHolds, answered}
+use Rattle.recording.specs.Recording.{number, slice, secondSlice, freshWord, firstHolds, secondHolds, answered, wordsIn}
 use Rattle.rowcases.specs.declared.rows.Attempts.{Attempts}
 use Rattle.rowcases.specs.declared.rows.Attempts.the-variants.{One, All, By}
 use Rattle.rowcases.specs.declared.rows.Carver.{Carver}
-use Rattle.rowcases.specs.declared.rows.Carver.the-variants.{PageFreeblocks, SliceFreeblocks, Modes}
+use Rattle.rowcases.specs.declared.rows.Carver.the-variants.{PageFreeblocks, SliceFreeblocks, PageGap, SliceGap, Cells, Modes, Unallocated}
 use Rattle.scan.specs.Once.{onceRows, onceCols, onceNumber, onceWritten}
 use Rattle.scan.specs.Scan.{scanRows, scanCols, scanNumber}
+use Rattle.unalloc.specs.Learned.{learnedRows, learnedCols, learnedNumber, learnedWritten}
 
 -- what a call returns and leaves: its number, its words, and both lists
 pub record Left : Type 0 where
@@ -38,8 +39,8 @@ pub record Carved : Type 0 where
   pub rows : List ℕ
   pub cols : List ℕ
 
--- the freeblocks of a page by its number, where the numbers are the page size and it, or of a slice, where they are the header's place and the
--- base; and the three modes, where they are the base and how many columns there are
+-- by what the two numbers are: a page's size and number, the place of a slice's header and the base, the base alone, the base and how many columns
+-- there are; learned types are recorded as bytes
 abbrev pub carvedBy : Carver → List ℕ → List ℕ → ℕ → ℕ → List ℕ → List ℕ → Carved
 carvedBy PageFreeblocks s hints size page rows cols =
     record {
@@ -55,12 +56,40 @@ carvedBy SliceFreeblocks s hints head base rows cols =
       rows = sliceRows Freeblocks s head base hints rows cols;
       cols = sliceCols Freeblocks s head base hints rows cols;
     }
+carvedBy PageGap s hints size page rows cols =
+    record {
+      number = numberedNumber Gaps s size page hints (length rows) (length cols);
+      written = numberedWritten Gaps s size page hints (length rows) (length cols);
+      rows = numberedRows Gaps s size page hints rows cols;
+      cols = numberedCols Gaps s size page hints rows cols;
+    }
+carvedBy SliceGap s hints head base rows cols =
+    record {
+      number = sliceNumber Gaps s head base hints (length rows) (length cols);
+      written = sliceWritten Gaps s head base hints (length rows) (length cols);
+      rows = sliceRows Gaps s head base hints rows cols;
+      cols = sliceCols Gaps s head base hints rows cols;
+    }
+carvedBy Cells s hints base none rows cols =
+    record {
+      number = sliceNumber Payload s 0 base hints (length rows) (length cols);
+      written = sliceWritten Payload s 0 base hints (length rows) (length cols);
+      rows = sliceRows Payload s 0 base hints rows cols;
+      cols = sliceCols Payload s 0 base hints rows cols;
+    }
 carvedBy Modes s hints base columns rows cols =
     record {
       number = carveNumber s base columns (length rows) (length cols);
       written = carveWritten s base columns (length rows) (length cols);
       rows = carveRows s base columns rows cols;
       cols = carveCols s base columns rows cols;
+    }
+carvedBy Unallocated s types base none rows cols =
+    record {
+      number = learnedNumber s (wordsIn types) base (length rows) (length cols);
+      written = learnedWritten s (wordsIn types) base (length rows) (length cols);
+      rows = learnedRows s (wordsIn types) base rows cols;
+      cols = learnedCols s (wordsIn types) base rows cols;
     }
 
 -- what it leaves, in so many words

@@ -1,6 +1,10 @@
 // Calls that write rows and column entries, held to their recorded answers cell by cell.
 use phsarodil::freeblocks::phs_recover_page_freeblocks;
 use phsarodil::freeblocks::phs_recover_slice_freeblocks;
+use phsarodil::gaps::phs_parse_cells_from_freeblock;
+use phsarodil::gaps::phs_scan_page_gap;
+use phsarodil::gaps::phs_scan_single_page_gap;
+use phsarodil::learned::phs_carve_unallocated;
 use phsarodil::modes::phs_carve_freeblock;
 use phsarodil::rows::phs_scan_region;
 use phsarodil::rows::phs_try_parse_record;
@@ -14,18 +18,24 @@ use recording::inner::answered;
 use recording::inner::first_agrees;
 use recording::inner::fresh_words;
 use recording::inner::second_agrees;
+use recording::inner::words_in;
 ghost use mathlib.Core.Path.{_≡_};
 ghost use mathlib.Core.List.{[], _∷_};
 ghost use Prim.Native.Nat.{_≤_};
 ghost use lib.ListN.{length};
 ghost use Rattle.recording.specs.Recording.{mostSize, freshWord, lent};
+ghost use Rattle.rowcases.specs.declared.rows.Carver.the-variants.{Unallocated};
 ghost use Rattle.rowcases.specs.Calls.{Leaves, carvedBy, wordy, attempted, onCase, rowsAgree};
 
 // The calls whose one word says how many rows were written.
 pub enum Carver {
     PageFreeblocks,
     SliceFreeblocks,
+    PageGap,
+    SliceGap,
+    Cells,
     Modes,
+    Unallocated,
 }
 
 // The calls that write rows: one attempt, all of a region, and these.
@@ -35,7 +45,24 @@ pub enum Attempts {
     By(Carver),
 }
 
-// What the two numbers are, the call says: a page's size and number, a header's place and the base, or the base and the columns.
+// Learned types are recorded as bytes, eight a word.
+fn unallocated(
+    region: &[u8],
+    types: &[u8],
+    base: u64,
+    rows: &mut [u64],
+    cols: &mut [u64],
+    out: &mut [u64; 1],
+) -> u64
+    requires { ⌜ length (now types) ≤ mostSize ⌝ }
+    ensures { λ r. ⌜ Leaves (wordy (carvedBy Unallocated (now (region .entry)) (now (types .entry)) base 0 (now (rows .entry)) (now (cols .entry))) []) r (now (out .exit)) (now (rows .exit)) (now (cols .exit)) ⌝ }
+{
+    let words = words_in(types);
+    let n = types.len() / 8;
+    phs_carve_unallocated(region, &words[..n], base, rows, cols, out)
+}
+
+// What the two numbers are, each call says, and so whether it has hints.
 fn carve(
     how: Carver,
     bytes: &[u8],
@@ -46,6 +73,7 @@ fn carve(
     cols: &mut [u64],
     out: &mut [u64; 1],
 ) -> u64
+    requires { ⌜ length (now hints) ≤ mostSize ⌝ }
     ensures { λ r. ⌜ Leaves (wordy (carvedBy how (now (bytes .entry)) (now (hints .entry)) a b (now (rows .entry)) (now (cols .entry))) []) r (now (out .exit)) (now (rows .exit)) (now (cols .exit)) ⌝ }
 {
     match how {
@@ -53,7 +81,11 @@ fn carve(
         Carver::SliceFreeblocks => {
             phs_recover_slice_freeblocks(bytes, a as usize, b, hints, rows, cols, out)
         }
+        Carver::PageGap => phs_scan_page_gap(bytes, a, b, hints, rows, cols, out),
+        Carver::SliceGap => phs_scan_single_page_gap(bytes, a as usize, b, hints, rows, cols, out),
+        Carver::Cells => phs_parse_cells_from_freeblock(bytes, a, hints, rows, cols, out),
         Carver::Modes => phs_carve_freeblock(bytes, a, b as usize, rows, cols, out),
+        Carver::Unallocated => unallocated(bytes, hints, a, rows, cols, out),
     }
 }
 
@@ -68,6 +100,7 @@ fn carve_in_three(
     cols: &mut [u64],
     out: &mut [u64; 3],
 ) -> u64
+    requires { ⌜ length (now hints) ≤ mostSize ⌝ }
     ensures { λ r. ⌜ Leaves (wordy (carvedBy how (now (bytes .entry)) (now (hints .entry)) a b (now (rows .entry)) (now (cols .entry))) (0 ∷ 0 ∷ [])) r (now (out .exit)) (now (rows .exit)) (now (cols .exit)) ⌝ }
 {
     let mut written = [0; 1];
@@ -86,6 +119,7 @@ fn attempt(
     cols: &mut [u64],
     out: &mut [u64; 3],
 ) -> u64
+    requires { ⌜ length (now hints) ≤ mostSize ⌝ }
     ensures { λ r. ⌜ Leaves (attempted how (now (bytes .entry)) (now (hints .entry)) a b (now (rows .entry)) (now (cols .entry))) r (now (out .exit)) (now (rows .exit)) (now (cols .exit)) ⌝ }
 {
     match how {

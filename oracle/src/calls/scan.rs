@@ -1,14 +1,13 @@
 //! One attempt and the region scan.
 
-use super::value::{hint_of, same_value};
+use super::sheet::{header, same_columns};
+use super::value::hint_of;
 use super::{all, held, Given};
 use crate::case::{Answer, Case};
 use crate::rules::attempt::{self, Found};
 use crate::rules::limits::{room, Limits, WORDS_PER_ENTRY, WORDS_PER_ROW};
-use crate::rules::value::{body_length, decode};
-use given::record::{decode_serial_type, SqlValue};
+use crate::rules::value::body_length;
 use given::schema_sig::{CarvedCandidate, SchemaSignature};
-use given::varint::read_varint;
 
 const OUT: usize = 3;
 const LISTS: usize = 2;
@@ -148,36 +147,9 @@ fn same_row(p: &Parts, start: usize, rust: &CarvedCandidate, answer: &Answer, i:
     ];
     let width = WORDS_PER_ENTRY * p.hints.len();
     let group = &answer.lists[1][i * width..][..width];
-    all([held("row", &expected[..], row), same_columns(p.region, at, &rust.values, rust.bytes_consumed, group)])
-}
-
-/// The entries of a row that begins at `at`, against the Rust's values and the types that its reader sees there.
-pub fn same_columns(region: &[u8], at: usize, values: &[SqlValue], consumed: usize, group: &[u64]) -> Given {
-    let Some((header, kinds)) = header(&region[at..]) else {
+    let Some(header) = header(&p.region[at..], usize::MAX) else {
         return Given::Differs("the Rust's reader sees no header where the Rust has a row".into());
     };
-    let mut start = at + header;
-    for ((entry, value), kind) in group.chunks(WORDS_PER_ENTRY).zip(values).zip(kinds) {
-        let taken = decode_serial_type(kind, region, start).map_or(0, |v| v.1);
-        let read = decode(entry[1], region, entry[2]).unwrap_or_default();
-        let same =
-            all([held("entry", &[0, kind, start as u64, taken as u64][..], entry), same_value(value, &read, region)]);
-        if same != Given::Agrees {
-            return same;
-        }
-        start += taken;
-    }
-    all([held("columns", values.len(), group.len() / WORDS_PER_ENTRY), held("end of the bodies", consumed, start - at)])
-}
-
-/// A header's length and types, by the Rust's varints.
-fn header(part: &[u8]) -> Option<(usize, Vec<u64>)> {
-    let (header, mut at) = read_varint(part, 0)?;
-    let mut kinds = Vec::new();
-    while (at as u64) < header {
-        let (kind, width) = read_varint(part, at)?;
-        kinds.push(kind);
-        at += width;
-    }
-    Some((header as usize, kinds))
+    let columns = same_columns(p.region, at, &header, &rust.values, rust.bytes_consumed, group);
+    all([held("row", &expected[..], row), columns])
 }

@@ -7,7 +7,7 @@ use crate::rules::statement::{column_list, hints};
 use given::schema_sig::{boyer_moore_search, ColumnTypeHint, SchemaSignature};
 
 /// Writes those that fit; refusal 9 if there are more.
-fn list(found: Vec<u64>, room: usize) -> Answer {
+pub fn list(found: Vec<u64>, room: usize) -> Answer {
     let number = if found.len() > room { 9 } else { 0 };
     let written: Vec<u64> = found.into_iter().take(room).collect();
     Answer { number, out: vec![written.len() as u64], lists: vec![written] }

@@ -16,14 +16,26 @@ use crate::runner::Sink;
 pub const LAST_HEAD: u64 = u64::MAX - 4;
 
 pub fn all(sink: &mut dyn Sink, random: &mut Random, count: usize) {
+    short(sink);
+    long_chains(sink);
+    payloads::long_rows(sink);
+    sizes(sink);
+    refusals(sink, &sample_at(100, 512));
+    some(sink, random, count);
+}
+
+/// Those on short pages.
+pub fn short(sink: &mut dyn Sink) {
     one_block(sink);
     two_blocks(sink);
     loops(sink);
-    payloads::all(sink);
+    payloads::short_rows(sink);
     heads(sink);
     bases(sink);
     refusals(sink, &sample());
-    sizes(sink);
+}
+
+pub fn some(sink: &mut dyn Sink, random: &mut Random, count: usize) {
     for i in 0..count {
         match i % 64 {
             0 => rooms(sink, random),
@@ -40,7 +52,7 @@ pub fn slice(sink: &mut dyn Sink, page: &[u8], head: usize, hints: &[u8], rows: 
 }
 
 /// The page as page 1 if its header stands where page 1's does, as page 2 if it stands at 0.
-fn numbered(sink: &mut dyn Sink, page: &[u8], head: usize, hints: &[u8], rows: usize) {
+pub fn numbered(sink: &mut dyn Sink, page: &[u8], head: usize, hints: &[u8], rows: usize) {
     let lists = lists(rows, hints.len());
     let size = page.len() as u64;
     if head != 0 {
@@ -52,7 +64,7 @@ fn numbered(sink: &mut dyn Sink, page: &[u8], head: usize, hints: &[u8], rows: u
 }
 
 /// A page of so many bytes with rows of one column wherever one looks.
-fn full_of_rows(length: usize) -> Vec<u8> {
+pub fn full_of_rows(length: usize) -> Vec<u8> {
     [2, 8].into_iter().cycle().take(length).collect()
 }
 
@@ -109,6 +121,9 @@ fn loops(sink: &mut dyn Sink) {
             }
         }
     }
+}
+
+fn long_chains(sink: &mut dyn Sink) {
     for length in [4096, 65_536] {
         let chain = overlapping(length);
         slice(sink, &chain, 0, &[0], 3);
@@ -210,7 +225,6 @@ fn sizes(sink: &mut dyn Sink) {
             }
         }
     }
-    refusals(sink, &sample_at(100, 512));
 }
 
 fn some_payloads(random: &mut Random, hints: &[u8]) -> Vec<Vec<u8>> {

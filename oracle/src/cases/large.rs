@@ -1,9 +1,12 @@
 //! Slices of the largest size and one more.
 
+use super::bytes::varint;
 use super::databases::Database;
+use super::gaps::AsGaps;
 use super::limits::refusals;
 use super::regions::{attempt, lists, scan};
 use super::{chains, tables};
+use crate::calls::{BLOCK, GAPS, GAP_PAGE, GAP_SLICE, LEARN, MODES, UNALLOC};
 use crate::calls::{LEAVES, PAGE_DATA, RECOVER, RECOVER_PAGE, RECOVER_SLICE, SCAN, SEARCH, STATEMENT};
 use crate::case::Case;
 use crate::random::Random;
@@ -123,6 +126,66 @@ pub fn slices(sink: &mut dyn Sink, length: usize) {
     page[65_535..65_541].copy_from_slice(&[0, 8, 0, 6, 2, 8]);
     sink.put(Case::new(RECOVER_SLICE, &[0, 1 << 48], &[&page, &[0]], &lists(1, 1)));
     sink.put(Case::new(RECOVER_SLICE, &[length as u64 - 4, 0], &[&page, &[0]], &lists(1, 1)));
+}
+
+/// Pages and freed blocks of the largest size and one more; refusal 3 with each that comes before it and each behind.
+pub fn gaps(sink: &mut dyn Sink) {
+    for length in LARGEST - 1..=LARGEST + 1 {
+        database(&mut AsGaps(sink), 65_536, length);
+        slices(&mut AsGaps(sink), length);
+    }
+    freed(sink, LARGEST);
+    freed(sink, LARGEST + 1);
+    let bytes = vec![2; LARGEST + 1];
+    for hints in [&[][..], &[6], &[0]] {
+        for base in [0, 1 << 60] {
+            sink.put(Case::new(BLOCK, &[base], &[&bytes, hints], &[0, 0]));
+            sink.put(Case::new(GAP_SLICE, &[0, base], &[&bytes, hints], &[0, 0]));
+        }
+        sink.put(Case::new(GAP_PAGE, &[0, 0], &[&bytes, hints], &[0, 0]));
+        let lent = Case::new(GAPS, &[0], &[&bytes, hints], &[0, 0, 0, 0]);
+        sink.put(lent.with_words(&[&[1], &[hints.len() as u64]]));
+    }
+}
+
+/// A freed block with a cell at either end, and nothing between.
+pub fn freed(sink: &mut dyn Sink, length: usize) {
+    let mut payload = vec![0x80; length];
+    payload[..5].copy_from_slice(&[3, 7, 2, 1, 9]);
+    payload[length - 5..].copy_from_slice(&[3, 8, 2, 1, 9]);
+    sink.put(Case::new(BLOCK, &[1 << 48], &[&payload, &[0]], &lists(8, 1)));
+}
+
+/// Blocks in three modes, bytes to learn from and regions to carve, of the largest size and one more.
+pub fn carving(sink: &mut dyn Sink) {
+    let types = vec![13; 2];
+    for length in LARGEST - 1..=LARGEST + 1 {
+        let text = 13 + 2 * (length as u64 - 6);
+        let header = [vec![6, 8], varint(text, 4)].concat();
+        let mut bytes = vec![b'a'; length];
+        bytes[..6].copy_from_slice(&header);
+        // The row takes just all bytes; without its first one, or with a text longer by one, its body does not fit.
+        for block in [&bytes[..], &bytes[1..], &[&[6, 8][..], &varint(text + 2, 4), &bytes[6..]].concat()] {
+            sink.put(Case::new(MODES, &[1 << 48, 2], &[block], &lists(2, 2)));
+            sink.put(Case::new(UNALLOC, &[1 << 48], &[block], &lists(1, 2)).with_words(&[&types]));
+        }
+        let entries = [0, text, 6, length as u64 - 6];
+        sink.put(Case::new(LEARN, &[1], &[&bytes], &[1]).with_words(&[&entries]));
+        sink.put(Case::new(LEARN, &[1], &[&bytes[1..]], &[1]).with_words(&[&entries]));
+    }
+    let bytes = vec![2; LARGEST + 1];
+    for base in [0, 1 << 60] {
+        for columns in [0, 1, 127] {
+            sink.put(Case::new(MODES, &[base, columns], &[&bytes], &[0, 0]));
+            let types = vec![1; columns as usize];
+            sink.put(Case::new(UNALLOC, &[base], &[&bytes], &[0, 0]).with_words(&[&types]));
+        }
+    }
+    for width in [0, 1, 127] {
+        for state in [0, 4] {
+            sink.put(Case::new(LEARN, &[width], &[&bytes], &[0]).with_words(&[&[state, 1, 0, 1]]));
+        }
+    }
 }
 
 /// Long statements: with columns, with none, and without brackets.

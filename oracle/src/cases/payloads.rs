@@ -7,12 +7,11 @@ use super::limits::{exact, long_row};
 use super::regions::with_tail;
 use crate::runner::Sink;
 
-pub fn all(sink: &mut dyn Sink) {
+pub fn short_rows(sink: &mut dyn Sink) {
     short(sink);
     types(sink);
     starts(sink);
     header_lengths(sink);
-    long_rows(sink);
 }
 
 /// A page with one block, which holds just these bytes; the page ends with it, or others come behind.
@@ -99,7 +98,7 @@ fn header_lengths(sink: &mut dyn Sink) {
 }
 
 /// Rows that end where their block does, and one byte behind, up to the longest block.
-fn long_rows(sink: &mut dyn Sink) {
+pub fn long_rows(sink: &mut dyn Sink) {
     for payload in [20, 400, 4000, 65_530, 65_531] {
         for total in payload - 1..=payload + 1 {
             let mut bytes = long_row(total, 1, 1, true);

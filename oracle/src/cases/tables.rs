@@ -10,6 +10,13 @@ use crate::rules::limits::Limits;
 use crate::runner::Sink;
 
 pub fn all(sink: &mut dyn Sink, random: &mut Random, count: usize) {
+    short(sink);
+    sizes(sink);
+    some(sink, random, count);
+}
+
+/// Those on short pages.
+pub fn short(sink: &mut dyn Sink) {
     bench(sink);
     widths(sink);
     counts(sink);
@@ -17,8 +24,10 @@ pub fn all(sink: &mut dyn Sink, random: &mut Random, count: usize) {
     codes(sink);
     many(sink);
     refusals(sink, &sample());
-    sizes(sink);
     roots(sink);
+}
+
+pub fn some(sink: &mut dyn Sink, random: &mut Random, count: usize) {
     for i in 0..count {
         let tables = random_tables(random);
         let db = random_rows(random, &tables);
@@ -31,7 +40,7 @@ pub fn all(sink: &mut dyn Sink, random: &mut Random, count: usize) {
 }
 
 /// A table: its root and its hints.
-type Table = (u64, Vec<u8>);
+pub type Table = (u64, Vec<u8>);
 
 /// Lists for a walk over the database, and for so many rows of the widest table.
 fn lists(db: &Database, tables: &[Table], stack: usize, rows: usize) -> [usize; 4] {
@@ -46,7 +55,7 @@ fn case(db: &Database, tables: &[Table], lists: [usize; 4]) -> Case {
     Case::new(RECOVER, &[db.size as u64], &[&db.bytes, &hints], &lists).with_words(&[&roots, &counts])
 }
 
-fn put(sink: &mut dyn Sink, db: &Database, tables: &[Table], stack: usize, rows: usize) {
+pub fn put(sink: &mut dyn Sink, db: &Database, tables: &[Table], stack: usize, rows: usize) {
     sink.put(case(db, tables, lists(db, tables, stack, rows)));
 }
 
@@ -228,7 +237,7 @@ fn roots(sink: &mut dyn Sink) {
     }
 }
 
-fn random_tables(random: &mut Random) -> Vec<Table> {
+pub fn random_tables(random: &mut Random) -> Vec<Table> {
     let tables = random.mostly_below(4, 20, 8);
     let table = |random: &mut Random| {
         let columns = 1 + random.mostly_below(3, 60, 126);
@@ -260,7 +269,7 @@ fn random_rows(random: &mut Random, tables: &[Table]) -> Database {
     db
 }
 
-fn random_case(sink: &mut dyn Sink, random: &mut Random, db: &Database, tables: &[Table]) {
+pub fn random_case(sink: &mut dyn Sink, random: &mut Random, db: &Database, tables: &[Table]) {
     let enough = !random.once_in(4);
     let stack = if enough { 60 } else { random.below(12) };
     let rows = if enough { 12 } else { random.below(6) };

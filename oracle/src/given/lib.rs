@@ -13,6 +13,12 @@ pub enum EvidenceSource {
     CarvedUnalloc { confidence_pct: u8 },
 }
 
+/// Stands in for a type of the host program: a region and where it lies.
+pub struct UnallocatedRegion {
+    pub offset: u64,
+    pub data: Vec<u8>,
+}
+
 /// Stands in for a type that the recovery's context holds and no file in use looks into.
 pub mod header {
     pub struct DbHeader;

@@ -39,26 +39,35 @@ pub fn attempt(limits: &Limits, region: &[u8], hints: &[u8], o: usize) -> Attemp
     if !passed {
         return miss(width);
     }
+    match kinds(limits, part, width, header, usize::MAX) {
+        Ok((kinds, at)) => Attempt { read: at as u64, found: judge(part.len(), limits.consumed, hints, header, kinds) },
+        Err(read) => miss(read),
+    }
+}
+
+/// The types from a place on until one ends at `until` or behind it, or there are `most` of them, and where the last one
+/// ends; or how many bytes there are where one runs off.
+pub fn kinds(limits: &Limits, part: &[u8], from: usize, until: u64, most: usize) -> Result<(Vec<u64>, usize), usize> {
     let mut kinds = Vec::new();
-    let mut at = width;
-    while (at as u64) < header {
+    let mut at = from;
+    while (at as u64) < until && kinds.len() < most {
         match read(limits, part, at) {
             Varint::Whole { value, width } => {
                 kinds.push(value);
                 at += width;
             }
-            Varint::Cut(more) => return miss(at + more),
+            Varint::Cut(more) => return Err(at + more),
         }
     }
-    Attempt { read: at as u64, found: judge(limits, part.len(), hints, header, kinds) }
+    Ok((kinds, at))
 }
 
 fn miss(read: usize) -> Attempt {
     Attempt { read: read as u64, found: None }
 }
 
-/// Whether the types make a row.
-fn judge(limits: &Limits, length: usize, hints: &[u8], header: u64, kinds: Vec<u64>) -> Option<Found> {
+/// Whether the types make a row in so many bytes, of which it may take so many at most.
+pub fn judge(length: usize, most: u64, hints: &[u8], header: u64, kinds: Vec<u64>) -> Option<Found> {
     if kinds.len() != hints.len() {
         return None;
     }
@@ -67,7 +76,7 @@ fn judge(limits: &Limits, length: usize, hints: &[u8], header: u64, kinds: Vec<u
     for &kind in &kinds {
         end += u128::from(body_length(kind)?);
     }
-    let fits = suited > 0 && end <= length as u128 && end <= u128::from(limits.consumed);
+    let fits = suited > 0 && end <= length as u128 && end <= u128::from(most);
     fits.then_some(Found { header, kinds, suited, consumed: end as u64 })
 }
 

@@ -26,6 +26,32 @@ pub struct Limits {
     pub starts: usize,
     /// What confidence is multiplied with in a free block.
     pub freed: f32,
+    /// The content start that 0 stands for.
+    pub whole_page: usize,
+    /// How many blocks of a chain the gap's carver looks at.
+    pub chain_steps: usize,
+    /// What confidence is multiplied with where a header is rebuilt, and how many bytes such a row has at most.
+    pub rebuilt: f32,
+    pub rebuilt_consumed: u64,
+    /// The percent of a confidence.
+    pub percent: fn(f32) -> u64,
+    /// The confidence of each of the three modes.
+    pub modes: [f32; 3],
+    /// How many bytes must be left for a row in the first mode, and how many are lost in the third.
+    pub least_normal: usize,
+    pub lost: usize,
+    /// How many rows may be learned from.
+    pub learned_rows: usize,
+    /// The type that the integers 0 and 1 count as.
+    pub zero_and_one: u64,
+    /// What other integers count as: up to so many bits, that type.
+    pub integers: &'static [(u32, u64)],
+    /// Which of two types that are as common as each other is learned.
+    pub tie: fn(u64, u64) -> u64,
+    /// The percent of so many matched columns of so many.
+    pub matched: fn(usize, usize) -> u64,
+    /// How many bytes a learned attempt needs before those of its types.
+    pub before_types: usize,
 }
 
 pub const WORDS_PER_ROW: usize = 8;
@@ -54,13 +80,37 @@ impl Limits {
             least_block: 4,
             starts: 20,
             freed: 0.6,
+            whole_page: 65_536,
+            chain_steps: 1024,
+            rebuilt: 0.9,
+            rebuilt_consumed: 65_535,
+            percent: |confidence| (confidence * 100.0) as u64,
+            modes: [0.8, 0.5, 0.3],
+            least_normal: 3,
+            lost: 4,
+            learned_rows: 1024,
+            zero_and_one: 8,
+            integers: &[(8, 1), (16, 2), (24, 3), (32, 4), (64, 6)],
+            tie: u64::min,
+            matched: |matched, columns| (matched * 100 / columns) as u64,
+            before_types: 1,
         }
+    }
+
+    /// Whether a table may not have so many columns.
+    pub fn bad_count(&self, columns: u64) -> bool {
+        columns == 0 || columns > self.columns as u64
+    }
+
+    /// The first refusal of a call over one region that is lent no hints.
+    pub fn columns_refusal(&self, region: &[u8], columns: u64, base: u64) -> Option<u64> {
+        first(&[(1, self.bad_count(columns)), (3, region.len() > self.region), (4, base > self.base)])
     }
 
     /// The first refusal of a call over one region and one table.
     pub fn region_refusal(&self, region: &[u8], hints: &[u8], base: u64) -> Option<u64> {
         first(&[
-            (1, hints.is_empty() || hints.len() > self.columns),
+            (1, self.bad_count(hints.len() as u64)),
             (2, hints.iter().any(|&h| h > self.hint)),
             (3, region.len() > self.region),
             (4, base > self.base),

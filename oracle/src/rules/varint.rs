@@ -23,3 +23,11 @@ pub fn read(limits: &Limits, bytes: &[u8], at: usize) -> Varint {
     let bits = if asking == limits.more_bytes { 8 } else { 7 };
     Varint::Whole { value: high << bits | last, width: asking + 1 }
 }
+
+/// The value and the width of a varint that does not run off.
+pub fn whole(limits: &Limits, bytes: &[u8], at: usize) -> Option<(u64, usize)> {
+    match read(limits, bytes, at) {
+        Varint::Whole { value, width } => Some((value, width)),
+        Varint::Cut(_) => None,
+    }
+}

@@ -18,8 +18,8 @@ rows-agree-requires-3 c κs = search needs
 rows-agree-requires-4 : tie.Need-rows-agree-requires-4
 rows-agree-requires-4 c κs = search needs
 
-rows-agree-requires-5 : tie.Need-rows-agree-requires-5
-rows-agree-requires-5 c κs = search needs
+later-agrees-requires : tie.Need-later-agrees-requires
+later-agrees-requires c κs = search needs
 
 returns : tie.Need-returns
 unfolding attemptsAgree
@@ -39,11 +39,7 @@ returns-4 c = rw (c .before .match .keys4) (c .rows-agree4 .ensures)
 
 returns-5 : tie.Need-returns-5
 unfolding attemptsAgree
-returns-5 c = rw (c .before .match .keys5) (c .rows-agree5 .ensures)
-
-returns-6 : tie.Need-returns-6
-unfolding attemptsAgree
-returns-6 c = let r = c .match .rest in simp (ne-eqb _ _ (r .0 .0 .0 .0 .1), ne-eqb _ _ (r .0 .0 .0 .1), ne-eqb _ _ (r .0 .0 .1), ne-eqb _ _ (r .0 .1), ne-eqb _ _ (r .1))
+returns-5 c = let r = c .before .match .rest in simp (ne-eqb _ _ (r .0 .0 .0 .1), ne-eqb _ _ (r .0 .0 .1), ne-eqb _ _ (r .0 .1), ne-eqb _ _ (r .1)) (c .later-agrees .ensures)
 
 pub attempts-agree-spec : {M : Type 1} → statement M
 attempts-agree-spec =
@@ -53,10 +49,9 @@ attempts-agree-spec =
     rows-agree-requires-2
     rows-agree-requires-3
     rows-agree-requires-4
-    rows-agree-requires-5
+    later-agrees-requires
     returns
     returns-2
     returns-3
     returns-4
-    returns-5
-    returns-6)
+    returns-5)

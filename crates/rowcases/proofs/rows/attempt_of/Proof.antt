@@ -1,6 +1,8 @@
 -- `rowcases::rows::attempt_of` meets its contract: what the call is given is what the definition names.
 -- Assumes nothing.
+use native.Mathlib.Nat.{le-trans}
 use borrow.Author.Needs.{needs}
+use Rattle.recording.proofs.Laws.{part-short}
 use Rattle.rowcases.proofs.rows.attempt_of.Statement.{statement}
 use Rattle.rowcases.proofs.rows.attempt_of.Tie as tie
 
@@ -29,7 +31,7 @@ word-at-requires-2 : tie.Need-word-at-requires-2
 word-at-requires-2 c κs = search needs
 
 attempt-requires : tie.Need-attempt-requires
-attempt-requires c κs = search needs
+attempt-requires c κs = rw (c .before .before .before .before .before .part2 .ensures) (le-trans (part-short _ _ _) (c .before .before .before .before .before .before .size-at2 .ensures .1))
 
 same-length : tie.Need-same-length
 same-length c = search needs

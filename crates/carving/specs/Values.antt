@@ -1,0 +1,45 @@
+-- The values of the rows that the calls write (rule 4.13): what their column entries read as over the lent slice.
+-- Assumes nothing.
+use Prim.Native.Nat.{ℕ, _+_, _-_}
+use mathlib.Core.List.{List, [], _∷_, _++_}
+use lib.ListN.{length, take, replicate}
+use Rattle.carving.specs.Calls.{numberedChecks}
+use Rattle.carving.specs.declared.inner.Carving.{Carving}
+use Rattle.carving.specs.declared.inner.Carving.the-variants.{Freeblocks, Gaps, Payload}
+use Rattle.cells.specs.Cells.{oneByte}
+use Rattle.cells.specs.Values.{payloadValues, inSlice}
+use Rattle.freeblock.specs.Values.{freedValues}
+use Rattle.gap.specs.Values.{pageValues}
+use Rattle.page.specs.Page.{startOf, pageOf, headOf}
+use Rattle.record.specs.declared.record.Value.{Value}
+use Rattle.record.specs.declared.record.Value.the-variants.{Null}
+use Rattle.sheet.specs.Columns.{roomOf}
+use Rattle.sheet.specs.Refusal.{firstHeld, afterOrKept}
+use Rattle.sheet.specs.Slice.{sliceChecks}
+
+-- row by row, as `hitsBy` has them, said of a slice in which the page begins at `start`
+unfoldable pub valuesBy : Carving → ℕ → List ℕ → ℕ → List ℕ → List (List Value)
+valuesBy Freeblocks start page head hints = freedValues start page head hints
+valuesBy Gaps start page head hints = pageValues start page head hints
+valuesBy Payload start page head hints = inSlice (start + 0) (payloadValues oneByte page hints)
+
+-- a page of a database: said of the database
+unfoldable pub leafValues : Carving → List ℕ → ℕ → List ℕ → ℕ → List (List Value)
+leafValues how db size hints p = valuesBy how (startOf size p) (pageOf db size p) (headOf p) hints
+
+-- Rule 5.2: groups one behind the other; the entries behind a narrower row's columns are NULL
+abbrev pub groupsValues : ℕ → List (List Value) → List Value
+groupsValues width [] = []
+groupsValues width (vs ∷ vss) = (vs ++ replicate (width - length vs) Null) ++ groupsValues width vss
+
+-- those of the rows that a call writes into lists of so many words: on a slice,
+unfoldable pub sliceValues : Carving → List ℕ → ℕ → ℕ → List ℕ → ℕ → ℕ → List Value
+sliceValues how page head base hints rows cols =
+    afterOrKept (firstHeld (sliceChecks (length page) hints base)) (groupsValues (length hints) (take (roomOf rows cols (length hints)) (valuesBy how 0 page head hints))) []
+
+-- and on a page of a database
+unfoldable pub numberedValues : Carving → List ℕ → ℕ → ℕ → List ℕ → ℕ → ℕ → List Value
+numberedValues how db size p hints rows cols =
+    afterOrKept (firstHeld (numberedChecks (length db) size p hints))
+    (groupsValues (length hints) (take (roomOf rows cols (length hints)) (leafValues how db size hints p)))
+    []

@@ -295,8 +295,8 @@ uint64_t phs_recover_slice_freeblocks(const uint8_t *page, size_t len, size_t he
  * on at the record's end, elsewhere at the next byte. PHS_ROW_HAS_ID is 1 for these alone, and the offset is the record's.
  * Then records whose header length is lost are rebuilt: at every byte of the block, the types of all columns are taken to
  * stand there, one byte each, and the bodies behind them. A row at the offset of one of this block's cells is left out.
- * Rebuilding finds most deleted rows with short notes, and several rows that are none for each of them (docs/BENCH.md);
- * a type of two bytes, as of a note of 58 bytes or more, is beyond it.
+ * On the databases of docs/BENCH.md that found most rows with short notes that were deleted here and there, with one to five
+ * rows that are none for each of them; a type of two bytes, as of a note of 58 bytes or more, is beyond it.
  * The source is PHS_SOURCE_CARVED_INTRA_PAGE. The confidence is the share of columns that suit, of rebuilt rows times 0.9;
  * PHS_ROW_PERCENT is the same in whole hundredths, cut down.
  * Returns as phs_recover_freeblocks does, and so are rows, entries and `out`.

@@ -3,7 +3,7 @@
 
 mod carvers;
 
-use crate::calls::{self, ATTEMPT, SCAN, STATEMENT};
+use crate::calls::{self, ATTEMPT, GAPS, GAP_PAGE, GAP_SLICE, RECOVER, RECOVER_PAGE, RECOVER_SLICE, SCAN, STATEMENT};
 use crate::case::Case;
 use crate::cases::databases::FIRST_HEADER;
 use crate::cases::regions::lists;
@@ -62,11 +62,13 @@ pub fn run(runner: &mut Runner, folder: &str) -> io::Result<bool> {
     if !missing.is_empty() {
         println!("WITH THE RUST ALONE, since the archive does not have it: {}\n", missing.join(", "));
     }
-    println!("Rows found: deleted, kept, and none; by the scan, at every offset with confidence from {LEAST_CONFIDENCE}, by the gap's");
-    println!("carver over the table's leaves (in a log over each leaf), in three modes of each free block of a leaf, and by learned");
-    println!("types over each page.\n");
-    println!("| database | hints | deleted | the scan | every offset | gaps | three modes | learned |");
-    println!("|---|---|---|---|---|---|---|---|");
+    println!("Rows found: deleted, kept, and none; by the scan, at every offset with confidence from {LEAST_CONFIDENCE}, in freed");
+    println!("blocks and in free space of the table's leaves (in a log of each leaf), in three modes of each free block of a leaf, and by");
+    println!("learned types over each page.\n");
+    println!(
+        "| database | hints | deleted | the scan | every offset | freed blocks | free space | three modes | learned |"
+    );
+    println!("|---|---|---|---|---|---|---|---|---|");
     for name in &names {
         let statement = fs::read(Path::new(folder).join(format!("{name}.sql")))?;
         let hints = hints_of(runner, &statement);
@@ -112,13 +114,15 @@ fn scan_both(runner: &mut Runner, folder: &str, name: &str, hints: Vec<u8>, whic
     };
     let leaves = pages(&db, 0, 0, tablet.page);
     tablet.types = carvers::learn(runner, &tablet, &db, &leaves);
-    let gaps = carvers::table(runner, &tablet, &db);
-    report(runner, &tablet, which, &leaves, &gaps);
+    let freed = carvers::table(runner, &tablet, &db, (RECOVER, RECOVER_PAGE));
+    let gaps = carvers::table(runner, &tablet, &db, (GAPS, GAP_PAGE));
+    report(runner, &tablet, which, &leaves, [&freed, &gaps]);
     if let Ok(log) = fs::read(path(".db-wal")) {
         let which = format!("{which}, log");
         let leaves = pages(&log, 32, 24, tablet.page);
-        let gaps = carvers::leaves(runner, &tablet, &leaves);
-        report(runner, &tablet, &which, &leaves, &gaps);
+        let freed = carvers::leaves(runner, &tablet, &leaves, RECOVER_SLICE);
+        let gaps = carvers::leaves(runner, &tablet, &leaves, GAP_SLICE);
+        report(runner, &tablet, &which, &leaves, [&freed, &gaps]);
     }
     Ok(())
 }
@@ -141,7 +145,7 @@ fn pages(file: &[u8], head: usize, before: usize, size: usize) -> Vec<Leaf<'_>> 
     (head..file.len()).step_by(before + size).filter_map(page).collect()
 }
 
-fn report(runner: &mut Runner, tablet: &Tablet, which: &str, pages: &[Leaf], gaps: &Back) {
+fn report(runner: &mut Runner, tablet: &Tablet, which: &str, pages: &[Leaf], [freed, gaps]: [&Back; 2]) {
     let mut scanned = Back::default();
     let mut tried = Back::default();
     for page in pages {
@@ -152,9 +156,8 @@ fn report(runner: &mut Runner, tablet: &Tablet, which: &str, pages: &[Leaf], gap
     }
     let modes = carvers::modes(runner, tablet, pages);
     let learned = carvers::learned(runner, tablet, pages);
-    let [scanned, tried, gaps, modes, learned] = [&scanned, &tried, gaps, &modes, &learned].map(Back::shown);
-    let Tablet { name, deleted, .. } = tablet;
-    println!("| {name} | {which} | {} | {scanned} | {tried} | {gaps} | {modes} | {learned} |", deleted.len());
+    let found = [&scanned, &tried, freed, gaps, &modes, &learned].map(Back::shown).join(" | ");
+    println!("| {} | {which} | {} | {found} |", tablet.name, tablet.deleted.len());
 }
 
 /// Sorts in the rows of a case, and puts it and a damaged copy. Its last list has a group of so many entries for each row.

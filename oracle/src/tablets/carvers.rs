@@ -1,8 +1,8 @@
-//! The carvers of gaps, of freed blocks and by learned types, on real pages.
+//! The carvers of pages, of blocks and by learned types, on real pages.
 
 use super::{put_counted, put_damaged, Back, Leaf, Tablet};
 use crate::calls::scan::entries;
-use crate::calls::{self, BLOCK, GAPS, GAP_PAGE, GAP_SLICE, LEARN, MODES, UNALLOC};
+use crate::calls::{self, BLOCK, LEARN, MODES, UNALLOC};
 use crate::case::Case;
 use crate::cases::databases::LEAF;
 use crate::cases::regions::lists;
@@ -28,17 +28,17 @@ fn fitted(runner: &Runner, mut case: Case, width: usize) -> Case {
     case
 }
 
-/// What the gap's carver finds on all leaves of the table. Each page is given by its number, too, behind the first.
-pub fn table(runner: &mut Runner, tablet: &Tablet, db: &[u8]) -> Back {
+/// What a carver of pages finds on all leaves of the table. Each page is given by its number, too, behind the first.
+pub fn table(runner: &mut Runner, tablet: &Tablet, db: &[u8], (of_tables, of_page): (u8, u8)) -> Back {
     let mut back = Back::default();
     let (width, pages) = (tablet.hints.len(), db.len() / tablet.page);
-    let case = Case::new(GAPS, &[tablet.page as u64], &[db, &tablet.hints], &[pages, STACK, 0, 0]);
+    let case = Case::new(of_tables, &[tablet.page as u64], &[db, &tablet.hints], &[pages, STACK, 0, 0]);
     let case = fitted(runner, case.with_words(&[&[ROOT], &[width as u64]]), width);
     put_counted(runner, tablet, case, width, &mut back);
     let (first, others) = db.split_at(tablet.page);
     for page in others.chunks_exact(tablet.page) {
         let two = [first, page].concat();
-        let case = Case::new(GAP_PAGE, &[tablet.page as u64, 2], &[&two, &tablet.hints], &[0, 0]);
+        let case = Case::new(of_page, &[tablet.page as u64, 2], &[&two, &tablet.hints], &[0, 0]);
         let case = fitted(runner, case, width);
         runner.put(case);
     }
@@ -46,11 +46,11 @@ pub fn table(runner: &mut Runner, tablet: &Tablet, db: &[u8]) -> Back {
 }
 
 /// What it finds on each leaf by itself.
-pub fn leaves(runner: &mut Runner, tablet: &Tablet, pages: &[Leaf]) -> Back {
+pub fn leaves(runner: &mut Runner, tablet: &Tablet, pages: &[Leaf], of_slice: u8) -> Back {
     let mut back = Back::default();
     let width = tablet.hints.len();
     for page in pages.iter().filter(|page| page.bytes[page.header] == LEAF) {
-        let case = Case::new(GAP_SLICE, &[page.header as u64, page.at as u64], &[page.bytes, &tablet.hints], &[0, 0]);
+        let case = Case::new(of_slice, &[page.header as u64, page.at as u64], &[page.bytes, &tablet.hints], &[0, 0]);
         let case = fitted(runner, case, width);
         put_counted(runner, tablet, case, width, &mut back);
     }

@@ -2,10 +2,11 @@
 -- Assumes nothing.
 use Prim.Native.Nat.{ℕ, zero, suc, _+_, _-_, _*_, _≤_, min}
 use mathlib.Core.Path.{_≡_, refl, sym, ap, _∙_}
+use mathlib.Core.Bool.{Bool, true, false, cond}
 use mathlib.Core.List.{List, [], _∷_, _++_, map, append-assoc, map-append}
 use native.Mathlib.Nat.{zero-add, zero-mul, suc-add, suc-mul}
 use native.Mathlib.Omega.{arith}
-use lib.Dec.{lit≤}
+use lib.Dec.{ltb, lit≤}
 use lib.ListN.{length, take, drop, replicate, length-append, length-take}
 use Rattle.attempt.proofs.ReadBack.{Reads}
 use Rattle.carving.specs.Values.{groupsValues}
@@ -25,6 +26,7 @@ use Rattle.sheet.specs.declared.columns.Column.{Column}
 use Rattle.sheet.specs.declared.refusal.Checked.{Checked}
 use Rattle.sheet.specs.declared.refusal.Checked.the-variants.{Passed, Refused as Held}
 use Rattle.walk.specs.Carve.{Hit, groupsWords}
+use Rattle.walk.specs.Collect.{ifFlagged}
 
 -- ---- columns that read as values are as many
 map-length : {A B : Type 0} (f : A → B) (xs : List A) → length (map f xs) ≡ length xs
@@ -70,6 +72,12 @@ module _ (s : List ℕ) where
   all-fit n width le (h ∷ hs) [] r = absurd r
   all-fit n width le (h ∷ hs) (vs ∷ vss) r = (omega (arith, r .0 .counts), r .0 .as-values, all-fit n width le hs vss (r .1))
 
+  pub fit-append : (width : ℕ) (a b : List Hit) (x y : List (List Value)) → AllFit width a x → AllFit width b y → AllFit width (a ++ b) (x ++ y)
+  fit-append width [] b [] y p q = q
+  fit-append width [] b (v ∷ x) y p q = absurd p
+  fit-append width (h ∷ a) b [] y p q = absurd p
+  fit-append width (h ∷ a) b (v ∷ x) y p q = (p .0, p .1, fit-append width a b x y (p .2) q)
+
   fit-taken : (n width : ℕ) (hs : List Hit) (vss : List (List Value)) → AllFit width hs vss → AllFit width (take n hs) (take n vss)
   fit-taken zero width hs vss r = tt
   fit-taken (suc n) width [] [] r = tt
@@ -108,3 +116,17 @@ module _ (s : List ℕ) where
   written-read width room hs vss cols Passed f =
       rw (sym (length-take room hs)) (groups-read width (take room hs) (take room vss) (drop (length (groupsWords width (take room hs))) cols) (fit-taken room width hs vss (f refl)))
   written-read width room hs vss cols (Held k) f = rw (zero-mul width) (record { reads = refl; within = tt })
+
+  -- THE LAW: and where there must be flags for so many pages, or nothing is written
+  pub flagged-read : (width room pages flags : ℕ) (hs : List Hit) (vss : List (List Value)) (cols : List ℕ) (c : Checked) → (c ≡ Passed → AllFit width hs vss)
+      → ReadBack s (afterOr0 c (ifFlagged pages flags (min room (length hs)) 0) * width)
+      (afterOrKept c (overlay (groupsWords width (ifFlagged pages flags (take room hs) [])) cols) cols)
+      (afterOrKept c (groupsValues width (ifFlagged pages flags (take room vss) [])) [])
+  flagged-read width room pages flags hs vss cols c f = go (ltb flags pages)
+    where
+      go : (few : Bool)
+          → ReadBack s (afterOr0 c (cond few 0 (min room (length hs))) * width)
+          (afterOrKept c (overlay (groupsWords width (cond few [] (take room hs))) cols) cols)
+          (afterOrKept c (groupsValues width (cond few [] (take room vss))) [])
+      go true = written-read width 0 [] [] cols c (λ e. tt)
+      go false = written-read width room hs vss cols c f

@@ -2,4 +2,5 @@ mod Callers
 mod Cases
 mod Entries
 pub mod ReadBack
+pub mod TablesRead
 pub mod Unique

@@ -6,6 +6,7 @@ mod Clearing
 mod Collecting
 pub mod Fuel
 pub mod Laws
+pub mod Leaves
 mod Popping
 pub mod Promises
 mod Pushing

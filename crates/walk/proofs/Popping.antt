@@ -53,7 +53,7 @@ module _ (db : List ℕ) (size depth : ℕ) (marks : List ℕ) (p : ℕ) (st : L
   new-goes e = simp e
 
   -- a leaf is a page that is there
-  leaf-there : (t : List ℕ) → leafThen t ≡ popped db size depth marks p st → (1 ≤ p) × (p ≤ length db / size)
+  pub leaf-there : (t : List ℕ) → leafThen t ≡ popped db size depth marks p st → (1 ≤ p) × (p ≤ length db / size)
   unfolding popped
   leaf-there t e = go (fresh (length db) size marks p) refl e
     where

@@ -1,7 +1,6 @@
--- `walks::tablet::put` ends, and writes nowhere but in the tablet.
+-- `walks::tablet::put` is safe and ends: each turn passes a byte.
 -- Assumes nothing.
 use Prim.Native.Nat.{_-_}
-use native.Mathlib.Omega.{arith}
 use borrow.Author.Needs.{needs}
 use lib.ListN.{length}
 use Rattle.walks.proofs.tablet.put.Statement.{statement}
@@ -14,7 +13,7 @@ abbrev μ-loop : tie.MeasureT-loop
 μ-loop db₀ at bytes i₀ db i = length bytes - i
 
 loop-holds : tie.Need-loop-holds Inv-loop μ-loop
-loop-holds c = search needs
+loop-holds c = tt
 
 returns : tie.Need-returns Inv-loop μ-loop
 returns c = search needs

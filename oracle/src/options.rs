@@ -17,7 +17,7 @@ pub struct Options {
 }
 
 const CASES: usize = 1_000_000;
-const CASES_LONG: usize = 8_000_000;
+const CASES_LONG: usize = 5_500_000;
 const SEED: u64 = 20_261_115;
 
 pub const USAGE: &str = "usage: oracle [--seed N] [--cases N] [--long] [--partial] -- SERVER [WORD..]

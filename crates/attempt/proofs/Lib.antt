@@ -4,6 +4,7 @@ pub mod Judging
 pub mod Laws
 pub mod ReadBack
 pub mod Shifts
+pub mod Skipping
 pub mod Types
 pub mod Unique
 mod Writing

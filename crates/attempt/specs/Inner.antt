@@ -2,7 +2,7 @@
 -- Assumes nothing.
 use Prim.Native.Nat.{ℕ, _+_, _-_, _≤_, _<_, min}
 use mathlib.Core.Path.{_≡_}
-use mathlib.Core.Bool.{true, false}
+use mathlib.Core.Bool.{Bool, true, false}
 use mathlib.Core.List.{List, [], _∷_, _++_}
 use lib.ListN.{length, drop}
 use Rattle.attempt.specs.Attempt.{Types, ended, cut, kind, kinds, isWhole, typesFrom, mostHeader, Found, Tried, miss, hit, judgedWhole}
@@ -70,15 +70,23 @@ pub record Headed (s : List ℕ) (o h from : ℕ) : Type 0 where
   pub near : from ≤ o + 9
   pub within : from ≤ length s
 
-pub record WholeIs (s hints : List ℕ) (ts : Types) (count matched total end : ℕ) : Type 0 where
+-- reading the types of w ends where reading on from `at` does, with fuel for what is left
+unfoldable pub Ends : List ℕ → Types → ℕ → ℕ → Type 0
+Ends s w at stop = (f : ℕ) × (stop ≤ at + f) × (reach s w ≡ reach s (typesFrom f s at stop))
+
+-- whether types that are whole are other than n
+abbrev pub Miscounted : Types → ℕ → Bool → Type 0
+Miscounted ts n true = isWhole ts ≡ true → length (kinds ts) ≡ n → ⊥
+Miscounted ts n false = isWhole ts ≡ true → length (kinds ts) ≡ n
+
+pub record WholeIs (s hints : List ℕ) (ts : Types) (matched total end : ℕ) : Type 0 where
   pub is-whole : isWhole ts ≡ true
-  pub counts : length (kinds ts) ≡ count
   pub matches : suited hints (kinds ts) ≡ matched
   pub totals : totalFrom 0 (kinds ts) ≡ total
   pub ends : reach s ts ≡ end
 
 abbrev pub Walked : List ℕ → List ℕ → Types → Walk → Type 0
-Walked s hints ts (Whole count matched total end) = WholeIs s hints ts count matched total end
+Walked s hints ts (Whole matched total end) = WholeIs s hints ts matched total end
 Walked s hints ts Cut = isWhole ts ≡ false
 
 -- the types of a row that was found, and the row

@@ -1,4 +1,6 @@
 // One attempt at an offset, for our own crates: callers show by proof that the offset lies in the bytes, and that there is room.
+use crate::header::miscounted;
+use crate::header::types_end;
 use record::record::Length;
 use record::record::body_length;
 use record::varint::Cursor;
@@ -23,10 +25,9 @@ ghost use Rattle.attempt.specs.Places.{attemptPlaces};
 ghost use Rattle.sheet.specs.Limits.{wordsPerEntry, largestRegion};
 ghost use Rattle.sheet.specs.Sheet.{columnsWords};
 
-// What the types of a header come to: how many there are, how many suit, the length of all bodies, and where reading stopped.
+// What the types of a header come to: how many suit, the length of all bodies, and where reading stopped.
 enum Walk {
     Whole {
-        count: usize,
         matched: u16,
         total: usize,
         end: usize,
@@ -162,7 +163,6 @@ fn walk_types(bytes: &[u8], hints: &[u8], o: usize, head: usize, from: usize) ->
         at = next.at;
     }
     Walk::Whole {
-        count,
         matched,
         total,
         end: at,
@@ -174,8 +174,11 @@ pub fn given_header(bytes: &[u8], hints: &[u8], o: usize, head: usize, from: usi
     requires { ⌜ Headed (now bytes) o head from ⌝ }
     ensures { λ r. ⌜ Judged (now (bytes .entry)) (now (hints .entry)) o head from r ⌝ }
 {
+    // Most headers that fail have too few types or too many, which is seen before one is decoded.
+    if miscounted(hints.len(), bytes, o, head, from) {
+        return Verdict::Miss(types_end(bytes, o, head, from) - o);
+    }
     let Walk::Whole {
-        count,
         matched,
         total,
         end,
@@ -184,9 +187,6 @@ pub fn given_header(bytes: &[u8], hints: &[u8], o: usize, head: usize, from: usi
         return Verdict::Miss(bytes.len() - o);
     };
     let read = end - o;
-    if count != hints.len() {
-        return Verdict::Miss(read);
-    }
     if matched == 0 {
         return Verdict::Miss(read);
     }

@@ -1,4 +1,3 @@
 mod Headers
 pub mod Laws
 mod Runs
-mod Skipping

@@ -5,8 +5,8 @@ use mathlib.Core.Path.{_≡_}
 use mathlib.Core.Bool.{Bool, true, false}
 use mathlib.Core.List.{List}
 use lib.ListN.{length, getD}
-use Rattle.attempt.specs.Attempt.{Types, kinds, isWhole, typesFrom, attemptAt}
-use Rattle.attempt.specs.Inner.{reach, MissIs, HitIs}
+use Rattle.attempt.specs.Attempt.{Types, kinds, isWhole, attemptAt}
+use Rattle.attempt.specs.Inner.{reach, headerTypes, MissIs, HitIs}
 use Rattle.attempt.specs.Places.{mostPlaces, attemptPlaces}
 use Rattle.attempt.specs.declared.inner.Find.{Find}
 use Rattle.filter.specs.declared.high.High.{High}
@@ -43,6 +43,11 @@ pub record Holds (s : List ℕ) (p : ℕ) (run : High) : Type 0 where
   pub from-there : run .from ≤ p
   pub to-there : p < run .to
 
+-- true says that the bytes between are all below 128
+abbrev pub AllLow : List ℕ → ℕ → ℕ → Bool → Type 0
+AllLow s from to true = (q : ℕ) → from ≤ q → q < to → getD s q 0 < 128
+AllLow s from to false = Unit
+
 -- ---- types
 
 -- false says that n types of one to nine bytes are fewer bytes than the header has behind its first, or more
@@ -55,9 +60,9 @@ abbrev pub MayHave : Types → ℕ → Bool → Type 0
 MayHave ts n true = Unit
 MayHave ts n false = isWhole ts ≡ true → length (kinds ts) ≡ n → ⊥
 
--- reading the types of w ends where reading on from `at` does, with fuel for what is left
-unfoldable pub Ends : List ℕ → Types → ℕ → ℕ → Type 0
-Ends s w at stop = (f : ℕ) × (stop ≤ at + f) × (reach s w ≡ reach s (typesFrom f s at stop))
+-- a number says how far from o reading the types of the header of h bytes there goes; 0 says nothing
+abbrev pub SoonEnds : List ℕ → ℕ → ℕ → ℕ → Type 0
+SoonEnds s o h r = 0 < r → reach s (headerTypes s o h (o + 1)) ≡ o + r
 
 -- ---- offsets
 

@@ -5,13 +5,14 @@ use crate::high::run_around;
 use crate::high::varint_end;
 use crate::types::may_fit;
 use crate::types::may_have;
+use crate::types::soon_ends;
 use crate::types::types_end;
 use attempt::inner::Find;
 use attempt::inner::Verdict;
 use attempt::inner::attempt;
 use record::inner::wide;
 ghost use mathlib.Core.Path.{_≡_};
-ghost use Prim.Native.Nat.{_+_, _≤_, _<_};
+ghost use Prim.Native.Nat.{_+_, _-_, _≤_, _<_};
 ghost use lib.ListN.{length, getD};
 ghost use Rattle.filter.specs.Inner.{IsHigh, Holds, Dismissed, Went, Met, StepSays, NextSays};
 ghost use Rattle.sheet.specs.Limits.{mostColumns, largestRegion};
@@ -46,42 +47,62 @@ pub enum Next {
     Through(usize),
 }
 
-// The header bytes that an attempt at o reads, where bytes below 128 show soon that it fails; else 0. A first byte below 2 is too short a
-// header, and types end with a header whose last byte is below 128.
-fn look_low(bytes: &[u8], hints: &[u8], o: usize) -> usize
-    requires { ⌜ (o < length (now bytes)) × (length (now bytes) ≤ largestRegion) × (length (now hints) ≤ mostColumns) ⌝ }
+// The header bytes that an attempt at o reads, where its header of one byte's length shows soon that it fails; else 0.
+fn look_header(bytes: &[u8], hints: &[u8], o: usize, head: usize) -> usize
+    requires { ⌜ (o < length (now bytes)) × (head ≡ getD (now bytes) o 0) × (2 ≤ head) × (head < 128) ⌝ }
+    requires { ⌜ (length (now bytes) ≤ largestRegion) × (length (now hints) ≤ mostColumns) ⌝ }
     ensures { λ r. ⌜ Dismissed (now (bytes .entry)) (now (hints .entry)) o r ⌝ }
 {
-    let head = wide(bytes[o]) as usize;
-    if head < 2 {
+    let columns = hints.len();
+    if o + head > bytes.len() {
         return 1;
     }
-    if head > 127 {
+    // A way out of its own, since text takes it: too many bytes for so few types.
+    if head - 1 > 9 * columns {
+        return soon_ends(bytes, o, head);
+    }
+    if may_have(columns, bytes, o, head) {
         return 0;
     }
-    if head > bytes.len() - o {
-        return 1;
-    }
-    if bytes[o + head - 1] > 127 {
-        return 0;
-    }
-    if may_fit(hints.len(), head) {
-        if may_have(hints.len(), bytes, o, head) {
-            return 0;
-        }
-    }
-    head
+    soon_ends(bytes, o, head)
 }
 
-// A loop of its own, since these are most offsets.
-fn pass_low(bytes: &[u8], hints: &[u8], start: usize, last: usize) -> Gone
-    requires { ⌜ (last ≤ length (now bytes)) × (length (now bytes) ≤ largestRegion) × (length (now hints) ≤ mostColumns) ⌝ }
+// The same at any first byte from 2 up. From 133 up it begins a number above 512, of two or three bytes most often.
+fn look(bytes: &[u8], hints: &[u8], o: usize) -> usize
+    requires { ⌜ (o + 2 < length (now bytes)) × (2 ≤ getD (now bytes) o 0) ⌝ }
+    requires { ⌜ (length (now bytes) ≤ largestRegion) × (length (now hints) ≤ mostColumns) ⌝ }
+    ensures { λ r. ⌜ Dismissed (now (bytes .entry)) (now (hints .entry)) o r ⌝ }
+{
+    let first = wide(bytes[o]) as usize;
+    if first < 128 {
+        return look_header(bytes, hints, o, first);
+    }
+    if first < 133 {
+        return 0;
+    }
+    if bytes[o + 1] < 128 {
+        return 2;
+    }
+    if bytes[o + 2] < 128 {
+        return 3;
+    }
+    0
+}
+
+// Passes over offsets at which this is soon seen. A first byte below 2 is too short a header.
+fn pass_seen(bytes: &[u8], hints: &[u8], start: usize, last: usize) -> Gone
+    requires { ⌜ (last ≤ length (now bytes) - 2) × (length (now bytes) ≤ largestRegion) × (length (now hints) ≤ mostColumns) ⌝ }
     ensures { λ r. ⌜ Went (now (bytes .entry)) (now (hints .entry)) start last (r .to) (r .read) ⌝ }
 {
     let mut o = start;
     let mut read: usize = 0;
     while o < last {
-        let r = look_low(bytes, hints, o);
+        if bytes[o] < 2 {
+            read = read + 1;
+            o = o + 1;
+            continue;
+        }
+        let r = look(bytes, hints, o);
         if r == 0 {
             return Gone { to: o, read };
         }
@@ -202,18 +223,17 @@ fn one_step(bytes: &[u8], hints: &[u8], o: usize, last: usize, run: High) -> Ste
 
 // The first row from `start` on that starts before `last`. What is known of a run of high bytes is handed on from call to call.
 pub fn next_row(bytes: &[u8], hints: &[u8], start: usize, last: usize, run: High) -> Next
-    requires { ⌜ (last ≤ length (now bytes)) × (length (now bytes) ≤ largestRegion) × (length (now hints) ≤ mostColumns) ⌝ }
+    requires { ⌜ (last ≤ length (now bytes) - 2) × (length (now bytes) ≤ largestRegion) × (length (now hints) ≤ mostColumns) ⌝ }
     requires { ⌜ IsHigh (now bytes) run ⌝ }
     ensures { λ r. ⌜ NextSays (now (bytes .entry)) (now (hints .entry)) start last r ⌝ }
 {
-    let mut o = start;
+    let mut at = start;
     let mut read: usize = 0;
     let mut met = run;
-    while o < last {
-        let low = pass_low(bytes, hints, o, last);
-        let at = low.to;
-        read = read + low.read;
-        match one_step(bytes, hints, at, last, met) {
+    // Rows often stand one behind the other, so the first step is the slow one.
+    let mut step = one_step(bytes, hints, start, last, run);
+    loop {
+        match step {
             Step::Row(find) => {
                 return Next::Row {
                     at,
@@ -223,11 +243,15 @@ pub fn next_row(bytes: &[u8], hints: &[u8], start: usize, last: usize, run: High
                 };
             }
             Step::On(over) => {
-                o = over.to;
-                read = read + over.read;
                 met = over.run;
+                let seen = pass_seen(bytes, hints, over.to, last);
+                read = read + over.read + seen.read;
+                at = seen.to;
+                if at >= last {
+                    return Next::Through(read);
+                }
+                step = one_step(bytes, hints, at, last, met);
             }
         }
     }
-    Next::Through(read)
 }

@@ -6,7 +6,7 @@ ghost use mathlib.Core.Path.{_≡_};
 ghost use Prim.Native.Nat.{_+_, _-_, _≤_, _<_};
 ghost use lib.ListN.{length, getD};
 ghost use Rattle.attempt.specs.Inner.{headerTypes, reach};
-ghost use Rattle.filter.specs.Inner.{Fitting, MayHave, Holds};
+ghost use Rattle.filter.specs.Inner.{AllLow, SoonEnds, Fitting, MayHave, Holds};
 ghost use Rattle.sheet.specs.Limits.{mostColumns};
 
 // Each type has one to nine bytes, so a header of so many has room for neither too few nor too many.
@@ -23,29 +23,53 @@ pub fn may_fit(columns: usize, head: usize) -> bool
     true
 }
 
-// Whether just so many types stand in a header, if they are whole.
-pub fn may_have(columns: usize, bytes: &[u8], o: usize, head: usize) -> bool
-    requires { ⌜ (1 ≤ head) × (o + head ≤ length (now bytes)) ⌝ }
-    ensures { λ r. ⌜ MayHave (headerTypes (now (bytes .entry)) o head (o + 1)) columns r ⌝ }
+fn all_low(bytes: &[u8], from: usize, to: usize) -> bool
+    requires { ⌜ to ≤ length (now bytes) ⌝ }
+    ensures { λ r. ⌜ AllLow (now (bytes .entry)) from to r ⌝ }
 {
-    let stop = o + head;
-    let mut at = o + 1;
-    let mut k: usize = 0;
-    while k < columns {
-        if at >= stop {
+    let mut at = from;
+    while at < to {
+        if bytes[at] > 127 {
             return false;
         }
-        at = skip_varint(bytes, at);
-        k = k + 1;
-    }
-    if at < stop {
-        return false;
+        at = at + 1;
     }
     true
 }
 
-// Behind the header's last byte, if that is below 128; else the run that it is in decides: reading comes to the run's start, and there
-// a varint follows on another.
+// Whether a header may have just so many types: it has room for them, and where its first bytes are as many of one byte, none follows.
+pub fn may_have(columns: usize, bytes: &[u8], o: usize, head: usize) -> bool
+    requires { ⌜ (2 ≤ head) × (o + head ≤ length (now bytes)) ⌝ }
+    ensures { λ r. ⌜ MayHave (headerTypes (now (bytes .entry)) o head (o + 1)) columns r ⌝ }
+{
+    if head <= columns {
+        return false;
+    }
+    let all = o + 1 + columns;
+    if all_low(bytes, o + 1, all) {
+        if all < o + head {
+            return false;
+        }
+    }
+    true
+}
+
+// How far from o the types of a header there are read, if one of its last two bytes tells by being below 128; else 0.
+pub fn soon_ends(bytes: &[u8], o: usize, head: usize) -> usize
+    requires { ⌜ (2 ≤ head) × (o + head ≤ length (now bytes)) × (getD (now bytes) o 0 < 128) ⌝ }
+    ensures { λ r. ⌜ SoonEnds (now (bytes .entry)) o head r ⌝ }
+{
+    let stop = o + head;
+    if bytes[stop - 1] < 128 {
+        return head;
+    }
+    if bytes[stop - 2] < 128 {
+        return skip_varint(bytes, stop - 1) - o;
+    }
+    0
+}
+
+// Where reading the types ends if the header's last byte is in a run: it comes to the run's start, and there a varint follows on another.
 pub fn types_end(bytes: &[u8], o: usize, head: usize, run: High) -> usize
     requires { ⌜ (2 ≤ head) × (o + head ≤ length (now bytes)) × (getD (now bytes) o 0 < 128) ⌝ }
     requires { ⌜ Holds (now bytes) (o + head - 1) run ⌝ }

@@ -46,15 +46,8 @@ impl Cursor {
         Varint::Value(v * 256 + wide(bytes[at]), Cursor { at: at + 1 })
     }
 
-    // A record starts with its header's length,
-    pub fn header_length(self, bytes: &[u8]) -> Varint
-        ensures { λ r. ⌜ r ≡ varintAt (now (bytes .entry)) (self .at) ⌝ }
-    {
-        self.varint(bytes)
-    }
-
-    // and behind it stands a type for each column, most of one byte.
-    pub fn serial_type(self, bytes: &[u8]) -> Varint
+    // The same, at once where it is one byte.
+    fn often_short(self, bytes: &[u8]) -> Varint
         ensures { λ r. ⌜ r ≡ varintAt (now (bytes .entry)) (self .at) ⌝ }
     {
         let at = self.at;
@@ -65,6 +58,20 @@ impl Cursor {
             }
         }
         self.varint(bytes)
+    }
+
+    // A record starts with its header's length,
+    pub fn header_length(self, bytes: &[u8]) -> Varint
+        ensures { λ r. ⌜ r ≡ varintAt (now (bytes .entry)) (self .at) ⌝ }
+    {
+        self.often_short(bytes)
+    }
+
+    // and behind it stands a type for each column.
+    pub fn serial_type(self, bytes: &[u8]) -> Varint
+        ensures { λ r. ⌜ r ≡ varintAt (now (bytes .entry)) (self .at) ⌝ }
+    {
+        self.often_short(bytes)
     }
 }
 

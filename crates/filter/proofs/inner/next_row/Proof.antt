@@ -1,4 +1,4 @@
--- `filter::inner::next_row` meets its contract: the offsets before o are passed over (`Went`), soon or by an attempt.
+-- `filter::inner::next_row` meets its contract: the offsets before `at` are passed over (`Went`), and the step there is known.
 -- Assumes nothing.
 use Prim.Native.Nat.{_+_, _-_, _*_, _≤_, _<_}
 use mathlib.Core.Path.{_≡_}
@@ -7,75 +7,78 @@ use borrow.Author.Needs.{needs}
 use denote.Ref.{now}
 use lib.ListN.{length}
 use Rattle.record.proofs.Numbers.{by-order}
-use Rattle.filter.specs.Inner.{Went, IsHigh, OnIs}
+use Rattle.filter.specs.Inner.{Went, IsHigh, OnIs, StepSays}
 use Rattle.filter.proofs.Laws.{went-none, went-on, went-few}
 use Rattle.filter.proofs.inner.next_row.Statement.{statement}
 use Rattle.filter.proofs.inner.next_row.Tie as tie
 
 abbrev Inv-loop : tie.InvT-loop
-Inv-loop bytes hints start last o₀ read₀ met₀ o read met = Went bytes hints start last o read × IsHigh bytes met
+Inv-loop bytes hints start last at₀ read₀ met₀ step₀ at read met step = Went bytes hints start last at read × IsHigh bytes met × StepSays bytes hints at last step
 
 abbrev μ-loop : tie.MeasureT-loop
-μ-loop bytes hints start last o₀ read₀ met₀ o read met = last - o
+μ-loop bytes hints start last at₀ read₀ met₀ step₀ at read met step = last - at
 
--- what is passed over by now,
-gone : (c : tie.After-pass-low Inv-loop μ-loop) →
-    let a = c .before .before .before .before .before .args in
-    let low = c .pass-low .result in
-    Went (now (a .bytes)) (now (a .hints)) (a .start) (a .last) (low .to) (c .before .before .loop .read + low .read)
-gone c = went-on _ _ _ _ _ _ (c .before .before .loop .inv .0) _ _ (c .pass-low .ensures)
+-- a step on,
+stepped : (c : tie.After-pass-seen Inv-loop μ-loop) →
+    let a = c .before .before .before .before .before .before .before .before .before .args in
+    OnIs (now (a .bytes)) (now (a .hints)) (c .before .before .before .before .before .loop .at) (a .last) (c .before .before .before .step2 .given .0 .0)
+stepped c = rw (c .before .before .before .step2 .given .1) at (c .before .before .before .before .before .loop .inv .2)
 
--- and a step on
-stepped : (c : tie.After-known-told2 Inv-loop μ-loop) →
-    let a = c .before .before .before .before .before .before .before .before .before .before .args in
-    OnIs (now (a .bytes)) (now (a .hints)) (c .before .before .before .before .before .pass-low .result .to) (a .last) (c .before .over .given .0 .0)
-stepped c = rw (c .before .over .given .1) at (c .before .before .before .one-step .ensures)
+-- and what is passed over with it, and behind it
+further : (c : tie.After-pass-seen Inv-loop μ-loop) →
+    let a = c .before .before .before .before .before .before .before .before .before .args in
+    let over = c .before .before .before .step2 .given .0 .0 in
+    Went (now (a .bytes)) (now (a .hints)) (a .start) (a .last) (over .to) (c .before .before .before .before .before .loop .read + over .read)
+further c = went-on _ _ _ _ _ _ (c .before .before .before .before .before .loop .inv .0) _ _ (stepped c .met .went)
 
-further : (c : tie.After-known-told2 Inv-loop μ-loop) →
-    let a = c .before .before .before .before .before .before .before .before .before .before .args in
-    let over = c .before .over .given .0 .0 in
-    Went (now (a .bytes)) (now (a .hints)) (a .start) (a .last) (over .to) (c .before .before .before .before .before .before .before .loop .read + c .before .before .before .before .before .pass-low .result .read + over .read)
-further c = went-on _ _ _ _ _ _ (gone (c .before .before .before .before .before)) _ _ (stepped c .met .went)
-
-loop-holds : tie.Need-loop-holds Inv-loop μ-loop
-loop-holds c = (went-none _ _ _ _, c .before .before .pre .1)
-
-pass-low-requires : tie.Need-pass-low-requires Inv-loop μ-loop
-pass-low-requires c κs = c .before .before .before .before .pre .0
-
-add-read : tie.Need-add-read Inv-loop μ-loop
-add-read c = let p = c .before .before .before .before .before .before .pre .0 in omega (arith, went-few _ _ _ _ _ _ (gone (c .before)), p .0, p .1)
+gone : (c : tie.After-pass-seen Inv-loop μ-loop) →
+    let a = c .before .before .before .before .before .before .before .before .before .args in
+    let seen = c .pass-seen .result in
+    Went (now (a .bytes)) (now (a .hints)) (a .start) (a .last) (seen .to) (c .before .before .before .before .before .loop .read + c .before .before .before .step2 .given .0 .0 .read + seen .read)
+gone c = went-on _ _ _ _ _ _ (further c) _ _ (c .pass-seen .ensures)
 
 one-step-requires : tie.Need-one-step-requires Inv-loop μ-loop
-one-step-requires c κs = (c .before .before .before .before .before .before .pre .0, c .before .before .before .loop .inv .1)
+one-step-requires c κs = let p = c .before .before .pre in ((omega (arith, p .0 .0), p .0 .1, p .0 .2), p .1)
 
-enum-known-find : tie.Need-enum-known-find Inv-loop μ-loop
-enum-known-find c = search needs
+loop-holds : tie.Need-loop-holds Inv-loop μ-loop
+loop-holds c = (went-none _ _ _ _, c .before .before .before .pre .1, c .one-step .ensures)
+
+enum-known-step : tie.Need-enum-known-step Inv-loop μ-loop
+enum-known-step c = search needs
 
 returns : tie.Need-returns Inv-loop μ-loop
 returns c =
-    let r = rw (c .before .find .given .1) at (c .before .before .before .one-step .ensures) in
-    record { passed = gone (c .before .before .before .before .before) .passed; below = r .0; found = r .1; run-is = c .before .before .before .before .before .before .before .loop .inv .1 }
+    let i = c .before .before .before .loop .inv in
+    let r = rw (c .before .step .given .1) at (i .2) in
+    record { passed = i .0 .passed; below = r .0; found = r .1; run-is = i .1 }
 
-enum-known-over : tie.Need-enum-known-over Inv-loop μ-loop
-enum-known-over c = search needs
+enum-known-step-2 : tie.Need-enum-known-step-2 Inv-loop μ-loop
+enum-known-step-2 c = search needs
+
+pass-seen-requires : tie.Need-pass-seen-requires Inv-loop μ-loop
+pass-seen-requires c κs = c .before .before .before .before .before .before .before .before .pre .0
+
+add-read : tie.Need-add-read Inv-loop μ-loop
+add-read c = let p = c .before .before .before .before .before .before .before .before .before .before .pre .0 in omega (arith, went-few _ _ _ _ _ _ (further (c .before)), p .0, p .1)
 
 add-read-2 : tie.Need-add-read-2 Inv-loop μ-loop
-add-read-2 c = let p = c .before .before .before .before .before .before .before .before .before .before .before .pre .0 in omega (arith, went-few _ _ _ _ _ _ (further (c .before)), p .0, p .1)
+add-read-2 c = let p = c .before .before .before .before .before .before .before .before .before .before .before .pre .0 in omega (arith, went-few _ _ _ _ _ _ (gone (c .before .before)), p .0, p .1)
+
+returns-2 : tie.Need-returns-2 Inv-loop μ-loop
+returns-2 c = record { to = c .before .before .before .pass-seen .result .to; went = gone (c .before .before .before); there = c .if1 .taken }
+
+one-step-requires-2 : tie.Need-one-step-requires-2 Inv-loop μ-loop
+one-step-requires-2 c κs = let p = c .before .before .before .before .before .before .before .before .before .before .before .before .pre in ((omega (arith, p .0 .0), p .0 .1, p .0 .2), stepped (c .before .before .before) .met .run-is)
 
 loop-less : tie.Need-loop-less Inv-loop μ-loop
 loop-less c =
-    let k = c .before .before in
-    let low = k .before .before .before .before .before .pass-low in
-    by-order (low .result .to) (k .before .before .before .before .before .before .before .before .before .before .args .last)
-    (λ lt. omega (arith, stepped k .further lt, low .ensures .passed .to-is, k .before .before .before .before .before .before .loop-test .taken))
-    (λ ge. omega (arith, stepped k .met .went .passed .to-is, k .before .before .before .before .before .before .loop-test .taken))
+    let k = c .before .before .before .before in
+    let s = stepped k in
+    let lt = c .before .if1 .left in
+    omega (arith, lt, k .pass-seen .ensures .passed .to-is, s .met .went .passed .to-is, s .further (omega (arith, lt, k .pass-seen .ensures .passed .to-is, s .met .went .passed .to-is)))
 
 loop-again : tie.Need-loop-again Inv-loop μ-loop
-loop-again c = (further (c .before .before), stepped (c .before .before) .met .run-is)
-
-returns-2 : tie.Need-returns-2 Inv-loop μ-loop
-returns-2 c = let i = c .before .loop .inv in record { to = c .before .loop .o; went = i .0; there = c .loop-test .left }
+loop-again c = (gone (c .before .before .before .before), stepped (c .before .before .before .before) .met .run-is, c .one-step2 .ensures)
 
 pub next-row-spec : {M : Type 1} → statement M
 next-row-spec =
@@ -83,14 +86,15 @@ next-row-spec =
     (tie.spec
     Inv-loop
     μ-loop
-    loop-holds
-    pass-low-requires
-    add-read
     one-step-requires
-    enum-known-find
+    loop-holds
+    enum-known-step
     returns
-    enum-known-over
+    enum-known-step-2
+    pass-seen-requires
+    add-read
     add-read-2
+    returns-2
+    one-step-requires-2
     loop-less
-    loop-again
-    returns-2)
+    loop-again)

@@ -5,8 +5,8 @@ use borrow.Author.Needs.{needs}
 use denote.Ref.{now}
 use lib.ListN.{length, getD}
 use Rattle.filter.specs.Inner.{Went, MissAt}
-use Rattle.filter.proofs.Headers.{too-low, too-far, one-past, one-never, one-exact, unfit, large-not}
-use Rattle.filter.proofs.Laws.{passed-none, passed-one, went-none, went-one, went-on, went-few, went-late}
+use Rattle.filter.proofs.Headers.{large-not}
+use Rattle.filter.proofs.Laws.{went-none, went-one, went-few}
 use Rattle.filter.proofs.Runs.{run-varint}
 use Rattle.filter.proofs.inner.pass_high.Statement.{statement}
 use Rattle.filter.proofs.inner.pass_high.Tie as tie

@@ -5,11 +5,10 @@ use mathlib.Core.Path.{_≡_, sym, _∙_}
 use native.Mathlib.Omega.{arith}
 use borrow.Author.Needs.{needs}
 use denote.Ref.{now}
-use Rattle.attempt.specs.Inner.{headerTypes}
-use Rattle.filter.specs.Inner.{Ends}
+use Rattle.attempt.specs.Inner.{headerTypes, Ends}
 use Rattle.filter.proofs.Headers.{ends-at-run}
 use Rattle.filter.proofs.Runs.{run-varint}
-use Rattle.filter.proofs.Skipping.{skip-past, ends-step, ends-end}
+use Rattle.attempt.proofs.Skipping.{skip-past, ends-step, ends-end}
 use Rattle.filter.proofs.types.types_end.Statement.{statement}
 use Rattle.filter.proofs.types.types_end.Tie as tie
 use Rattle.record.specs.Places.{stopOf}
@@ -34,7 +33,7 @@ add-stop : tie.Need-add-stop Inv-loop μ-loop
 add-stop c = search needs
 
 loop-holds : tie.Need-loop-holds Inv-loop μ-loop
-loop-holds c = let p = c .before .pre in (search needs, ends-at-run _ _ _ _ (p .0 .0) (p .0 .1) (p .0 .2) (p .1))
+loop-holds c = let p = c .before .pre in (search needs, ends-at-run _ _ _ (p .0 .1) (p .0 .0) _ (p .0 .2) (p .1))
 
 varint-end-requires : tie.Need-varint-end-requires Inv-loop μ-loop
 varint-end-requires c κs =

@@ -6,10 +6,9 @@ use mathlib.Core.Bool.{true, false}
 use mathlib.Core.List.{List}
 use native.Mathlib.Omega.{arith}
 use lib.ListN.{length, getD}
 use Rattle.attempt.proofs.Types.{types-step, types-cut, types-none, types-end}
 use Rattle.attempt.specs.Attempt.{Types, ended, cut, kind, kinds, isWhole, typesFrom}
-use Rattle.attempt.specs.Inner.{reach}
-use Rattle.filter.specs.Inner.{Ends}
+use Rattle.attempt.specs.Inner.{reach, Ends}
 use Rattle.record.proofs.Laws.{varint-lies, varint-reach, varint-ends}
 use Rattle.record.proofs.Numbers.{by-order}
 use Rattle.record.specs.Places.{stopOf}
@@ -110,7 +109,11 @@ module _ (s : List ℕ) (stop : ℕ) (inside : stop ≤ length s) where
             (f, omega (arith, z .past), λ q. let r = rw (types-step f s at stop t c lt e) at (g q) in (r .0, omega (arith, r .1)))
         go Short e = (f, omega arith, λ q. let r = rw (types-cut f s at stop lt e) at (g q) in never (r .0))
 
-    -- too few, and too many
+    -- as many, too few, and too many
+    pub skipped-all : stop ≤ at → Skipped s stop w at k → isWhole w ≡ true → length (kinds w) ≡ k
+    unfolding Skipped
+    skipped-all ge (f, h, g) e = let r = rw (types-end f s at stop ge) at (g e) in omega (arith, r .1)
+
     pub skipped-few : (n : ℕ) → stop ≤ at → k < n → Skipped s stop w at k → isWhole w ≡ true → length (kinds w) ≡ n → ⊥
     unfolding Skipped
     skipped-few n ge lt (f, h, g) e c = let r = rw (types-end f s at stop ge) at (g e) in omega (arith, r .1)

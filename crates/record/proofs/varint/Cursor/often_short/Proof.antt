@@ -1,10 +1,10 @@
--- `Cursor::serial_type` meets its contract: a byte below 128 is a varint of its own.
+-- `Cursor::often_short` meets its contract: a byte below 128 is a varint of its own.
 -- Assumes nothing.
 use mathlib.Core.Path.{sym}
 use borrow.Author.Needs.{needs}
 use Rattle.record.proofs.Laws.{varint-low}
-use Rattle.record.proofs.varint.Cursor.serial_type.Statement.{statement}
-use Rattle.record.proofs.varint.Cursor.serial_type.Tie as tie
+use Rattle.record.proofs.varint.Cursor.often_short.Statement.{statement}
+use Rattle.record.proofs.varint.Cursor.often_short.Tie as tie
 
 shared-slice-read-wide : tie.Need-shared-slice-read-wide
 shared-slice-read-wide c = search needs
@@ -26,7 +26,7 @@ varint-requires c κs = search needs
 returns-2 : tie.Need-returns-2
 returns-2 c = search needs
 
-pub serial-type-spec : {M : Type 1} → statement M
-serial-type-spec =
+pub often-short-spec : {M : Type 1} → statement M
+often-short-spec =
     tie.close
     (tie.spec shared-slice-read-wide wide-requires add-t10 returns varint-requires returns-2)

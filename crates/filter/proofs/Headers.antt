@@ -1,6 +1,6 @@
 -- What the first byte at an offset tells of the attempt there.
 -- Assumes nothing.
-use Prim.Native.Nat.{ℕ, zero, suc, _+_, _-_, _≤_, _<_}
+use Prim.Native.Nat.{ℕ, zero, suc, _+_, _-_, _*_, _≤_, _<_}
 use mathlib.Core.Path.{_≡_, refl, sym, ap, _∙_}
 use mathlib.Core.Bool.{true, false}
 use mathlib.Core.List.{List}
@@ -9,7 +9,7 @@ use lib.ListN.{length, getD}
 use Rattle.attempt.proofs.Judging.{fits, fits-not, attempt-short, attempt-bad, attempt-is, places-is, headed, read-all, judge-never}
 use Rattle.attempt.specs.Attempt.{kinds, isWhole, typesFrom, headerFits, attemptAt}
 use Rattle.attempt.specs.Inner.{reach, headerTypes, Headed, Ends}
-use Rattle.filter.specs.Inner.{MissAt, IsHigh, Holds, AllLow, SoonEnds, Fitting, MayHave}
+use Rattle.filter.specs.Inner.{MissAt, IsHigh, Holds, AllLow, SoonEnds, MayHave}
 use Rattle.filter.specs.declared.high.High.{High}
 use Rattle.attempt.proofs.Skipping.{Skipped, skipped-start, skipped-step, skipped-more, skip-past, ends-start, ends-pass, ends-step, ends-end, unfitting}
 use Rattle.record.proofs.Laws.{varint-low, varint-large, varint-through}
@@ -105,7 +105,7 @@ module _ (s : List ℕ) (o h : ℕ) (in′ : o + h ≤ length s) where
 -- ---- how many types there may be
 
 -- a header of other than one to nine bytes a type has other than so many
-pub unfit : (s : List ℕ) (o h n : ℕ) → 2 ≤ h → o + h ≤ length s → Fitting n h false → MayHave (headerTypes s o h (o + 1)) n false
+pub unfit : (s : List ℕ) (o h n : ℕ) → 2 ≤ h → o + h ≤ length s → (n < h → h - 1 ≤ 9 * n → ⊥) → MayHave (headerTypes s o h (o + 1)) n false
 unfit s o h n two in′ none w e = unfitting s (o + h) in′ h (o + 1) n (omega arith) (omega arith) (λ a b. none (omega arith) (omega arith)) w e
 
 -- types of one byte each

@@ -50,10 +50,10 @@ AllLow s from to false = Unit
 
 -- ---- types
 
--- false says that n types of one to nine bytes are fewer bytes than the header has behind its first, or more
-abbrev pub Fitting : ℕ → ℕ → Bool → Type 0
-Fitting n head true = Unit
-Fitting n head false = (n < head → head - 1 ≤ 9 * n → ⊥)
+-- true says that n types are fewer bytes than a header has behind its first
+abbrev pub TooLong : ℕ → ℕ → Bool → Type 0
+TooLong n head true = 9 * n < head - 1
+TooLong n head false = Unit
 
 -- false says that the types are not n, or are cut
 abbrev pub MayHave : Types → ℕ → Bool → Type 0

@@ -3,9 +3,10 @@ pub use crate::high::High;
 use crate::high::lesser;
 use crate::high::run_around;
 use crate::high::varint_end;
-use crate::types::may_fit;
 use crate::types::may_have;
+use crate::types::may_stand;
 use crate::types::soon_ends;
+use crate::types::too_long;
 use crate::types::types_end;
 use attempt::inner::Find;
 use attempt::inner::Verdict;
@@ -57,8 +58,8 @@ fn look_header(bytes: &[u8], hints: &[u8], o: usize, head: usize) -> usize
     if o + head > bytes.len() {
         return 1;
     }
-    // A way out of its own, since text takes it: too many bytes for so few types.
-    if head - 1 > 9 * columns {
+    // A way out of its own, since text takes it.
+    if too_long(columns, head) {
         return soon_ends(bytes, o, head);
     }
     if may_have(columns, bytes, o, head) {
@@ -153,7 +154,7 @@ fn pass_header(bytes: &[u8], hints: &[u8], o: usize, head: usize, run: High) -> 
             run,
         };
     }
-    if may_fit(hints.len(), head) {
+    if may_stand(hints.len(), bytes, o, head) {
         return Over {
             to: o,
             read: 0,

@@ -6,21 +6,18 @@ ghost use mathlib.Core.Path.{_≡_};
 ghost use Prim.Native.Nat.{_+_, _-_, _≤_, _<_};
 ghost use lib.ListN.{length, getD};
 ghost use Rattle.attempt.specs.Inner.{headerTypes, reach};
-ghost use Rattle.filter.specs.Inner.{AllLow, SoonEnds, Fitting, MayHave, Holds};
+ghost use Rattle.filter.specs.Inner.{AllLow, SoonEnds, TooLong, MayHave, Holds};
 ghost use Rattle.sheet.specs.Limits.{mostColumns};
 
-// Each type has one to nine bytes, so a header of so many has room for neither too few nor too many.
-pub fn may_fit(columns: usize, head: usize) -> bool
-    requires { ⌜ columns ≤ mostColumns ⌝ }
-    ensures { λ r. ⌜ Fitting columns head r ⌝ }
+// A type has nine bytes at the most, so a longer header has more types.
+pub fn too_long(columns: usize, head: usize) -> bool
+    requires { ⌜ (columns ≤ mostColumns) × (1 ≤ head) ⌝ }
+    ensures { λ r. ⌜ TooLong columns head r ⌝ }
 {
-    if head <= columns {
-        return false;
-    }
     if head - 1 > 9 * columns {
-        return false;
+        return true;
     }
-    true
+    false
 }
 
 fn all_low(bytes: &[u8], from: usize, to: usize) -> bool
@@ -37,7 +34,8 @@ fn all_low(bytes: &[u8], from: usize, to: usize) -> bool
     true
 }
 
-// Whether a header may have just so many types: it has room for them, and where its first bytes are as many of one byte, none follows.
+// Whether a header that is not too long may have just so many types: it has room for them, and where its first bytes are as many of one
+// byte, none follows.
 pub fn may_have(columns: usize, bytes: &[u8], o: usize, head: usize) -> bool
     requires { ⌜ (2 ≤ head) × (o + head ≤ length (now bytes)) ⌝ }
     ensures { λ r. ⌜ MayHave (headerTypes (now (bytes .entry)) o head (o + 1)) columns r ⌝ }
@@ -52,6 +50,17 @@ pub fn may_have(columns: usize, bytes: &[u8], o: usize, head: usize) -> bool
         }
     }
     true
+}
+
+// The same of any header.
+pub fn may_stand(columns: usize, bytes: &[u8], o: usize, head: usize) -> bool
+    requires { ⌜ (columns ≤ mostColumns) × (2 ≤ head) × (o + head ≤ length (now bytes)) ⌝ }
+    ensures { λ r. ⌜ MayHave (headerTypes (now (bytes .entry)) o head (o + 1)) columns r ⌝ }
+{
+    if too_long(columns, head) {
+        return false;
+    }
+    may_have(columns, bytes, o, head)
 }
 
 // How far from o the types of a header there are read, if one of its last two bytes tells by being below 128; else 0.

@@ -12,20 +12,17 @@ add-if1 c = search needs
 returns : tie.Need-returns
 returns c = let p = c .before .before .before .pre .0 in λ _. too-far _ _ _ _ (p .0) (p .1) (p .3) (omega (arith, c .if1 .taken))
 
-sub-if2 : tie.Need-sub-if2
-sub-if2 c = search needs
-
-mul-if2 : tie.Need-mul-if2
-mul-if2 c = search needs
+too-long-requires : tie.Need-too-long-requires
+too-long-requires c κs = search needs
 
 soon-ends-requires : tie.Need-soon-ends-requires
 soon-ends-requires c κs = search needs
 
 returns-2 : tie.Need-returns-2
 returns-2 c =
-    let p = c .before .before .before .before .before .pre .0 in
-    let in′ = c .before .before .if1 .left in
-    one-soon _ _ _ _ (p .0) (p .1) (p .3) (p .2) (omega (arith, in′)) (unfit _ _ _ _ (p .2) in′ (λ lt le. omega (arith, c .before .if2 .taken))) _ (c .soon-ends .ensures)
+    let p = c .before .before .before .before .before .before .pre .0 in
+    let in′ = c .before .before .before .if1 .left in
+    one-soon _ _ _ _ (p .0) (p .1) (p .3) (p .2) (omega (arith, in′)) (unfit _ _ _ _ (p .2) in′ (λ lt le. let far = rw (c .before .if2 .taken) at (c .before .before .too-long .ensures) in omega arith)) _ (c .soon-ends .ensures)
 
 may-have-requires : tie.Need-may-have-requires
 may-have-requires c κs = search needs
@@ -38,8 +35,8 @@ soon-ends-requires-2 c κs = search needs
 
 returns-4 : tie.Need-returns-4
 returns-4 c =
-    let p = c .before .before .before .before .before .before .before .pre .0 in
-    one-soon _ _ _ _ (p .0) (p .1) (p .3) (p .2) (omega (arith, c .before .before .before .before .if1 .left)) (rw (c .before .if3 .left) at (c .before .before .may-have .ensures)) _ (c .soon-ends2 .ensures)
+    let p = c .before .before .before .before .before .before .before .before .pre .0 in
+    one-soon _ _ _ _ (p .0) (p .1) (p .3) (p .2) (omega (arith, c .before .before .before .before .before .if1 .left)) (rw (c .before .if3 .left) at (c .before .before .may-have .ensures)) _ (c .soon-ends2 .ensures)
 
 pub look-header-spec : {M : Type 1} → statement M
 look-header-spec =
@@ -47,8 +44,7 @@ look-header-spec =
     (tie.spec
     add-if1
     returns
-    sub-if2
-    mul-if2
+    too-long-requires
     soon-ends-requires
     returns-2
     may-have-requires

@@ -6,7 +6,7 @@ use native.Mathlib.Omega.{arith}
 use borrow.Author.Needs.{needs}
 use denote.Ref.{now}
 use lib.ListN.{length}
-use Rattle.filter.proofs.Headers.{one-past, one-never, unfit}
+use Rattle.filter.proofs.Headers.{one-past, one-never}
 use Rattle.filter.proofs.Laws.{went-none, went-first}
 use Rattle.filter.proofs.inner.pass_header.Statement.{statement}
 use Rattle.filter.proofs.inner.pass_header.Tie as tie
@@ -29,8 +29,8 @@ shared-slice-read-if2 c = search needs
 returns-2 : tie.Need-returns-2
 returns-2 c = record { went = went-none _ _ _ _; run-is = c .before .before .before .before .before .pre .1 .1 }
 
-may-fit-requires : tie.Need-may-fit-requires
-may-fit-requires c κs = search needs
+may-stand-requires : tie.Need-may-stand-requires
+may-stand-requires c κs = search needs
 
 returns-3 : tie.Need-returns-3
 returns-3 c = record { went = went-none _ _ _ _; run-is = c .before .before .before .before .before .before .before .pre .1 .1 }
@@ -51,7 +51,7 @@ returns-4 : tie.Need-returns-4
 returns-4 c =
     let p = c .before .before .before .before .before .before .before .before .before .pre .0 in
     let a = c .before .before .before .before .before .before .before .before .before .args in
-    let none = unfit (now (a .bytes)) (a .o) (a .head) _ (p .2) (omega (arith, p .0, c .before .before .before .before .before .before .if1 .left)) (rw (c .before .before .if3 .left) at (c .before .before .before .may-fit .ensures)) in
+    let none = rw (c .before .before .if3 .left) at (c .before .before .before .may-stand .ensures) in
     let m = one-never _ _ _ _ (p .0) (p .1) (p .3) (p .2) (c .before .before .before .before .before .before .if1 .left) none in
     record { went = went-first _ _ _ _ _ (omega arith) (rw (c .types-end .ensures) m); run-is = c .before .run-around .ensures .is }
 
@@ -65,7 +65,7 @@ pass-header-spec =
     sub-last
     shared-slice-read-if2
     returns-2
-    may-fit-requires
+    may-stand-requires
     returns-3
     run-around-requires
     add-t9

@@ -10,12 +10,14 @@ use borrow.Author.Tests.{lt-ltb, le-ltb, le-leb, lt-leb, leb-true, ltb-true}
 use lib.Dec.{ltb, leb}
 use lib.ListN.{length, take, drop, length-take, length-drop}
 use Rattle.attempt.specs.Attempt.{Tried, miss, hit, attemptAt}
-use Rattle.attempt.specs.Inner.{foundAt, HitIs}
+use Rattle.attempt.specs.Inner.{foundAt, MissIs, HitIs}
 use Rattle.attempt.specs.Places.{attemptPlaces}
 use Rattle.attempt.specs.declared.inner.Find.{Find}
 use Rattle.cells.specs.Cells.{CellRow, Looked, noCell, cell, recordIs, idThen, lengthThen, cellAt, cellThen, cellsFrom, cellsOf, cellHit, cellHits}
 use Rattle.cells.specs.Inner.{recordOf, CellFound, cellsThere, nextPlace}
 use Rattle.cells.proofs.Along.{Along, along-start, along-end, along-on, along-full}
+use Rattle.filter.specs.Inner.{MissFrom, RowIs, ThroughIs}
+use Rattle.filter.specs.declared.high.High.{High}
 use Rattle.hit.proofs.Laws.{headAt, find-laid, there-is, ready-part}
 use Rattle.hit.specs.Hit.{rowAt}
 use Rattle.hit.specs.Inner.{hitThere, Laid, Ready}
@@ -33,6 +35,21 @@ use Rattle.sheet.specs.declared.row.Source.the-variants.{CarvedIntraPage}
 use Rattle.walk.proofs.Carving.{carves-none}
 use Rattle.walk.specs.Carve.{Hit}
 use Rattle.walk.specs.Inner.{Told, on, over, Carves}
+
+-- ---- the first offset of a record
+module _ (s hints : List ℕ) where
+  pub first-row : (at : ℕ) (x : Find) (read : ℕ) (run : High) → RowIs s hints 0 1 at x read run → HitIs s hints 0 (attemptAt s hints 0) (attemptPlaces s 0) x
+  first-row at x read run r = let z : at ≡ 0 = omega (arith, r .below) in rw z at (r .found)
+
+  pub first-through : (read : ℕ) → ThroughIs s hints 0 1 read → MissIs (attemptAt s hints 0) (attemptPlaces s 0) read
+  first-through read t =
+      let p = t .went .passed in
+      go (p .count) (omega (arith, p .to-is, t .there, t .went .near (omega arith))) (p .over)
+    where
+      go : (k : ℕ) → k ≡ 1 → MissFrom s hints 0 k read → MissIs (attemptAt s hints 0) (attemptPlaces s 0) read
+      go zero e m = absurd (omega arith)
+      go (suc zero) e (sum, r, none, m, is) = let z : read ≡ r = omega arith in rw z m
+      go (suc (suc k)) e m = absurd (omega arith)
 
 -- ---- one place
 module _ (d hints : List ℕ) (pos : ℕ) where
@@ -74,6 +91,14 @@ module _ (d hints : List ℕ) (pos : ℕ) where
               let a = varint-lies d pos len c e in
               let b = varint-lies d (c .at) id c′ e′ in
               record { is = cell-is ∙ rw (same, h .hits); past = omega (arith, a .past, b .past); on = omega arith; inside = omega (arith, b .inside); found = h }
+
+      -- what is too long with no row id is too long with one
+      pub cell-far : length d - c .at < len → cellAt d hints pos ≡ noCell
+      cell-far h = go (varintAt d (c .at)) refl
+        where
+          go : (v : Varint) → varintAt d (c .at) ≡ v → cellAt d hints pos ≡ noCell
+          go (Value id c′) e′ = cell-long id c′ e′ (omega (arith, varint-lies d (c .at) id c′ e′ .past))
+          go Short e′ = cell-no-id e′
 
 never : {C : Type 0} {c : CellRow} → noCell ≡ cell c → C
 never e = let z : _≡_ {A = ℕ} 0 1 = cc in absurd (omega arith)

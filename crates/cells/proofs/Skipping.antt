@@ -103,6 +103,12 @@ pub cell-below : (rows : List ℕ) (k cells offset : ℕ) → isCell rows k cell
 unfolding isCell
 cell-below rows k cells offset e = ltb-true k cells (and-eq-true-iff (ltb k cells) (eqb (getD rows (k * wordsPerRow) 0) offset) .0 e .0)
 
+-- no cell is at an offset that is not that of the next
+pub cell-not : (rows : List ℕ) (k cells offset : ℕ) → (k < cells → getD rows (k * wordsPerRow) 0 ≡ offset → ⊥) → isCell rows k cells offset ≡ false
+unfolding isCell
+cell-not rows k cells offset none =
+    by-order k cells (λ lt. simp (lt-ltb k cells lt, ne-eqb (getD rows (k * wordsPerRow) 0) offset (none lt))) (λ ge. simp (le-ltb k cells ge))
+
 -- ---- words that are written elsewhere
 getD-sets-before : (l : List ℕ) (i : ℕ) (vs : List ℕ) (j : ℕ) → j < i → getD (sets l i vs) j 0 ≡ getD l j 0
 getD-sets-before l i [] j h = refl

@@ -1,20 +1,22 @@
 -- Starts one after the other: what was carved at those before v, with what the others give, is the whole.
 -- Assumes nothing.
-use Prim.Native.Nat.{ℕ, zero, suc, _+_, _≤_, _<_}
+use Prim.Native.Nat.{ℕ, zero, suc, _+_, _-_, _≤_, _<_}
 use mathlib.Core.Path.{_≡_, refl}
 use mathlib.Core.Bool.{false}
 use mathlib.Core.List.{List, _++_}
+use native.Mathlib.Nat.{add-zero, add-assoc}
 use native.Mathlib.Numerals.{add-one}
 use native.Mathlib.Omega.{arith}
 use lib.ListN.{length}
+use Rattle.attempt.specs.Attempt.{miss}
 use Rattle.cells.specs.Cells.{Rebuilder, oneByte, cellsOf, cellHits, startsOf, rebuiltStarts, startHits, rebuiltFrom, payloadHits}
-use Rattle.cells.specs.Inner.{isCell, nextRow, Standing}
+use Rattle.cells.specs.Inner.{isCell, nextRow, Standing, NoneFrom, StartIs}
 use Rattle.cells.proofs.Along.{Along, along-start, along-end, along-on, along-full}
 use Rattle.cells.proofs.Skipping.{Passing, passing-start, passing-is, passing-on, passing-kept}
 use Rattle.hit.specs.declared.inner.Lent.{Lent}
 use Rattle.hit.specs.declared.inner.Spot.{Spot}
 use Rattle.page.specs.Page.{among}
-use Rattle.walk.proofs.Carving.{told-on, carves-more, carves-stop}
+use Rattle.walk.proofs.Carving.{told-on, carves-none, carves-more, carves-stop}
 use Rattle.walk.specs.Carve.{Hit}
 use Rattle.walk.specs.Inner.{Told, on, over, Carves}
 
@@ -81,6 +83,27 @@ module _ (d hints : List ℕ) (spot : Spot) (o : ℕ) (lent : Lent) (cells start
 
         pub starting-full : Carves (lent .width) (lent .room) n there false rows cols over rows′ cols′ → Carves (lent .width) (lent .room) cells whole false rows₀ cols₀ over rows′ cols′
         starting-full x = along-full lent cells whole rows₀ cols₀ rows cols n there _ (later .2) rows′ cols′ x
+
+  -- starts that are passed over give nothing
+  module _ (rows cols : List ℕ) (k n : ℕ) (fits : n ≤ lent .room) where
+    one-passed : (v : ℕ) → v < starts → isCell rows k cells (spot .base + (o + v)) ≡ false → oneByte d hints v ≡ miss
+        → Starting d hints spot o lent cells starts rows₀ cols₀ rows cols v k n → Starting d hints spot o lent cells starts rows₀ cols₀ rows cols (v + 1) k n
+    one-passed v lt apart none w = starting-on rows cols v k n w lt rows cols k n (rw apart) (rw (apart, none) (carves-none (lent .width) (lent .room) n rows cols fits))
+
+    all-passed : (j v : ℕ) → v + j ≤ starts → ((u : ℕ) → v ≤ u → u < v + j → isCell rows k cells (spot .base + o + u) ≡ false) → NoneFrom d hints v (v + j)
+        → Starting d hints spot o lent cells starts rows₀ cols₀ rows cols v k n → Starting d hints spot o lent cells starts rows₀ cols₀ rows cols (v + j) k n
+    all-passed zero v le apart none w = rw (add-zero v) w
+    all-passed (suc j) v le apart none w =
+        let e : v + suc j ≡ v + 1 + j = omega arith in
+        rw e
+        (all-passed j (v + 1) (omega arith) (λ u a b. apart u (omega arith) (omega arith)) (λ u a b. none u (omega arith) (omega arith))
+        (one-passed v (omega arith) (rw (add-assoc (spot .base) o v) at (apart v (omega arith) (omega arith))) (none v (omega arith) (omega arith)) w))
+
+    pub starting-passed : (v r : ℕ) → StartIs d hints rows k cells (spot .base + o) v starts r
+        → Starting d hints spot o lent cells starts rows₀ cols₀ rows cols v k n → Starting d hints spot o lent cells starts rows₀ cols₀ rows cols r k n
+    starting-passed v r s w =
+        let e : v + (r - v) ≡ r = omega (arith, s .on) in
+        rw e at (all-passed (r - v) v (omega (arith, s .near)) (λ u a b. s .apart u a (omega arith)) (λ u a b. s .none u a (omega arith)) w)
 
 -- ---- cells first, then what is rebuilt
 module _ (d hints : List ℕ) (spot : Spot) (o : ℕ) (lent : Lent) (n : ℕ) (rows cols rows′ cols′ : List ℕ) where

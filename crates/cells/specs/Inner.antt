@@ -2,7 +2,7 @@
 -- Assumes nothing.
 use Prim.Native.Nat.{ℕ, suc, _+_, _-_, _*_, _≤_, _<_}
 use mathlib.Core.Path.{_≡_}
-use mathlib.Core.Bool.{Bool, cond, _&&_}
+use mathlib.Core.Bool.{Bool, false, cond, _&&_}
 use mathlib.Core.List.{List, [], _∷_, _++_}
 use lib.Dec.{ltb, eqb}
 use lib.ListN.{length, take, drop, getD}
@@ -84,3 +84,32 @@ nextRow k passed = cond passed (suc k) k
 abbrev pub Standing : Spot → ℕ → List ℕ → ℕ → ℕ → List ℕ → Type 0
 Standing spot o rows cells k [] = k ≡ cells
 Standing spot o rows cells k (v ∷ vs) = (k < cells) × (getD rows (k * wordsPerRow) 0 ≡ spot .base + (o + v)) × Standing spot o rows cells (suc k) vs
+
+-- ---- starts that are passed over
+
+-- of the bytes from v on and before `last`, the last from 128 up is that before r; or none is, and r is v
+pub record BehindHigh (s : List ℕ) (v last r : ℕ) : Type 0 where
+  pub on : v ≤ r
+  pub near : r ≤ last
+  pub high : v < r → 128 ≤ getD s (r - 1) 0
+
+-- from v on and before r, no types make a row
+abbrev pub NoneFrom : List ℕ → List ℕ → ℕ → ℕ → Type 0
+NoneFrom d hints v r = (u : ℕ) → v ≤ u → u < r → oneByte d hints u ≡ miss
+
+pub record Passes (d hints : List ℕ) (v end r : ℕ) : Type 0 where
+  pub on : v ≤ r
+  pub near : r ≤ end
+  pub none : NoneFrom d hints v r
+
+-- before r, no start is that of the next cell's record
+pub record Apart (rows : List ℕ) (k cells offset starts r : ℕ) : Type 0 where
+  pub near : r ≤ starts
+  pub apart : (u : ℕ) → u < r → isCell rows k cells (offset + u) ≡ false
+
+-- both, from v on and before r
+pub record StartIs (d hints rows : List ℕ) (k cells offset v starts r : ℕ) : Type 0 where
+  pub on : v ≤ r
+  pub near : r ≤ starts
+  pub apart : (u : ℕ) → v ≤ u → u < r → isCell rows k cells (offset + u) ≡ false
+  pub none : NoneFrom d hints v r

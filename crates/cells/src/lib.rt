@@ -2,4 +2,5 @@
 mod cell;
 pub mod inner;
 mod rebuilt;
+mod starts;
 mod turn;

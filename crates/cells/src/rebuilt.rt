@@ -1,4 +1,5 @@
 // Records whose header's length is lost: it is made up, one byte, and the types stand where the bytes begin.
+use crate::starts::next_start;
 use crate::turn::Turn;
 use attempt::inner::Find;
 use attempt::inner::MOST_BYTES;
@@ -166,14 +167,19 @@ pub fn carve_rebuilt(
     ensures { λ r. ⌜ Carves (lent .width) (lent .room) cells (rebuiltFrom (rebuiltStarts (length (now (payload .entry))) (length (now (hints .entry)))) oneByte spot o (startsOf (cellsOf (now (payload .entry)) (now (hints .entry)))) (now (payload .entry)) (now (hints .entry)) 0) false (now (rows .entry)) (now (cols .entry)) (carvedAs r) (now (rows .exit)) (now (cols .exit)) ⌝ }
 {
     let starts = starts_of(payload.len(), hints.len());
+    let offset = spot.base + o as u64;
     let mut v = 0;
     let mut k = first;
     let mut m = cells;
-    while v < starts {
+    loop {
+        let at = next_start(payload, hints, rows, k, cells, offset, v, starts);
+        if at >= starts {
+            return Carved::On(m);
+        }
         let Turn::On { next, n } = carve_start(
             payload,
             hints,
-            v,
+            at,
             spot,
             o,
             lent,
@@ -187,7 +193,6 @@ pub fn carve_rebuilt(
         };
         k = next;
         m = n;
-        v = v + 1;
+        v = at + 1;
     }
-    Carved::On(m)
 }

@@ -10,12 +10,15 @@ use Rattle.attempt.proofs.Laws.{hit-takes}
 use Rattle.attempt.specs.Attempt.{Found, miss, hit, attemptAt}
 use Rattle.attempt.specs.Inner.{foundAt}
 use Rattle.attempt.specs.declared.inner.Find.{Find}
+use Rattle.filter.proofs.Laws.{passed-keeps}
+use Rattle.filter.specs.Inner.{Passed, ThroughIs}
 use Rattle.gap.specs.Gap.{regionHit, runHits, regionHits}
 use Rattle.cells.proofs.Along.{Along, along-start, along-end, along-on, along-full}
 use Rattle.hit.proofs.Laws.{headAt, there-is}
 use Rattle.hit.specs.Inner.{hitThere}
 use Rattle.hit.specs.declared.inner.Lent.{Lent}
 use Rattle.hit.specs.declared.inner.Spot.{Spot}
+use Rattle.record.proofs.Numbers.{by-order}
 use Rattle.scan.proofs.Laws.{scan-missed, scan-found, scan-end}
 use Rattle.scan.specs.Scan.{Run, scanFrom}
 use Rattle.sheet.specs.declared.row.Row.{Row}
@@ -51,7 +54,7 @@ module _ (s : List ℕ) (from : ℕ) (hints : List ℕ) (spot : Spot) where
     scanning-start h = record { fuel = length s; rows-found = 0; enough = omega arith; few = omega arith; along = along-start lent n₀ _ rows₀ cols₀ h }
 
     module _ (rows cols : List ℕ) (o m : ℕ) (w : Scanning lent n₀ rows₀ cols₀ rows cols o m) where
-      pub scanning-end : length s ≤ o + 2 → Carves (lent .width) (lent .room) n₀ (regionHits spot from s hints) false rows₀ cols₀ (on m) rows cols
+      scanning-end : length s ≤ o + 2 → Carves (lent .width) (lent .room) n₀ (regionHits spot from s hints) false rows₀ cols₀ (on m) rows cols
       scanning-end h = along-end _ _ _ _ _ _ _ _ (rw (scan-end (w .fuel) s hints (length s) o (w .rows-found) (omega arith)) at (w .along))
 
       module _ (in′ : o + 2 < length s) where
@@ -66,7 +69,7 @@ module _ (s : List ℕ) (from : ℕ) (hints : List ℕ) (spot : Spot) where
             go zero q g = absurd (omega arith)
             go (suc f) q g = then f q g
 
-        pub scanning-missed : attemptAt s hints o ≡ miss → Scanning lent n₀ rows₀ cols₀ rows cols (o + 1) m
+        scanning-missed : attemptAt s hints o ≡ miss → Scanning lent n₀ rows₀ cols₀ rows cols (o + 1) m
         scanning-missed e =
             more
             (λ f q g.
@@ -105,3 +108,16 @@ module _ (s : List ℕ) (from : ℕ) (hints : List ℕ) (spot : Spot) where
               (λ f q g.
               along-full _ _ _ _ _ _ _ _ one (left-hits f (o + x .consumed) (w .rows-found + 1))
               (rw (scan-found f s hints (length s) o (w .rows-found) below x e (omega (arith, w .few))) at g) rows′ cols′ c)
+
+    -- offsets that are passed over are attempts that failed
+    module _ (rows cols : List ℕ) (o m last read : ℕ) (e : last ≡ length s - 2) (w : Scanning lent n₀ rows₀ cols₀ rows cols o m) where
+      pub scanning-passed : (to : ℕ) → to ≤ last → Passed s hints o to read → Scanning lent n₀ rows₀ cols₀ rows cols to m
+      scanning-passed to le p =
+          passed-keeps s hints o last (λ a _. Scanning lent n₀ rows₀ cols₀ rows cols a m)
+          (λ a _ r lt miss x. scanning-missed rows cols a m x (omega arith) (miss .misses)) to 0 read le p w
+
+      pub scanning-through : ThroughIs s hints o last read → Carves (lent .width) (lent .room) n₀ (regionHits spot from s hints) false rows₀ cols₀ (on m) rows cols
+      scanning-through t =
+          by-order o last
+          (λ lt. scanning-end rows cols (t .to) m (scanning-passed (t .to) (t .went .near lt) (t .went .passed)) (omega (arith, t .there)))
+          (λ ge. scanning-end rows cols o m w (omega arith))

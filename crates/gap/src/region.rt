@@ -1,7 +1,8 @@
 // The gap of a page, scanned as a region.
 use attempt::inner::Find;
-use attempt::inner::Verdict;
-use attempt::inner::attempt;
+use filter::inner::High;
+use filter::inner::Next;
+use filter::inner::next_row;
 use hit::inner::Head;
 use hit::inner::Lent;
 use hit::inner::Spot;
@@ -18,7 +19,7 @@ use walk::inner::Carved;
 ghost use mathlib.Core.Path.{_≡_};
 ghost use mathlib.Core.Bool.{false};
 ghost use mathlib.Core.List.{[], _∷_};
-ghost use Prim.Native.Nat.{_+_, _≤_};
+ghost use Prim.Native.Nat.{_+_, _-_, _≤_};
 ghost use lib.ListN.{length};
 ghost use Rattle.attempt.specs.Attempt.{attemptAt};
 ghost use Rattle.attempt.specs.Inner.{foundAt, HitIs};
@@ -81,6 +82,13 @@ fn add_row(
     add_hit(bytes, at, columns, row, lent, n, rows, cols)
 }
 
+// The offset at which a scan of so many bytes is through.
+fn last_of(len: usize) -> usize
+    ensures { λ r. ⌜ r ≡ len - 2 ⌝ }
+{
+    if len < 2 { 0 } else { len - 2 }
+}
+
 // Scans a region that begins at `from` in its page.
 fn carve_region(
     bytes: &[u8],
@@ -95,34 +103,22 @@ fn carve_region(
     requires { ⌜ Ready (from + length (now bytes)) (length (now hints)) spot lent n (length (now rows)) (length (now cols)) ⌝ }
     ensures { λ r. ⌜ Carves (lent .width) (lent .room) n (regionHits spot from (now (bytes .entry)) (now (hints .entry))) false (now (rows .entry)) (now (cols .entry)) (carvedAs r) (now (rows .exit)) (now (cols .exit)) ⌝ }
 {
+    let last = last_of(bytes.len());
     let mut o = 0;
     let mut m = n;
-    while o + 2 < bytes.len() {
-        match attempt(bytes, hints, o) {
-            Verdict::Miss(_) => {
-                o = o + 1;
-            }
-            Verdict::Hit(find) => {
-                let Carved::On(next) = add_row(
-                    bytes,
-                    from,
-                    o,
-                    find,
-                    hints,
-                    spot,
-                    lent,
-                    m,
-                    rows,
-                    cols,
-                ) else {
-                    return Carved::Full;
-                };
-                m = next;
-                o = o + find.consumed;
-            }
-        }
+    let mut met = High { from: 0, to: 0 };
+    loop {
+        let Next::Row { at, find, run, .. } = next_row(bytes, hints, o, last, met) else {
+            return Carved::On(m);
+        };
+        let Carved::On(next) = add_row(bytes, from, at, find, hints, spot, lent, m, rows, cols)
+        else {
+            return Carved::Full;
+        };
+        m = next;
+        o = at + find.consumed;
+        met = run;
     }
-    Carved::On(m)
 }
 
 // The gap begins where the cells' pointers end.

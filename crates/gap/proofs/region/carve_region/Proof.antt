@@ -1,67 +1,88 @@
 -- `gap::region::carve_region` meets its contract: what the loop has carved, with what is left of the run, are the hits of the whole run (`Scanning`).
 -- Assumes nothing.
-use Prim.Native.Nat.{_-_, _≤_}
+use Prim.Native.Nat.{_+_, _-_, _≤_, _<_}
 use mathlib.Core.Path.{_∙_}
 use native.Mathlib.Omega.{arith}
 use borrow.Author.Needs.{needs}
 use denote.Ref.{now}
 use lib.ListN.{length}
-use Rattle.attempt.specs.Attempt.{attemptAt}
-use Rattle.attempt.specs.Inner.{MissIs, HitIs}
-use Rattle.attempt.specs.Places.{attemptPlaces}
+use Rattle.attempt.proofs.Laws.{hit-takes}
 use Rattle.cells.proofs.Along.{along-long, along-ready}
-use Rattle.gap.proofs.Regions.{Scanning, scanning-start, scanning-end, scanning-missed, scanning-found, scanning-full}
+use Rattle.filter.proofs.Laws.{no-run}
+use Rattle.filter.specs.Inner.{IsHigh, RowIs, ThroughIs}
+use Rattle.gap.proofs.Regions.{Scanning, scanning-start, scanning-passed, scanning-through, scanning-found, scanning-full}
 use Rattle.gap.proofs.region.carve_region.Statement.{statement}
 use Rattle.gap.proofs.region.carve_region.Tie as tie
+use Rattle.sheet.specs.Limits.{largestRegion}
 
 abbrev Inv-loop : tie.InvT-loop
-Inv-loop bytes from hints spot lent n rows₀ cols₀ o₀ m₀ rows cols o m = (o ≤ length bytes) × Scanning bytes from hints spot lent n rows₀ cols₀ rows cols o m
+Inv-loop bytes from hints spot lent n rows₀ cols₀ last o₀ m₀ met₀ rows cols o m met = Scanning bytes from hints spot lent n rows₀ cols₀ rows cols o m × IsHigh bytes met
 
 abbrev μ-loop : tie.MeasureT-loop
-μ-loop bytes from hints spot lent n rows₀ cols₀ o₀ m₀ rows cols o m = length bytes - o
+μ-loop bytes from hints spot lent n rows₀ cols₀ last o₀ m₀ met₀ rows cols o m met = length bytes - o
 
--- what an attempt that failed says
-missed : (c : tie.After-enum-told Inv-loop μ-loop) →
-    let l = c .before .before .before .before .loop in
+-- all is passed over
+through : (c : tie.After-enum-told Inv-loop μ-loop) →
     let a = c .before .before .before .before .before .before .before .before .before .args in
-    MissIs (attemptAt (now (a .bytes)) (now (a .hints)) (l .o)) (attemptPlaces (now (a .bytes)) (l .o)) (c .enum-told .given .0 .0)
-missed c = rw (c .enum-told .given .1) at (c .before .before .attempt .ensures)
+    ThroughIs (now (a .bytes)) (now (a .hints)) (c .before .before .before .loop .o) (c .before .before .before .before .last-of .result) (c .enum-told .given .0 .0)
+through c = rw (c .enum-told .given .1) at (c .before .before .next-row .ensures)
 
--- and what one that found a row says
+-- or a row comes,
 found : (c : tie.After-known-told Inv-loop μ-loop) →
-    let l = c .before .before .before .before .before .loop in
     let a = c .before .before .before .before .before .before .before .before .before .before .args in
-    HitIs (now (a .bytes)) (now (a .hints)) (l .o) (attemptAt (now (a .bytes)) (now (a .hints)) (l .o)) (attemptPlaces (now (a .bytes)) (l .o)) (c .before .find .given .0 .0)
-found c = rw (c .before .find .given .1) at (c .before .before .before .attempt .ensures)
+    let x = c .before .at .given .0 in
+    RowIs (now (a .bytes)) (now (a .hints)) (c .before .before .before .before .loop .o) (c .before .before .before .before .before .last-of .result) (x .0) (x .1 .0) (x .1 .1 .0) (x .1 .1 .1 .0)
+found c = rw (c .before .at .given .1) at (c .before .before .before .next-row .ensures)
+
+-- which lies in the region,
+taken : (c : tie.After-known-told Inv-loop μ-loop) →
+    let a = c .before .before .before .before .before .before .before .before .before .before .args in
+    let x = c .before .at .given .0 in
+    (x .0 + 2 < length (now (a .bytes))) × (c .before .before .before .before .loop .o ≤ x .0) × (2 ≤ x .1 .0 .consumed) × (x .0 + x .1 .0 .consumed ≤ length (now (a .bytes)))
+    × (length (now (a .bytes)) ≤ largestRegion)
+taken c =
+    let f = found c in
+    let takes = hit-takes _ _ _ _ (f .found .hits) in (
+      omega (arith, f .below, c .before .before .before .before .before .last-of .ensures),
+      omega (arith, f .passed .to-is),
+      takes .0,
+      takes .1,
+      omega (arith, c .before .before .before .before .before .before .before .before .before .before .pre .inside),
+    )
+
+-- and all before it is passed over
+there : (c : tie.After-known-told Inv-loop μ-loop) →
+    let a = c .before .before .before .before .before .before .before .before .before .before .args in
+    let l = c .before .before .before .before .loop in
+    Scanning (now (a .bytes)) (a .from) (now (a .hints)) (a .spot) (a .lent) (a .n) (now (a .rows)) (now (a .cols)) (l .rows) (l .cols) (c .before .at .given .0 .0) (l .m)
+there c = scanning-passed _ _ _ _ _ _ _ _ _ _ _ _ _ _ (c .before .before .before .before .before .last-of .ensures) (c .before .before .before .before .loop .inv .0) _ (omega (arith, found c .below)) (found c .passed)
+
+last-of-requires : tie.Need-last-of-requires Inv-loop μ-loop
+last-of-requires c κs = search needs
 
 loop-holds : tie.Need-loop-holds Inv-loop μ-loop
-loop-holds c = (search needs, scanning-start _ _ _ _ _ _ _ _ (c .before .before .before .before .pre .space .fits))
+loop-holds c = (scanning-start _ _ _ _ _ _ _ _ (c .before .before .before .before .before .pre .space .fits), no-run _)
 
-add-loop : tie.Need-add-loop Inv-loop μ-loop
-add-loop c = omega (arith, c .loop .inv .0, c .before .before .before .before .before .pre .inside)
+next-row-requires : tie.Need-next-row-requires Inv-loop μ-loop
+next-row-requires c κs = let p = c .before .before .before .before .before .before .pre in ((omega (arith, c .before .last-of .ensures), omega (arith, p .inside), p .few), c .loop .inv .1)
 
-attempt-requires : tie.Need-attempt-requires Inv-loop μ-loop
-attempt-requires c κs = (c .before .loop .inv .0, omega (arith, c .before .before .before .before .before .before .pre .inside))
+enum-known-at : tie.Need-enum-known-at Inv-loop μ-loop
+enum-known-at c = search needs
 
 enum-told : tie.Need-enum-told Inv-loop μ-loop
 enum-told c = search needs
 
-add-o : tie.Need-add-o Inv-loop μ-loop
-add-o c = search needs
+same-length : tie.Need-same-length Inv-loop μ-loop
+same-length c = along-long _ _ _ _ _ _ _ _ _ (c .before .before .before .loop .inv .0 .along) .0
 
-loop-less : tie.Need-loop-less Inv-loop μ-loop
-loop-less c = search needs
+same-length-2 : tie.Need-same-length-2 Inv-loop μ-loop
+same-length-2 c = along-long _ _ _ _ _ _ _ _ _ (c .before .before .before .loop .inv .0 .along) .1
 
-loop-again : tie.Need-loop-again Inv-loop μ-loop
-loop-again c =
-    let t = c .before .before .before .loop-test .taken in
-    (omega (arith, t), scanning-missed _ _ _ _ _ _ _ _ _ _ _ _ (c .before .before .before .before .loop .inv .1) (omega (arith, t)) (missed c .misses))
-
-enum-known-find : tie.Need-enum-known-find Inv-loop μ-loop
-enum-known-find c = search needs
+returns : tie.Need-returns Inv-loop μ-loop
+returns c = scanning-through _ _ _ _ _ _ _ _ _ _ _ _ _ _ (c .before .before .before .before .last-of .ensures) (c .before .before .before .loop .inv .0) (through c)
 
 add-row-requires : tie.Need-add-row-requires Inv-loop μ-loop
-add-row-requires c κs = (found (c .before .before), along-ready _ _ _ _ _ _ _ _ _ _ _ _ (c .before .before .before .before .before .before .before .loop .inv .1 .along) (c .before .before .before .before .before .before .before .before .before .before .before .before .pre))
+add-row-requires c κs = (found (c .before .before) .found, along-ready _ _ _ _ _ _ _ _ _ _ _ _ (c .before .before .before .before .before .before .loop .inv .0 .along) (c .before .before .before .before .before .before .before .before .before .before .before .before .pre))
 
 enum-known-next : tie.Need-enum-known-next Inv-loop μ-loop
 enum-known-next c = search needs
@@ -69,39 +90,32 @@ enum-known-next c = search needs
 enum-told-2 : tie.Need-enum-told-2 Inv-loop μ-loop
 enum-told-2 c = search needs
 
-same-length : tie.Need-same-length Inv-loop μ-loop
-same-length c = c .before .before .before .before .before .before .add-row .kept .1 .1 .1 .1 .1 .1 .1 .1 .0 ∙ along-long _ _ _ _ _ _ _ _ _ (c .before .before .before .before .before .before .before .before .before .before .before .before .before .before .loop .inv .1 .along) .0
-
-same-length-2 : tie.Need-same-length-2 Inv-loop μ-loop
-same-length-2 c = c .before .before .before .before .before .before .add-row .kept .1 .1 .1 .1 .1 .1 .1 .1 .1 .0 ∙ along-long _ _ _ _ _ _ _ _ _ (c .before .before .before .before .before .before .before .before .before .before .before .before .before .before .loop .inv .1 .along) .1
-
-returns : tie.Need-returns Inv-loop μ-loop
-returns c =
-    scanning-full _ _ _ _ _ _ _ _ _ _ _ _ (c .before .before .before .before .before .before .before .before .before .before .before .before .before .before .loop .inv .1) (omega (arith, c .before .before .before .before .before .before .before .before .before .before .before .before .before .loop-test .taken)) _ (found (c .before .before .before .before .before .before .before .before .before) .hits) _ _
-    (rw (c .enum-told2 .given .1) at (c .before .before .before .before .before .before .add-row .ensures))
-
-add-o-2 : tie.Need-add-o-2 Inv-loop μ-loop
-add-o-2 c = let h = found (c .before .before .before .before .before .before .before .before .before .before .before) in omega (arith, h .inside, c .before .before .before .before .before .before .before .before .before .before .before .before .before .before .before .before .before .before .before .before .before .pre .inside)
-
-loop-less-2 : tie.Need-loop-less-2 Inv-loop μ-loop
-loop-less-2 c = let h = found (c .before .before .before .before .before .before .before .before .before .before .before) in omega (arith, h .inside, h .bodies, h .headed .low)
-
-loop-again-2 : tie.Need-loop-again-2 Inv-loop μ-loop
-loop-again-2 c =
-    let h = found (c .before .before .before .before .before .before .before .before .before .before .before) in (
-      h .inside,
-      scanning-found _ _ _ _ _ _ _ _ _ _ _ _ (c .before .before .before .before .before .before .before .before .before .before .before .before .before .before .before .before .loop .inv .1) (omega (arith, c .before .before .before .before .before .before .before .before .before .before .before .before .before .before .before .loop-test .taken)) _ (h .hits) _ _ _
-          (rw (c .before .before .next .given .1) at (c .before .before .before .before .before .before .before .before .add-row .ensures)),
-    )
-
 same-length-3 : tie.Need-same-length-3 Inv-loop μ-loop
-same-length-3 c = along-long _ _ _ _ _ _ _ _ _ (c .before .loop .inv .1 .along) .0
+same-length-3 c = c .before .before .before .before .before .before .add-row .kept .1 .1 .1 .1 .1 .1 .1 .1 .0 ∙ along-long _ _ _ _ _ _ _ _ _ (c .before .before .before .before .before .before .before .before .before .before .before .before .before .loop .inv .0 .along) .0
 
 same-length-4 : tie.Need-same-length-4 Inv-loop μ-loop
-same-length-4 c = along-long _ _ _ _ _ _ _ _ _ (c .before .loop .inv .1 .along) .1
+same-length-4 c = c .before .before .before .before .before .before .add-row .kept .1 .1 .1 .1 .1 .1 .1 .1 .1 .0 ∙ along-long _ _ _ _ _ _ _ _ _ (c .before .before .before .before .before .before .before .before .before .before .before .before .before .loop .inv .0 .along) .1
 
 returns-2 : tie.Need-returns-2 Inv-loop μ-loop
-returns-2 c = scanning-end _ _ _ _ _ _ _ _ _ _ _ _ (c .before .loop .inv .1) (omega (arith, c .loop-test .left))
+returns-2 c =
+    let k = c .before .before .before .before .before .before .before .before .before in
+    scanning-full _ _ _ _ _ _ _ _ _ _ _ _ (there k) (omega (arith, taken k .0)) _ (found k .found .hits) _ _
+    (rw (c .enum-told2 .given .1) at (c .before .before .before .before .before .before .add-row .ensures))
+
+add-o : tie.Need-add-o Inv-loop μ-loop
+add-o c = let t = taken (c .before .before .before .before .before .before .before .before .before .before .before) in omega arith
+
+loop-less : tie.Need-loop-less Inv-loop μ-loop
+loop-less c = let t = taken (c .before .before .before .before .before .before .before .before .before .before .before) in omega arith
+
+loop-again : tie.Need-loop-again Inv-loop μ-loop
+loop-again c =
+    let k = c .before .before .before .before .before .before .before .before .before .before .before in
+    let t = taken k in (
+      scanning-found _ _ _ _ _ _ _ _ _ _ _ _ (there k) (omega (arith, t .0)) _ (found k .found .hits) _ _ _
+          (rw (c .before .before .next .given .1) at (c .before .before .before .before .before .before .before .before .add-row .ensures)),
+      found k .run-is,
+    )
 
 pub carve-region-spec : {M : Type 1} → statement M
 carve-region-spec =
@@ -109,23 +123,20 @@ carve-region-spec =
     (tie.spec
     Inv-loop
     μ-loop
+    last-of-requires
     loop-holds
-    add-loop
-    attempt-requires
+    next-row-requires
+    enum-known-at
     enum-told
-    add-o
-    loop-less
-    loop-again
-    enum-known-find
-    add-row-requires
-    enum-known-next
-    enum-told-2
     same-length
     same-length-2
     returns
-    add-o-2
-    loop-less-2
-    loop-again-2
+    add-row-requires
+    enum-known-next
+    enum-told-2
     same-length-3
     same-length-4
-    returns-2)
+    returns-2
+    add-o
+    loop-less
+    loop-again)

@@ -1,0 +1,84 @@
+// Which starts can be passed over. As many types as the header has bytes take one byte each, but for the last, which may run past its end; so
+// a byte from 128 up before the header's last byte shows that there is no row.
+use sheet::WORDS_PER_ROW;
+ghost use Prim.Native.Nat.{_+_, _*_, _≤_};
+ghost use lib.ListN.{length};
+ghost use Rattle.cells.specs.Cells.{rebuiltStarts};
+ghost use Rattle.cells.specs.Inner.{BehindHigh, Apart, Passes, StartIs};
+ghost use Rattle.sheet.specs.Limits.{mostColumns, largestRegion, wordsPerRow};
+
+// Behind the last byte from 128 up, of those from v on and before `last`; v if there is none.
+fn behind_high(payload: &[u8], v: usize, last: usize) -> usize
+    requires { ⌜ (v ≤ last) × (last ≤ length (now payload)) ⌝ }
+    ensures { λ r. ⌜ BehindHigh (now (payload .entry)) v last r ⌝ }
+{
+    let mut at = last;
+    while at > v {
+        if payload[at - 1] > 127 {
+            return at;
+        }
+        at = at - 1;
+    }
+    at
+}
+
+// The first start from v on and before `end` at which a row may be; `end` if there is none. One byte dismisses all starts up to its own.
+fn pass_high(payload: &[u8], hints: &[u8], v: usize, end: usize) -> usize
+    requires { ⌜ (length (now payload) ≤ largestRegion) × (1 ≤ length (now hints)) × (length (now hints) ≤ mostColumns) ⌝ }
+    requires { ⌜ (v ≤ end) × (end ≤ rebuiltStarts (length (now payload)) (length (now hints))) ⌝ }
+    ensures { λ r. ⌜ Passes (now (payload .entry)) (now (hints .entry)) v end r ⌝ }
+{
+    let others = hints.len() - 1;
+    let mut at = v;
+    while at < end {
+        let next = behind_high(payload, at, at + others);
+        if next == at {
+            return at;
+        }
+        at = next;
+    }
+    end
+}
+
+// How many starts there are before that of the next cell's record, whose row is the row k.
+fn before_cell(rows: &[u64], k: usize, cells: usize, offset: u64, starts: usize) -> usize
+    requires { ⌜ cells * wordsPerRow ≤ length (now rows) ⌝ }
+    ensures { λ r. ⌜ Apart (now (rows .entry)) k cells offset starts r ⌝ }
+{
+    if k >= cells {
+        return starts;
+    }
+    // A row begins with its offset.
+    let next = rows[k * WORDS_PER_ROW];
+    if next < offset {
+        return 0;
+    }
+    let ahead = next - offset;
+    if ahead < starts as u64 {
+        return ahead as usize;
+    }
+    starts
+}
+
+// The first start from v on at which the record of a cell starts, or a row may be; the payload's offset is `offset`.
+pub fn next_start(
+    payload: &[u8],
+    hints: &[u8],
+    rows: &[u64],
+    k: usize,
+    cells: usize,
+    offset: u64,
+    v: usize,
+    starts: usize,
+) -> usize
+    requires { ⌜ (length (now payload) ≤ largestRegion) × (1 ≤ length (now hints)) × (length (now hints) ≤ mostColumns) ⌝ }
+    requires { ⌜ (v ≤ starts) × (starts ≤ rebuiltStarts (length (now payload)) (length (now hints))) ⌝ }
+    requires { ⌜ cells * wordsPerRow ≤ length (now rows) ⌝ }
+    ensures { λ r. ⌜ StartIs (now (payload .entry)) (now (hints .entry)) (now (rows .entry)) k cells offset v starts r ⌝ }
+{
+    let clear = before_cell(rows, k, cells, offset, starts);
+    if clear <= v {
+        return v;
+    }
+    pass_high(payload, hints, v, clear)
+}

@@ -10,14 +10,12 @@ use borrow.Author.Tests.{lt-ltb, le-ltb, le-leb, lt-leb, leb-true, ltb-true}
 use lib.Dec.{ltb, leb}
 use lib.ListN.{length, take, drop, length-take, length-drop}
 use Rattle.attempt.specs.Attempt.{Tried, miss, hit, attemptAt}
-use Rattle.attempt.specs.Inner.{foundAt, MissIs, HitIs}
+use Rattle.attempt.specs.Inner.{foundAt, HitIs}
 use Rattle.attempt.specs.Places.{attemptPlaces}
 use Rattle.attempt.specs.declared.inner.Find.{Find}
 use Rattle.cells.specs.Cells.{CellRow, Looked, noCell, cell, recordIs, idThen, lengthThen, cellAt, cellThen, cellsFrom, cellsOf, cellHit, cellHits}
 use Rattle.cells.specs.Inner.{recordOf, CellFound, cellsThere, nextPlace}
 use Rattle.cells.proofs.Along.{Along, along-start, along-end, along-on, along-full}
-use Rattle.filter.specs.Inner.{MissFrom, RowIs, ThroughIs}
-use Rattle.filter.specs.declared.high.High.{High}
 use Rattle.hit.proofs.Laws.{headAt, find-laid, there-is, ready-part}
 use Rattle.hit.specs.Hit.{rowAt}
 use Rattle.hit.specs.Inner.{hitThere, Laid, Ready}
@@ -35,21 +33,6 @@ use Rattle.sheet.specs.declared.row.Source.the-variants.{CarvedIntraPage}
 use Rattle.walk.proofs.Carving.{carves-none}
 use Rattle.walk.specs.Carve.{Hit}
 use Rattle.walk.specs.Inner.{Told, on, over, Carves}
-
--- ---- the first offset of a record
-module _ (s hints : List ℕ) where
-  pub first-row : (at : ℕ) (x : Find) (read : ℕ) (run : High) → RowIs s hints 0 1 at x read run → HitIs s hints 0 (attemptAt s hints 0) (attemptPlaces s 0) x
-  first-row at x read run r = let z : at ≡ 0 = omega (arith, r .below) in rw z at (r .found)
-
-  pub first-through : (read : ℕ) → ThroughIs s hints 0 1 read → MissIs (attemptAt s hints 0) (attemptPlaces s 0) read
-  first-through read t =
-      let p = t .went .passed in
-      go (p .count) (omega (arith, p .to-is, t .there, t .went .near (omega arith))) (p .over)
-    where
-      go : (k : ℕ) → k ≡ 1 → MissFrom s hints 0 k read → MissIs (attemptAt s hints 0) (attemptPlaces s 0) read
-      go zero e m = absurd (omega arith)
-      go (suc zero) e (sum, r, none, m, is) = let z : read ≡ r = omega arith in rw z m
-      go (suc (suc k)) e m = absurd (omega arith)
 
 -- ---- one place
 module _ (d hints : List ℕ) (pos : ℕ) where

@@ -3,9 +3,6 @@ use crate::turn::Turn;
 use attempt::inner::Find;
 use attempt::inner::Verdict;
 use attempt::inner::attempt;
-use filter::inner::High;
-use filter::inner::Next;
-use filter::inner::next_row;
 use hit::inner::Head;
 use hit::inner::Lent;
 use hit::inner::Spot;
@@ -23,13 +20,11 @@ ghost use mathlib.Core.Bool.{false};
 ghost use mathlib.Core.List.{[], _∷_};
 ghost use Prim.Native.Nat.{_+_, _≤_, _<_};
 ghost use lib.ListN.{length};
-ghost use Rattle.attempt.specs.Attempt.{attemptAt};
-ghost use Rattle.attempt.specs.Inner.{foundAt, Tells};
-ghost use Rattle.attempt.specs.Places.{attemptPlaces};
+ghost use Rattle.attempt.specs.Inner.{foundAt};
 ghost use Rattle.cells.specs.Cells.{cellAt, cellHit, cellHits, cellsOf};
 ghost use Rattle.cells.specs.Inner.{CellIs, cellsThere, nextPlace, turnAs, GoesTo};
 ghost use Rattle.hit.specs.Inner.{Laid, Ready};
-ghost use Rattle.sheet.specs.Limits.{largestRegion, mostColumns};
+ghost use Rattle.sheet.specs.Limits.{largestRegion};
 ghost use Rattle.walk.specs.Inner.{carvedAs, Carves};
 
 // A cell whose record is a row: where the record starts and ends, its row id, and the row.
@@ -43,29 +38,13 @@ pub enum Cell {
     Nothing,
 }
 
-// An attempt on a record; most that fail are soon seen to. What starts with a byte from 128 up is left to the attempt: how far a run of such
-// bytes goes would be looked for anew in each record.
-fn try_record(bytes: &[u8], hints: &[u8]) -> Verdict
-    requires { ⌜ (1 ≤ length (now bytes)) × (length (now bytes) ≤ largestRegion) × (length (now hints) ≤ mostColumns) ⌝ }
-    ensures { λ r. ⌜ Tells (now (bytes .entry)) (now (hints .entry)) 0 (attemptAt (now (bytes .entry)) (now (hints .entry)) 0) (attemptPlaces (now (bytes .entry)) 0) r ⌝ }
-{
-    if bytes[0] > 127 {
-        return attempt(bytes, hints, 0);
-    }
-    match next_row(bytes, hints, 0, 1, High { from: 0, to: 0 }) {
-        Next::Row { find, .. } => Verdict::Hit(find),
-        Next::Through(read) => Verdict::Miss(read),
-    }
-}
-
 // The length of a record, its row id, and the record.
 fn cell_at(payload: &[u8], hints: &[u8], pos: usize) -> Cell
-    requires { ⌜ (length (now payload) ≤ largestRegion) × (length (now hints) ≤ mostColumns) ⌝ }
+    requires { ⌜ length (now payload) ≤ largestRegion ⌝ }
     ensures { λ r. ⌜ CellIs (now (payload .entry)) (now (hints .entry)) pos r ⌝ }
 {
     let c = Cursor { at: pos };
-    // Both numbers are read as types are, since most of them have one byte, too.
-    let Varint::Value(len, next) = c.serial_type(payload) else {
+    let Varint::Value(len, next) = c.often_short(payload) else {
         return Cell::Nothing;
     };
     if len == 0 {
@@ -76,7 +55,7 @@ fn cell_at(payload: &[u8], hints: &[u8], pos: usize) -> Cell
     if len > (payload.len() - at) as u64 {
         return Cell::Nothing;
     }
-    let Varint::Value(id, behind) = next.serial_type(payload) else {
+    let Varint::Value(id, behind) = next.often_short(payload) else {
         return Cell::Nothing;
     };
     let start = behind.at;
@@ -85,7 +64,7 @@ fn cell_at(payload: &[u8], hints: &[u8], pos: usize) -> Cell
         return Cell::Nothing;
     }
     let end = start + len as usize;
-    let Verdict::Hit(find) = try_record(&payload[start..end], hints) else {
+    let Verdict::Hit(find) = attempt(&payload[start..end], hints, 0) else {
         return Cell::Nothing;
     };
     Cell::At {

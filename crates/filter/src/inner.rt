@@ -222,6 +222,13 @@ fn one_step(bytes: &[u8], hints: &[u8], o: usize, last: usize, run: High) -> Ste
     }
 }
 
+// The offset at which a scan of so many bytes is through.
+pub fn last_of(len: usize) -> usize
+    ensures { λ r. ⌜ r ≡ len - 2 ⌝ }
+{
+    if len < 2 { 0 } else { len - 2 }
+}
+
 // The first row from `start` on that starts before `last`. What is known of a run of high bytes is handed on from call to call.
 pub fn next_row(bytes: &[u8], hints: &[u8], start: usize, last: usize, run: High) -> Next
     requires { ⌜ (last ≤ length (now bytes) - 2) × (length (now bytes) ≤ largestRegion) × (length (now hints) ≤ mostColumns) ⌝ }

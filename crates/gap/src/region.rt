@@ -2,6 +2,7 @@
 use attempt::inner::Find;
 use filter::inner::High;
 use filter::inner::Next;
+use filter::inner::last_of;
 use filter::inner::next_row;
 use hit::inner::Head;
 use hit::inner::Lent;
@@ -19,7 +20,7 @@ use walk::inner::Carved;
 ghost use mathlib.Core.Path.{_≡_};
 ghost use mathlib.Core.Bool.{false};
 ghost use mathlib.Core.List.{[], _∷_};
-ghost use Prim.Native.Nat.{_+_, _-_, _≤_};
+ghost use Prim.Native.Nat.{_+_, _≤_};
 ghost use lib.ListN.{length};
 ghost use Rattle.attempt.specs.Attempt.{attemptAt};
 ghost use Rattle.attempt.specs.Inner.{foundAt, HitIs};
@@ -80,13 +81,6 @@ fn add_row(
         by: spot.start + from,
     };
     add_hit(bytes, at, columns, row, lent, n, rows, cols)
-}
-
-// The offset at which a scan of so many bytes is through.
-fn last_of(len: usize) -> usize
-    ensures { λ r. ⌜ r ≡ len - 2 ⌝ }
-{
-    if len < 2 { 0 } else { len - 2 }
 }
 
 // Scans a region that begins at `from` in its page.

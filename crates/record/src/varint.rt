@@ -47,7 +47,7 @@ impl Cursor {
     }
 
     // The same, at once where it is one byte.
-    fn often_short(self, bytes: &[u8]) -> Varint
+    pub fn often_short(self, bytes: &[u8]) -> Varint
         ensures { λ r. ⌜ r ≡ varintAt (now (bytes .entry)) (self .at) ⌝ }
     {
         let at = self.at;

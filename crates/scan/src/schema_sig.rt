@@ -5,6 +5,7 @@ use attempt::inner::attempt;
 use attempt::inner::put_columns;
 use filter::inner::High;
 use filter::inner::Next;
+use filter::inner::last_of;
 use filter::inner::next_row;
 use sheet::WORDS_PER_ENTRY;
 use sheet::columns::room;
@@ -20,7 +21,7 @@ use sheet::row::RowId;
 use sheet::row::Source;
 use sheet::slice::check_slice;
 ghost use mathlib.Core.Path.{_≡_};
-ghost use Prim.Native.Nat.{_+_, _-_, _*_, _≤_};
+ghost use Prim.Native.Nat.{_+_, _*_, _≤_};
 ghost use lib.ListN.{length};
 ghost use lib.Seq.{sets};
 ghost use Rattle.attempt.specs.Attempt.{kinds};
@@ -160,13 +161,6 @@ fn put_found(
         cols,
         n * (WORDS_PER_ENTRY * columns),
     );
-}
-
-// The offset at which a scan of so many bytes is through.
-fn last_of(len: usize) -> usize
-    ensures { λ r. ⌜ r ≡ len - 2 ⌝ }
-{
-    if len < 2 { 0 } else { len - 2 }
 }
 
 fn run(

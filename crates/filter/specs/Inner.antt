@@ -114,7 +114,7 @@ pub record OnIs (s hints : List ℕ) (o last : ℕ) (over : Over) : Type 0 where
   pub further : o < last → o < over .to
 
 abbrev pub StepSays : List ℕ → List ℕ → ℕ → ℕ → Step → Type 0
-StepSays s hints o last (Stands x) = (o < last) × HitIs s hints o (attemptAt s hints o) (attemptPlaces s o) x
+StepSays s hints o last (Stands x run) = (o < last) × HitIs s hints o (attemptAt s hints o) (attemptPlaces s o) x × IsHigh s run
 StepSays s hints o last (On over) = OnIs s hints o last over
 
 abbrev pub NextSays : List ℕ → List ℕ → ℕ → ℕ → Next → Type 0

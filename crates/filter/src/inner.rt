@@ -31,9 +31,9 @@ struct Over {
     run: High,
 }
 
-// A row that starts here, or how far it is passed over.
+// A row that starts here, with the run that was met last, or how far it is passed over.
 enum Step {
-    Row(Find),
+    Row { find: Find, run: High },
     On(Over),
 }
 
@@ -212,12 +212,14 @@ fn one_step(bytes: &[u8], hints: &[u8], o: usize, last: usize, run: High) -> Ste
     if over.to > o {
         return Step::On(over);
     }
+    // The run is kept, or each offset in it would look for its ends anew.
+    let met = over.run;
     match attempt(bytes, hints, o) {
-        Verdict::Hit(find) => Step::Row(find),
+        Verdict::Hit(find) => Step::Row { find, run: met },
         Verdict::Miss(read) => Step::On(Over {
             to: o + 1,
             read,
-            run,
+            run: met,
         }),
     }
 }
@@ -237,21 +239,20 @@ pub fn next_row(bytes: &[u8], hints: &[u8], start: usize, last: usize, run: High
 {
     let mut at = start;
     let mut read: usize = 0;
-    let mut met = run;
     // Rows often stand one behind the other, so the first step is the slow one.
     let mut step = one_step(bytes, hints, start, last, run);
     loop {
         match step {
-            Step::Row(find) => {
+            Step::Row { find, run: high } => {
                 return Next::Row {
                     at,
                     find,
                     read,
-                    run: met,
+                    run: high,
                 };
             }
             Step::On(over) => {
-                met = over.run;
+                let met = over.run;
                 let seen = pass_seen(bytes, hints, over.to, last);
                 read = read + over.read + seen.read;
                 at = seen.to;

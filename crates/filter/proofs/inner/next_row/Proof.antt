@@ -7,22 +7,22 @@ use borrow.Author.Needs.{needs}
 use denote.Ref.{now}
 use lib.ListN.{length}
 use Rattle.record.proofs.Numbers.{by-order}
-use Rattle.filter.specs.Inner.{Went, IsHigh, OnIs, StepSays}
+use Rattle.filter.specs.Inner.{Went, OnIs, StepSays}
 use Rattle.filter.proofs.Laws.{went-none, went-on, went-few}
 use Rattle.filter.proofs.inner.next_row.Statement.{statement}
 use Rattle.filter.proofs.inner.next_row.Tie as tie
 
 abbrev Inv-loop : tie.InvT-loop
-Inv-loop bytes hints start last at₀ read₀ met₀ step₀ at read met step = Went bytes hints start last at read × IsHigh bytes met × StepSays bytes hints at last step
+Inv-loop bytes hints start last at₀ read₀ step₀ at read step = Went bytes hints start last at read × StepSays bytes hints at last step
 
 abbrev μ-loop : tie.MeasureT-loop
-μ-loop bytes hints start last at₀ read₀ met₀ step₀ at read met step = last - at
+μ-loop bytes hints start last at₀ read₀ step₀ at read step = last - at
 
 -- a step on,
 stepped : (c : tie.After-pass-seen Inv-loop μ-loop) →
     let a = c .before .before .before .before .before .before .before .before .before .args in
     OnIs (now (a .bytes)) (now (a .hints)) (c .before .before .before .before .before .loop .at) (a .last) (c .before .before .before .step2 .given .0 .0)
-stepped c = rw (c .before .before .before .step2 .given .1) at (c .before .before .before .before .before .loop .inv .2)
+stepped c = rw (c .before .before .before .step2 .given .1) at (c .before .before .before .before .before .loop .inv .1)
 
 -- and what is passed over with it, and behind it
 further : (c : tie.After-pass-seen Inv-loop μ-loop) →
@@ -41,7 +41,7 @@ one-step-requires : tie.Need-one-step-requires Inv-loop μ-loop
 one-step-requires c κs = let p = c .before .before .pre in ((omega (arith, p .0 .0), p .0 .1, p .0 .2), p .1)
 
 loop-holds : tie.Need-loop-holds Inv-loop μ-loop
-loop-holds c = (went-none _ _ _ _, c .before .before .before .pre .1, c .one-step .ensures)
+loop-holds c = (went-none _ _ _ _, c .one-step .ensures)
 
 enum-known-step : tie.Need-enum-known-step Inv-loop μ-loop
 enum-known-step c = search needs
@@ -49,8 +49,8 @@ enum-known-step c = search needs
 returns : tie.Need-returns Inv-loop μ-loop
 returns c =
     let i = c .before .before .before .loop .inv in
-    let r = rw (c .before .step .given .1) at (i .2) in
-    record { passed = i .0 .passed; below = r .0; found = r .1; run-is = i .1 }
+    let r = rw (c .before .step .given .1) at (i .1) in
+    record { passed = i .0 .passed; below = r .0; found = r .1; run-is = r .2 }
 
 enum-known-step-2 : tie.Need-enum-known-step-2 Inv-loop μ-loop
 enum-known-step-2 c = search needs
@@ -78,7 +78,7 @@ loop-less c =
     omega (arith, lt, k .pass-seen .ensures .passed .to-is, s .met .went .passed .to-is, s .further (omega (arith, lt, k .pass-seen .ensures .passed .to-is, s .met .went .passed .to-is)))
 
 loop-again : tie.Need-loop-again Inv-loop μ-loop
-loop-again c = (gone (c .before .before .before .before), stepped (c .before .before .before .before) .met .run-is, c .one-step2 .ensures)
+loop-again c = (gone (c .before .before .before .before), c .one-step2 .ensures)
 
 pub next-row-spec : {M : Type 1} → statement M
 next-row-spec =

@@ -28,18 +28,17 @@ enum-known-find c = search needs
 enum-known-read : tie.Need-enum-known-read
 enum-known-read c = search needs
 
-add-t13 : tie.Need-add-t13
-add-t13 c = search needs
+add-t14 : tie.Need-add-t14
+add-t14 c = search needs
 
 returns-3 : tie.Need-returns-3
-returns-3 c = (c .before .before .before .before .before .before .before .if1 .left, rw (c .before .find .given .1) at (c .before .before .before .attempt .ensures))
+returns-3 c = (c .before .before .before .before .before .before .before .before .if1 .left, rw (c .before .find .given .1) at (c .before .before .before .attempt .ensures), c .before .before .before .before .before .before .before .pass-run .ensures .run-is)
 
 returns-4 : tie.Need-returns-4
 returns-4 c =
-    let a = c .before .before .before .before .before .before .before .before .before .before in
     let m = rw (c .before .read .given .1) at (c .before .before .before .attempt .ensures) in
     record {
-      met = record { went = went-first _ _ _ _ _ (c .before .before .before .before .before .before .before .if1 .left) m; run-is = a .pre .1 };
+      met = record { went = went-first _ _ _ _ _ (c .before .before .before .before .before .before .before .before .if1 .left) m; run-is = c .before .before .before .before .before .before .before .pass-run .ensures .run-is };
       further = λ _. omega arith;
     }
 
@@ -53,6 +52,6 @@ one-step-spec =
     attempt-requires
     enum-known-find
     enum-known-read
-    add-t13
+    add-t14
     returns-3
     returns-4)

@@ -1,18 +1,13 @@
 # A row of the table that bench/run prints, out of the variables that it sets: counts are of whole runs, or "-" where nothing
 # counts; times are two numbers of nanoseconds, the first of them "none" where the Rust has no such call.
 
-function thousands(n,    text) {
-    text = sprintf("%.0f", n)
-    while (text ~ /[0-9][0-9][0-9][0-9]($|,)/) text = gensub_once(text)
-    return text
-}
-
-# A comma before the last three digits that have none.
-function gensub_once(text,    at) {
-    match(text, /[0-9][0-9][0-9]($|,)/)
-    at = RSTART
-    while (match(substr(text, at + 1), /^[0-9][0-9][0-9]($|,)/)) at++
-    return substr(text, 1, at - 1) "," substr(text, at)
+function thousands(n,    left, right) {
+    left = sprintf("%.0f", n)
+    while (length(left) > 3) {
+        right = "," substr(left, length(left) - 2) right
+        left = substr(left, 1, length(left) - 3)
+    }
+    return left right
 }
 
 function share(a, b) {
@@ -27,6 +22,7 @@ function span(nanoseconds) {
 
 BEGIN {
     split(times, time, " ")
+    # How much, of what, and how many rows or the like were found.
     split(size, sized, " ")
     given = time[1] != "none"
     counted = none != "-"
@@ -34,6 +30,6 @@ BEGIN {
     o = counted ? thousands(ours - none) : "not measured"
     of_count = counted && given ? share(rust - none, ours - none) : "-"
     each = counted ? share(ours - none, sized[1]) : "-"
-    printf "| %s | %s | %s %s | %s | %s | %s | %s | %s | %s | %s |\n", call, input, thousands(sized[1]), sized[2], r, o, of_count, each,
+    printf "| %s | %s | %s %s | %s | %s | %s | %s | %s | %s | %s | %s |\n", call, input, thousands(sized[1]), sized[2], thousands(sized[3]), r, o, of_count, each,
         given ? span(time[1]) : "none", span(time[2]), given ? share(time[1], time[2]) : "-"
 }

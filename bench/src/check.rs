@@ -1,17 +1,19 @@
 //! Whether both sides' answers are equal.
 
-use crate::calls::{self, Given, GAPS, LEARN, MODES, RECOVER, UNALLOC};
+use crate::calls::*;
+use crate::calls::{self, Given};
 use crate::case::Case;
-use crate::rules::limits::Limits;
+use crate::rules::limits::{Limits, WORDS_PER_ENTRY};
 use crate::work::{Prepared, Work};
 
 const DIFFERENT: i32 = 1;
 
-/// Prints how much was compared, or what differs.
+/// Prints how much was compared and how many rows, places or the like were found; or what differs.
 pub fn print(work: &Work) -> i32 {
     match differs(work) {
         Ok(found) => {
-            println!("equal: {} {}, {found} found", size(work), unit(work));
+            let (size, unit) = size(work);
+            println!("equal: {size} {unit} {found}");
             0
         }
         Err(why) => {
@@ -21,25 +23,16 @@ pub fn print(work: &Work) -> i32 {
     }
 }
 
-/// What a cost is divided by: the bytes lent, or the calls where one is made with each of many numbers.
-fn size(work: &Work) -> u64 {
-    match unit(work) {
-        "calls" => work.calls(),
-        _ => work.case.slices[0].len() as u64,
+/// What a cost is divided by: the bytes lent, or what else there is more or less of.
+fn size(work: &Work) -> (u64, &'static str) {
+    match work.case.call {
+        LEARN => (work.case.words[0].len() as u64 / WORDS_PER_ENTRY as u64, "values"),
+        READ_VARINT | BODY_LENGTH | DECODE | READ_ENTRY | COMPATIBLE | PAGE_DATA => (work.calls(), "calls"),
+        MODES if work.calls() > 1 => (work.calls(), "calls"),
+        _ => (work.case.slices[0].len() as u64, "bytes"),
     }
 }
 
-/// A call that is made at every offset of a slice is counted by its bytes.
-fn unit(work: &Work) -> &'static str {
-    let bytes = work.case.slices.first().map_or(0, |s| s.len() as u64);
-    match work.calls() {
-        1 => "bytes",
-        calls if calls == bytes => "bytes",
-        _ => "calls",
-    }
-}
-
-/// How many rows, places or the like were found in all.
 fn differs(work: &Work) -> Result<u64, String> {
     let mut prepared = Prepared::new(work);
     let mut case = work.case.clone();

@@ -12,8 +12,9 @@ mod rows;
 mod rust;
 mod work;
 
-/// The calls as the wrapper declares them.
+/// The calls as the wrapper declares them, in the wrapper's layout.
 #[allow(dead_code)]
+#[rustfmt::skip]
 #[path = "../../wrapper/src/door.rs"]
 mod door;
 
@@ -75,7 +76,6 @@ fn once(work: &work::Work, side: &str) {
     let mut prepared = Prepared::new(work);
     match (side, &prepared.rust) {
         ("ours", _) => prepared.run_ours(work),
-        // What the Rust returns is left as it is: taking it apart is not the call's.
         ("rust", Some(rust)) => std::mem::forget(rust(work.values.clone())),
         _ => {}
     }

@@ -104,8 +104,9 @@ fn learned(all: &mut Vec<Measure>) {
             let case = Case::new(LEARN, &[width as u64], &[&rows::bytes()], &[width]);
             Work::once(case.with_words(&[&entries]))
         };
-        add(all, LEARN, format!("few types/1024 rows of {width}"), move || work(rows::few_types(width)));
-        add(all, LEARN, format!("at worst/1024 rows of {width}"), move || work(rows::many_types(width)));
+        add(all, LEARN, format!("one type/1024 rows of {width}"), move || work(rows::one_type(width)));
+        add(all, LEARN, format!("two types/1024 rows of {width}"), move || work(rows::two_types(width)));
+        add(all, LEARN, format!("1023 types/1024 rows of {width}"), move || work(rows::many_types(width)));
     }
 }
 
@@ -189,7 +190,8 @@ fn of_database(call: u8, size: usize) -> Result<Work, String> {
 }
 
 fn searches(all: &mut Vec<Measure>) {
-    let patterns: [(&str, &[u8]); 3] = [("3 bytes", b"wet"), ("20 bytes", b"clay below, wet here"), ("64 bytes", &[7; 64])];
+    let patterns: [(&str, &[u8]); 3] =
+        [("3 bytes", b"wet"), ("20 bytes", b"clay below, wet here"), ("64 bytes", &[7; 64])];
     for (size, length) in [SMALL, MIDDLE] {
         for name in ["text", "random"] {
             for (long, pattern) in patterns {
@@ -228,12 +230,14 @@ fn values(all: &mut Vec<Measure>) {
             Work { values: 0..work.values.end - length, ..work }
         });
     }
-    add(all, BODY_LENGTH, "types/65536".into(), || {
-        Work { case: Case::new(BODY_LENGTH, &[0], &[], &[]), values: 0..TIMES }
+    add(all, BODY_LENGTH, "types/65536".into(), || Work {
+        case: Case::new(BODY_LENGTH, &[0], &[], &[]),
+        values: 0..TIMES,
     });
     for hint in 0..6 {
-        add(all, COMPATIBLE, format!("hint {hint}/65536"), move || {
-            Work { case: Case::new(COMPATIBLE, &[hint, 0], &[], &[]), values: 0..TIMES }
+        add(all, COMPATIBLE, format!("hint {hint}/65536"), move || Work {
+            case: Case::new(COMPATIBLE, &[hint, 0], &[], &[]),
+            values: 0..TIMES,
         });
     }
 }

@@ -37,9 +37,8 @@ impl Lent {
     /// What a call wrote, as the oracle has it.
     pub fn written(&self, call: u8, written: usize, width: usize) -> Vec<Vec<u64>> {
         let bytes = |n: usize| self.bytes[..n].iter().map(|&b| u64::from(b)).collect();
-        let sheet = || {
-            [self.rows[..WORDS_PER_ROW * written].to_vec(), self.cols[..WORDS_PER_ENTRY * width * written].to_vec()]
-        };
+        let sheet =
+            || [self.rows[..WORDS_PER_ROW * written].to_vec(), self.cols[..WORDS_PER_ENTRY * width * written].to_vec()];
         let walk = || vec![bytes(self.bytes.len()), self.stack.clone()];
         match call {
             STATEMENT => vec![bytes(written)],
@@ -77,7 +76,7 @@ fn made<const N: usize>(call: impl Fn(&Case, &mut Lent, u64) -> door::Answer<N> 
     };
     let all = move |case: &Case, lent: &mut Lent, values| {
         for value in values {
-            black_box(call(case, lent, value));
+            black_box(&call(case, lent, value));
         }
     };
     Ours { one: Box::new(one), all: Box::new(all) }
@@ -92,9 +91,7 @@ pub fn of(call: u8) -> Ours {
         COMPATIBLE => made(|c, _, v| door::is_compatible(c.numbers[0] as u8, v)),
         STATEMENT => made(|c, l, _| door::from_create_sql(&c.slices[0], &mut l.bytes)),
         SEARCH => made(|c, l, _| door::boyer_moore_search(&c.slices[0], &c.slices[1], &mut l.rows)),
-        LEARN => {
-            made(|c, l, _| door::learn_signatures(&c.slices[0], c.numbers[0] as usize, &c.words[0], &mut l.rows))
-        }
+        LEARN => made(|c, l, _| door::learn_signatures(&c.slices[0], c.numbers[0] as usize, &c.words[0], &mut l.rows)),
         PAGE_DATA | LEAVES | RECOVER | GAPS | RECOVER_PAGE | GAP_PAGE => of_database(call),
         _ => of_region(call),
     }
@@ -113,9 +110,7 @@ fn of_database(call: u8) -> Ours {
             let (db, hints) = (&c.slices[0], &c.slices[1]);
             door::recover_page_freeblocks(db, c.numbers[0], v, hints, &mut l.rows, &mut l.cols)
         }),
-        _ => made(|c, l, v| {
-            door::scan_page_gap(&c.slices[0], c.numbers[0], v, &c.slices[1], &mut l.rows, &mut l.cols)
-        }),
+        _ => made(|c, l, v| door::scan_page_gap(&c.slices[0], c.numbers[0], v, &c.slices[1], &mut l.rows, &mut l.cols)),
     }
 }
 
@@ -145,11 +140,9 @@ fn of_region(call: u8) -> Ours {
         BLOCK => made(|c, l, _| {
             door::parse_cells_from_freeblock(&c.slices[0], c.numbers[0], &c.slices[1], &mut l.rows, &mut l.cols)
         }),
-        MODES => made(|c, l, v| {
-            door::carve_freeblock(&c.slices[0], v, c.numbers[1] as usize, &mut l.rows, &mut l.cols)
-        }),
-        _ => made(|c, l, _| {
-            door::carve_unallocated(&c.slices[0], &c.words[0], c.numbers[0], &mut l.rows, &mut l.cols)
-        }),
+        MODES => {
+            made(|c, l, v| door::carve_freeblock(&c.slices[0], v, c.numbers[1] as usize, &mut l.rows, &mut l.cols))
+        }
+        _ => made(|c, l, _| door::carve_unallocated(&c.slices[0], &c.words[0], c.numbers[0], &mut l.rows, &mut l.cols)),
     }
 }

@@ -16,8 +16,12 @@ fn entries(width: usize, length: impl Fn(usize) -> u64) -> Vec<u64> {
     (0..ROWS).flat_map(|i| entry(i).repeat(width)).collect()
 }
 
-/// Texts of two lengths in each column, one of them in most rows.
-pub fn few_types(width: usize) -> Vec<u64> {
+pub fn one_type(width: usize) -> Vec<u64> {
+    entries(width, |_| 20)
+}
+
+/// Texts of two lengths in each column, one of them in every third row.
+pub fn two_types(width: usize) -> Vec<u64> {
     entries(width, |i| if i % 3 == 0 { 5 } else { 20 })
 }
 

@@ -30,6 +30,7 @@ BEGIN {
     o = counted ? thousands(ours - none) : "not measured"
     of_count = counted && given ? share(rust - none, ours - none) : "-"
     each = counted ? share(ours - none, sized[1]) : "-"
-    printf "| %s | %s | %s %s | %s | %s | %s | %s | %s | %s | %s | %s |\n", call, input, thousands(sized[1]), sized[2], thousands(sized[3]), r, o, of_count, each,
-        given ? span(time[1]) : "none", span(time[2]), given ? share(time[1], time[2]) : "-"
+    printf "| %s | %s | %s %s | %s ", call, input, thousands(sized[1]), sized[2], thousands(sized[3])
+    printf "| %s | %s | %s | %s ", r, o, of_count, each
+    printf "| %s | %s | %s |\n", given ? span(time[1]) : "none", span(time[2]), given ? share(time[1], time[2]) : "-"
 }

@@ -14,7 +14,6 @@ mod runner;
 mod selftest;
 mod server;
 mod shrink;
-mod speed;
 mod tablets;
 mod tally;
 mod text;
@@ -55,9 +54,6 @@ fn run(options: &Options) -> bool {
     }
     if options.self_test {
         return selftest::run(&options.server);
-    }
-    if options.speed {
-        return speed::run(&options.server, options.seed).unwrap_or_else(|e| fatal(&e));
     }
     let mut runner = Runner::new(Limits::of_the_rules(), &options.server, Sides::Both);
     if let Some(line) = &options.case {

@@ -8,7 +8,6 @@ pub struct Options {
     /// An archive that does not have every call yet is no failure.
     pub partial: bool,
     pub self_test: bool,
-    pub speed: bool,
     pub record: Option<String>,
     pub case: Option<String>,
     pub tablets: Option<String>,
@@ -23,7 +22,6 @@ const SEED: u64 = 20_261_115;
 pub const USAGE: &str = "usage: oracle [--seed N] [--cases N] [--long] [--partial] -- SERVER [WORD..]
        oracle --case 'LINE' -- SERVER [WORD..]     one case, as a difference prints it
        oracle --self-test -- SERVER [WORD..]       a changed constant must be found
-       oracle --speed -- SERVER [WORD..]           how long a scan takes each side
        oracle --tablets DIR -- SERVER [WORD..]     what comes back of real databases
        oracle [--seed N] --record DIR              cases and answers, to be replayed without the Rust";
 
@@ -35,7 +33,6 @@ pub fn parse(words: impl Iterator<Item = String>) -> Result<Options, String> {
         long: false,
         partial: false,
         self_test: false,
-        speed: false,
         record: None,
         case: None,
         tablets: None,
@@ -50,7 +47,6 @@ pub fn parse(words: impl Iterator<Item = String>) -> Result<Options, String> {
             "--long" => options.long = true,
             "--partial" => options.partial = true,
             "--self-test" => options.self_test = true,
-            "--speed" => options.speed = true,
             "--record" => options.record = Some(value()?),
             "--case" => options.case = Some(value()?),
             "--tablets" => options.tablets = Some(value()?),

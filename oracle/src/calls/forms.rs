@@ -114,7 +114,7 @@ pub struct Rooted {
     pub signature: SchemaSignature,
 }
 
-fn rooted(index: usize, root: u32, hints: &[u8]) -> Option<Rooted> {
+pub fn rooted(index: usize, root: u32, hints: &[u8]) -> Option<Rooted> {
     Some(Rooted { root, signature: SchemaSignature { table_name: index.to_string(), ..signature(hints)? } })
 }
 

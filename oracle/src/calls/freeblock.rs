@@ -50,7 +50,7 @@ fn said(record: RecoveredRecord) -> Said {
 }
 
 /// The Rust's rows of one page, out of the parts that its walk is made of.
-fn rust_page(signature: &SchemaSignature, page: &[u8], head: usize, base: u64) -> Vec<Said> {
+pub fn rust_page(signature: &SchemaSignature, page: &[u8], head: usize, base: u64) -> Vec<Said> {
     let mut rows = Vec::new();
     for block in collect_freeblocks(page, head) {
         let payload = &block.data[4..];
@@ -91,14 +91,19 @@ fn rust_tables(tables: &[Rooted], db: &[u8], size: u64) -> Vec<Said> {
 }
 
 fn rust_table(table: &Rooted, db: &[u8], size: u64) -> Vec<RecoveredRecord> {
-    recover_freeblocks(&RecoveryContext {
+    recover_freeblocks(&context(table, db, size))
+}
+
+/// What the Rust is told of one table.
+pub fn context<'a>(table: &Rooted, db: &'a [u8], size: u64) -> RecoveryContext<'a> {
+    RecoveryContext {
         db,
         page_size: size as u32,
         header: &DbHeader,
         table_roots: HashMap::from([(table.signature.table_name.clone(), table.root)]),
         schema_signatures: vec![table.signature.clone()],
         pragma_info: PragmaInfo,
-    })
+    }
 }
 
 pub fn given_tables(case: &Case, answer: &Answer) -> Given {

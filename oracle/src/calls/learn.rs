@@ -13,7 +13,7 @@ use given::unalloc::{carve_unallocated, learn_signatures, ColumnPattern, Signatu
 use given::{EvidenceSource, UnallocatedRegion};
 
 /// The whole groups of a list of entries; the rest behind them is not read.
-fn groups(case: &Case) -> std::slice::ChunksExact<'_, u64> {
+pub fn groups(case: &Case) -> std::slice::ChunksExact<'_, u64> {
     let width = (case.numbers[0] as usize).clamp(1, 1 << 32);
     case.words[0].chunks_exact(WORDS_PER_ENTRY * width)
 }
@@ -37,7 +37,7 @@ pub fn learn(limits: &Limits, case: &Case) -> Answer {
 }
 
 /// A row as the Rust has it: the values that it decodes itself.
-fn record(group: &[u64], bytes: &[u8]) -> RecoveredRecord {
+pub fn record(group: &[u64], bytes: &[u8]) -> RecoveredRecord {
     let used = group.chunks(WORDS_PER_ENTRY).take_while(|entry| entry[0] != 3);
     let value = |entry: &[u64]| match entry[0] {
         0 => decode_serial_type(entry[1], bytes, entry[2] as usize).map_or(SqlValue::Null, |v| v.0),
@@ -99,14 +99,18 @@ pub fn carve(limits: &Limits, case: &Case) -> Answer {
     sheet.answer(if whole { End::Through } else { End::NoRoom }, Vec::new())
 }
 
+/// Types as the Rust has learned them.
+pub fn database(types: &[u64]) -> SignatureDb {
+    let pattern = |(col_index, &serial_type_hint)| ColumnPattern { table: String::new(), col_index, serial_type_hint };
+    SignatureDb { patterns: types.iter().enumerate().map(pattern).collect() }
+}
+
 pub fn given_carve(case: &Case, answer: &Answer) -> Given {
     if !matches!(answer.number, 0 | 9) {
         return Given::NotAsked;
     }
     let (region, types, base) = (&case.slices[0], &case.words[0], case.numbers[0]);
-    let pattern = |(col_index, &serial_type_hint)| ColumnPattern { table: String::new(), col_index, serial_type_hint };
-    let database = SignatureDb { patterns: types.iter().enumerate().map(pattern).collect() };
-    let rust = carve_unallocated(&UnallocatedRegion { offset: base, data: region.clone() }, &database, "");
+    let rust = carve_unallocated(&UnallocatedRegion { offset: base, data: region.clone() }, &database(types), "");
     let width = types.len();
     let rows: Vec<Said> =
         rust.into_iter().map(|record| Said { record, mode: 0, header: Header::UpTo(width) }).collect();

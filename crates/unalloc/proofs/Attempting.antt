@@ -7,12 +7,12 @@ use mathlib.Core.List.{List}
 use native.Mathlib.Omega.{arith}
 use borrow.Author.Tests.{le-leb, lt-leb, le-ltb, lt-ltb}
 use lib.Dec.{ltb}
-use lib.ListN.{length}
+use lib.ListN.{length, getD}
 use Rattle.carve.proofs.Reading.{typed}
 use Rattle.carve.proofs.Trying.{find-fits, again}
 use Rattle.carve.specs.Found.{Types, cut, read, typesFrom, columnsFrom, Found, miss, hit}
 use Rattle.carve.specs.Inner.{WholeIs, HitIs}
-use Rattle.record.proofs.Laws.{varint-lies}
+use Rattle.record.proofs.Laws.{varint-lies, varint-low, varint-large}
 use Rattle.record.proofs.Numbers.{by-order}
 use Rattle.record.specs.Varint.{varintAt}
 use Rattle.record.specs.declared.varint.Cursor.{Cursor}
@@ -112,6 +112,20 @@ module _ (s ls : List ℕ) (o : ℕ) where
       headed small few =
           let v = varint-lies s o h c e in
           record { small = small; few = few; inside = v .inside; within = omega (arith, v .past, v .inside) }
+
+-- ---- the first byte
+module _ (s ls : List ℕ) (o first : ℕ) (inside : o < length s) (is : first ≡ getD s o 0) where
+  pub begins-empty : first ≡ 0 → attemptAt s ls o ≡ miss
+  begins-empty z =
+      let v = varint-low s o inside (omega arith) in
+      attempt-bad s ls o _ _ v (λ p q r. omega arith)
+
+  pub begins-large : 133 ≤ first → first < 256 → attemptAt s ls o ≡ miss
+  begins-large big byte = go (varintAt s o) refl
+    where
+      go : (v : Varint) → varintAt s o ≡ v → attemptAt s ls o ≡ miss
+      go (Value n c) e = attempt-bad s ls o n c e (λ p q r. omega (arith, varint-large s o (rw is at big) (rw is at byte) n c e))
+      go Short e = attempt-short s ls o e
 
 -- ---- a row that is found: it stands where it was looked for, its bodies start behind that, in the region, and it has no more columns than were learned
 pub record AttemptIs (s ls : List ℕ) (o : ℕ) (x : Found) : Type 0 where

@@ -5,6 +5,7 @@ use carve::inner::Tried;
 use carve::inner::behind;
 use carve::inner::column_at;
 use carve::inner::put_find;
+use record::inner::wide;
 use record::varint::Cursor;
 use record::varint::Varint;
 use sheet::LARGEST_BASE;
@@ -182,6 +183,22 @@ fn try_parse_record(region: &[u8], types: &[u64], o: usize) -> Tried
     })
 }
 
+// Most bytes begin no header: it is empty, or its length is above 512.
+fn try_at(region: &[u8], types: &[u64], o: usize) -> Tried
+    requires { ⌜ (o < length (now region)) × (length (now region) ≤ largestRegion) ⌝ }
+    requires { ⌜ (1 ≤ length (now types)) × (length (now types) ≤ mostColumns) ⌝ }
+    ensures { λ r. ⌜ TriedIs (now (region .entry)) (length (now (types .entry))) (attemptAt (now (region .entry)) (now (types .entry)) o) r ⌝ }
+{
+    let first = wide(region[o]);
+    if first == 0 {
+        return Tried::Miss;
+    }
+    if first > 132 {
+        return Tried::Miss;
+    }
+    try_parse_record(region, types, o)
+}
+
 fn carve_rows(
     region: &[u8],
     types: &[u64],
@@ -197,7 +214,7 @@ fn carve_rows(
     let mut o: usize = 0;
     let mut n: usize = 0;
     while o + least <= region.len() {
-        match try_parse_record(region, types, o) {
+        match try_at(region, types, o) {
             Tried::Miss => {
                 o = o + 1;
             }

@@ -27,8 +27,8 @@ loop-holds c = rows-start _ _ _ _ _ _
 add-loop : tie.Need-add-loop Inv-loop μ-loop
 add-loop c = omega (arith, c .loop .inv .inside, c .before .before .before .before .before .pre .small, c .before .before .before .before .before .pre .few)
 
-try-parse-record-requires : tie.Need-try-parse-record-requires Inv-loop μ-loop
-try-parse-record-requires c κs = ((c .before .loop .inv .inside, c .before .before .before .before .before .before .pre .small), (c .before .before .before .before .before .before .pre .some, c .before .before .before .before .before .before .pre .few))
+try-at-requires : tie.Need-try-at-requires Inv-loop μ-loop
+try-at-requires c κs = ((omega (arith, c .loop-test .taken), c .before .before .before .before .before .before .pre .small), (c .before .before .before .before .before .before .pre .some, c .before .before .before .before .before .before .pre .few))
 
 enum-told : tie.Need-enum-told Inv-loop μ-loop
 enum-told c = search needs
@@ -40,14 +40,14 @@ loop-less : tie.Need-loop-less Inv-loop μ-loop
 loop-less c = omega (arith, c .before .before .before .loop-test .taken)
 
 loop-again : tie.Need-loop-again Inv-loop μ-loop
-loop-again c = rows-missed _ _ _ _ _ _ _ _ _ _ (c .before .before .before .before .loop .inv) (c .before .before .before .loop-test .taken) (rw (c .enum-told .given .1) at (c .before .before .try-parse-record .ensures))
+loop-again c = rows-missed _ _ _ _ _ _ _ _ _ _ (c .before .before .before .before .loop .inv) (c .before .before .before .loop-test .taken) (rw (c .enum-told .given .1) at (c .before .before .try-at .ensures))
 
 enum-known-find : tie.Need-enum-known-find Inv-loop μ-loop
 enum-known-find c = search needs
 
 -- the row that was found
 found : (c : tie.After-known-told Inv-loop μ-loop) → let a = c .before .before .before .before .before .before .before .before .before .before .args in HitIs (now (a .region)) (length (now (a .types))) (attemptAt (now (a .region)) (now (a .types)) (c .before .before .before .before .before .loop .o)) (c .before .find .given .0 .0)
-found c = rw (c .before .find .given .1) at (c .before .before .before .try-parse-record .ensures)
+found c = rw (c .before .find .given .1) at (c .before .before .before .try-at .ensures)
 
 same-length : tie.Need-same-length Inv-loop μ-loop
 same-length c = c .before .before .before .before .before .before .loop .inv .carving .long
@@ -91,7 +91,7 @@ carve-rows-spec =
     add-least
     loop-holds
     add-loop
-    try-parse-record-requires
+    try-at-requires
     enum-told
     add-o
     loop-less

@@ -61,7 +61,7 @@ module _ (s hints : List ℕ) (o h from : ℕ) (head : Headed s o h from) where
       cut-off : isWhole ts ≡ false → judgedWhole (length s) hints o h ts ≡ miss
       cut-off e = rw e
 
-  module _ (matched total end : ℕ) (w : WholeIs s hints ts matched total end) where
+  module _ (count matched total end : ℕ) (w : WholeIs s hints ts count matched total end) where
     -- what the tests between are for
     pub end-past : (o ≤ end) × (total ≤ 65537)
     end-past =
@@ -73,17 +73,17 @@ module _ (s hints : List ℕ) (o h from : ℕ) (head : Headed s o h from) where
         let r = read-all in
         record { misses = rw (w .is-whole) e; counts = omega (arith, w .ends); few = omega (arith, w .ends) }
 
-    pub judge-hit : length (kinds ts) ≡ length hints → 0 < matched → h + total ≤ length s - o → h + total ≤ mostBytes
+    pub judge-hit : count ≡ length hints → 0 < matched → h + total ≤ length s - o → h + total ≤ mostBytes
         → HitIs s hints o (judgedWhole (length s) hints o h ts) places (record { head = h; from = from; consumed = h + total; matched = matched; read = end - o })
     judge-hit c m in′ fit =
         let r = read-all in
         let t = total-min 0 (kinds ts) (omega arith) in
-        let e = hit-total (length s) hints o h (kinds ts) (head .inside) c (omega (arith, w .matches)) (omega (arith, w .totals)) (omega (arith, w .totals)) in
+        let e = hit-total (length s) hints o h (kinds ts) (head .inside) (w .counts ∙ c) (omega (arith, w .matches)) (omega (arith, w .totals)) (omega (arith, w .totals)) in
         record {
           hits = rw (w .is-whole) (rw (w .totals, w .matches) at e);
           counts = omega (arith, w .ends);
           few = omega (arith, w .ends);
-          columns = c;
+          columns = w .counts ∙ c;
           bodies = omega (arith, w .totals);
           inside = omega (arith, head .inside);
           headed = head;

@@ -109,11 +109,7 @@ module _ (s : List ℕ) (stop : ℕ) (inside : stop ≤ length s) where
             (f, omega (arith, z .past), λ q. let r = rw (types-step f s at stop t c lt e) at (g q) in (r .0, omega (arith, r .1)))
         go Short e = (f, omega arith, λ q. let r = rw (types-cut f s at stop lt e) at (g q) in never (r .0))
 
-    -- as many, too few, and too many
-    pub skipped-all : stop ≤ at → Skipped s stop w at k → isWhole w ≡ true → length (kinds w) ≡ k
-    unfolding Skipped
-    skipped-all ge (f, h, g) e = let r = rw (types-end f s at stop ge) at (g e) in omega (arith, r .1)
-
+    -- too few, and too many
     pub skipped-few : (n : ℕ) → stop ≤ at → k < n → Skipped s stop w at k → isWhole w ≡ true → length (kinds w) ≡ n → ⊥
     unfolding Skipped
     skipped-few n ge lt (f, h, g) e c = let r = rw (types-end f s at stop ge) at (g e) in omega (arith, r .1)

@@ -108,12 +108,13 @@ module _ (s hints : List ℕ) (w : Types) (at stop count matched total : ℕ) wh
   left-cut h e (zero, k, a) = absurd (omega arith)
   left-cut h e (suc f, k, a) = let b = rw (types-cut f s at stop h e) at a in b .whole-is
 
-  pub left-end : stop ≤ at → Left s hints w at stop count matched total → Walked s hints w (Whole matched total at)
+  pub left-end : stop ≤ at → Left s hints w at stop count matched total → Walked s hints w (Whole count matched total at)
   unfolding Left totalFrom
   left-end h (f, k, a) =
       let b : Along s hints w (ended at) count matched total = rw (types-end f s at stop h) at a in
       record {
         is-whole = b .whole-is;
+        counts = omega (arith, b .count-is);
         matches = omega (arith, b .matched-is);
         totals = b .total-is;
         ends = b .reach-is;

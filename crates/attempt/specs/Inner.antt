@@ -74,19 +74,20 @@ pub record Headed (s : List ℕ) (o h from : ℕ) : Type 0 where
 unfoldable pub Ends : List ℕ → Types → ℕ → ℕ → Type 0
 Ends s w at stop = (f : ℕ) × (stop ≤ at + f) × (reach s w ≡ reach s (typesFrom f s at stop))
 
--- whether types that are whole are other than n
+-- true says that types that are whole are other than n
 abbrev pub Miscounted : Types → ℕ → Bool → Type 0
 Miscounted ts n true = isWhole ts ≡ true → length (kinds ts) ≡ n → ⊥
-Miscounted ts n false = isWhole ts ≡ true → length (kinds ts) ≡ n
+Miscounted ts n false = Unit
 
-pub record WholeIs (s hints : List ℕ) (ts : Types) (matched total end : ℕ) : Type 0 where
+pub record WholeIs (s hints : List ℕ) (ts : Types) (count matched total end : ℕ) : Type 0 where
   pub is-whole : isWhole ts ≡ true
+  pub counts : length (kinds ts) ≡ count
   pub matches : suited hints (kinds ts) ≡ matched
   pub totals : totalFrom 0 (kinds ts) ≡ total
   pub ends : reach s ts ≡ end
 
 abbrev pub Walked : List ℕ → List ℕ → Types → Walk → Type 0
-Walked s hints ts (Whole matched total end) = WholeIs s hints ts matched total end
+Walked s hints ts (Whole count matched total end) = WholeIs s hints ts count matched total end
 Walked s hints ts Cut = isWhole ts ≡ false
 
 -- the types of a row that was found, and the row

@@ -5,11 +5,17 @@ ghost use Prim.Native.Nat.{_+_, _≤_};
 ghost use lib.ListN.{length};
 ghost use Rattle.attempt.specs.Inner.{headerTypes, reach, Headed, Miscounted, Ends};
 
-// Whether types that are whole are other than so many.
+// Whether types that are whole are seen to be other than so many. As many bytes as columns are most often as many types, which their
+// decoding tells.
 pub fn miscounted(columns: usize, bytes: &[u8], o: usize, head: usize, from: usize) -> bool
     requires { ⌜ Headed (now bytes) o head from ⌝ }
     ensures { λ r. ⌜ Miscounted (headerTypes (now (bytes .entry)) o head from) columns r ⌝ }
 {
+    if columns < head {
+        if from - o == head - columns {
+            return false;
+        }
+    }
     let stop = o + head;
     let mut at = from;
     let mut k: usize = 0;

@@ -25,9 +25,10 @@ ghost use Rattle.attempt.specs.Places.{attemptPlaces};
 ghost use Rattle.sheet.specs.Limits.{wordsPerEntry, largestRegion};
 ghost use Rattle.sheet.specs.Sheet.{columnsWords};
 
-// What the types of a header come to: how many suit, the length of all bodies, and where reading stopped.
+// What the types of a header come to: how many there are, how many suit, the length of all bodies, and where reading stopped.
 enum Walk {
     Whole {
+        count: usize,
         matched: u16,
         total: usize,
         end: usize,
@@ -163,6 +164,7 @@ fn walk_types(bytes: &[u8], hints: &[u8], o: usize, head: usize, from: usize) ->
         at = next.at;
     }
     Walk::Whole {
+        count,
         matched,
         total,
         end: at,
@@ -179,6 +181,7 @@ pub fn given_header(bytes: &[u8], hints: &[u8], o: usize, head: usize, from: usi
         return Verdict::Miss(types_end(bytes, o, head, from) - o);
     }
     let Walk::Whole {
+        count,
         matched,
         total,
         end,
@@ -187,6 +190,9 @@ pub fn given_header(bytes: &[u8], hints: &[u8], o: usize, head: usize, from: usi
         return Verdict::Miss(bytes.len() - o);
     };
     let read = end - o;
+    if count != hints.len() {
+        return Verdict::Miss(read);
+    }
     if matched == 0 {
         return Verdict::Miss(read);
     }

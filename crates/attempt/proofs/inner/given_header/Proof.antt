@@ -1,13 +1,11 @@
 -- `attempt::inner::given_header` meets its contract: each way out is a law of `proofs/Judging.antt`.
 -- Assumes nothing.
 use Prim.Native.Nat.{_≤_}
-use mathlib.Core.Path.{_≡_, _∙_}
+use mathlib.Core.Path.{_≡_, sym, _∙_}
 use native.Mathlib.Omega.{arith}
 use denote.Ref.{now}
-use lib.ListN.{length}
-use Rattle.attempt.specs.Attempt.{kinds}
 use Rattle.attempt.specs.Inner.{headerTypes, WholeIs}
-use Rattle.attempt.proofs.Bodies.{miss-suited, miss-total}
+use Rattle.attempt.proofs.Bodies.{miss-count, miss-suited, miss-total}
 use Rattle.attempt.proofs.Judging.{read-all, end-past, judge-cut, judge-never, judge-miss, judge-hit}
 use borrow.Author.Needs.{needs}
 use Rattle.attempt.proofs.inner.given_header.Statement.{statement}
@@ -19,8 +17,8 @@ miscounted-requires c κs = search needs
 types-end-requires : tie.Need-types-end-requires
 types-end-requires c κs = search needs
 
-sub-t14 : tie.Need-sub-t14
-sub-t14 c =
+sub-t15 : tie.Need-sub-t15
+sub-t15 c =
     let a = c .before .before .before .before .before in
     rw (c .types-end .ensures) (omega (arith, read-all (now (a .args .bytes)) (now (a .args .hints)) _ _ _ (a .pre) .0))
 
@@ -32,14 +30,14 @@ returns c =
 walk-types-requires : tie.Need-walk-types-requires
 walk-types-requires c κs = search needs
 
-enum-known-matched : tie.Need-enum-known-matched
-enum-known-matched c = search needs
+enum-known-count : tie.Need-enum-known-count
+enum-known-count c = search needs
 
 enum-told : tie.Need-enum-told
 enum-told c = search needs
 
-sub-t17 : tie.Need-sub-t17
-sub-t17 c = search needs
+sub-t18 : tie.Need-sub-t18
+sub-t18 c = search needs
 
 returns-2 : tie.Need-returns-2
 returns-2 c =
@@ -48,22 +46,16 @@ returns-2 c =
 -- what the walk found
 walked : (c : tie.After-known-told) →
     let a = c .before .before .before .before .before .before .before .before .args in
-    let w = c .before .matched .given .0 in
-    WholeIs (now (a .bytes)) (now (a .hints)) (headerTypes (now (a .bytes)) (a .o) (a .head) (a .from)) (w .0) (w .1 .0) (w .1 .1 .0)
-walked c = rw (c .before .matched .given .1) at (c .before .before .before .walk-types .ensures)
+    let w = c .before .count .given .0 in
+    WholeIs (now (a .bytes)) (now (a .hints)) (headerTypes (now (a .bytes)) (a .o) (a .head) (a .from)) (w .0) (w .1 .0) (w .1 .1 .0) (w .1 .1 .1 .0)
+walked c = rw (c .before .count .given .1) at (c .before .before .before .walk-types .ensures)
 
--- what that says of its numbers,
+-- and what that says of its numbers
 bounds : (c : tie.After-known-told) →
     let a = c .before .before .before .before .before .before .before .before .args in
-    let w = c .before .matched .given .0 in
-    (a .o ≤ w .1 .1 .0) × (w .1 .0 ≤ 65537)
-bounds c = end-past _ _ _ _ _ (c .before .before .before .before .before .before .before .before .pre) _ _ _ (walked c)
-
--- and how many types there are
-many : (c : tie.After-known-told) →
-    let a = c .before .before .before .before .before .before .before .before .args in
-    length (kinds (headerTypes (now (a .bytes)) (a .o) (a .head) (a .from))) ≡ length (now (a .hints))
-many c = rw (c .before .before .before .before .if1 .left) at (c .before .before .before .before .before .miscounted .ensures) (walked c .is-whole)
+    let w = c .before .count .given .0 in
+    (a .o ≤ w .1 .1 .1 .0) × (w .1 .1 .0 ≤ 65537)
+bounds c = end-past _ _ _ _ _ (c .before .before .before .before .before .before .before .before .pre) _ _ _ _ (walked c)
 
 sub-read : tie.Need-sub-read
 sub-read c = omega (arith, bounds c)
@@ -73,35 +65,43 @@ returns-3 c =
     let o = c .before in
     let w = walked o in
     let head = o .before .before .before .before .before .before .before .before .pre in
-    judge-miss _ _ _ _ _ head _ _ _ w (miss-suited _ _ _ _ _ (head .inside) (w .matches ∙ c .if2 .taken))
-
-add-consumed : tie.Need-add-consumed
-add-consumed c = omega (arith, bounds (c .before))
-
-sub-if3 : tie.Need-sub-if3
-sub-if3 c = search needs
+    judge-miss _ _ _ _ _ head _ _ _ _ w (miss-count _ _ _ _ _ (head .inside) (λ e. c .if2 .taken (sym (w .counts) ∙ e)))
 
 returns-4 : tie.Need-returns-4
 returns-4 c =
     let o = c .before .before in
     let w = walked o in
     let head = o .before .before .before .before .before .before .before .before .pre in
-    judge-miss _ _ _ _ _ head _ _ _ w (miss-total _ _ _ _ _ (head .inside) (λ p q. omega (arith, w .totals)))
+    judge-miss _ _ _ _ _ head _ _ _ _ w (miss-suited _ _ _ _ _ (head .inside) (w .matches ∙ c .if3 .taken))
+
+add-consumed : tie.Need-add-consumed
+add-consumed c = omega (arith, bounds (c .before .before))
+
+sub-if4 : tie.Need-sub-if4
+sub-if4 c = search needs
 
 returns-5 : tie.Need-returns-5
 returns-5 c =
     let o = c .before .before .before in
     let w = walked o in
     let head = o .before .before .before .before .before .before .before .before .pre in
-    judge-miss _ _ _ _ _ head _ _ _ w (miss-total _ _ _ _ _ (head .inside) (λ p q. omega (arith, w .totals)))
+    judge-miss _ _ _ _ _ head _ _ _ _ w (miss-total _ _ _ _ _ (head .inside) (λ p q. omega (arith, w .totals)))
 
 returns-6 : tie.Need-returns-6
 returns-6 c =
-    let o = c .before .before .before in
-    judge-hit _ _ _ _ _ (o .before .before .before .before .before .before .before .before .pre) _ _ _ (walked o) (many o)
-    (omega (arith, c .before .before .if2 .left))
-    (c .before .if3 .left)
-    (c .if4 .left)
+    let o = c .before .before .before .before in
+    let w = walked o in
+    let head = o .before .before .before .before .before .before .before .before .pre in
+    judge-miss _ _ _ _ _ head _ _ _ _ w (miss-total _ _ _ _ _ (head .inside) (λ p q. omega (arith, w .totals)))
+
+returns-7 : tie.Need-returns-7
+returns-7 c =
+    let o = c .before .before .before .before in
+    judge-hit _ _ _ _ _ (o .before .before .before .before .before .before .before .before .pre) _ _ _ _ (walked o)
+    (c .before .before .before .if2 .left)
+    (omega (arith, c .before .before .if3 .left))
+    (c .before .if4 .left)
+    (c .if5 .left)
 
 pub given-header-spec : {M : Type 1} → statement M
 given-header-spec =
@@ -109,17 +109,18 @@ given-header-spec =
     (tie.spec
     miscounted-requires
     types-end-requires
-    sub-t14
+    sub-t15
     returns
     walk-types-requires
-    enum-known-matched
+    enum-known-count
     enum-told
-    sub-t17
+    sub-t18
     returns-2
     sub-read
     returns-3
-    add-consumed
-    sub-if3
     returns-4
+    add-consumed
+    sub-if4
     returns-5
-    returns-6)
+    returns-6
+    returns-7)

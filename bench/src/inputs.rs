@@ -16,9 +16,10 @@ pub enum Kind {
     Mixed,
     Readings,
     Headers,
+    Run,
 }
 
-pub const KINDS: [(&str, Kind); 9] = [
+pub const KINDS: [(&str, Kind); 10] = [
     ("text", Kind::Text),
     ("blanks", Kind::Blanks),
     ("low", Kind::Low),
@@ -28,9 +29,10 @@ pub const KINDS: [(&str, Kind); 9] = [
     ("mixed", Kind::Mixed),
     ("readings", Kind::Readings),
     ("headers", Kind::Headers),
+    ("run", Kind::Run),
 ];
 
-/// As in the table; a reading has a column less.
+/// Five columns; a reading has one less.
 pub const HINTS: [u8; 5] = [0, 1, 0, 2, 2];
 pub const READING_HINTS: [u8; 4] = [0, 1, 0, 2];
 
@@ -61,6 +63,8 @@ pub fn bytes(kind: Kind, length: usize) -> Vec<u8> {
     let random = &mut Random::new(SEED);
     match kind {
         Kind::Zeros => vec![0; length],
+        // One run, and each byte of it may begin a header's length.
+        Kind::Run => vec![128; length],
         Kind::Readings => repeated(&reading(), length),
         // A header of 512 bytes at every second offset.
         Kind::Headers => repeated(&[0x84, 0], length),

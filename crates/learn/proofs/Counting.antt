@@ -124,7 +124,7 @@ commonest-same (x ∷ xs) (y ∷ ys) same =
     })
 
 -- ---- along a list
-item-next : (ts : List ℕ) (i : ℕ) → i < length ts → drop i ts ≡ getD ts i 0 ∷ drop (i + 1) ts
+pub item-next : (ts : List ℕ) (i : ℕ) → i < length ts → drop i ts ≡ getD ts i 0 ∷ drop (i + 1) ts
 item-next ts i h = rw (add-one) (drop-cons ts i 0 h)
 
 -- n of the first i items are the type

@@ -4,4 +4,5 @@ pub mod Exchange
 mod Learning
 pub mod Promises
 mod Rows
+mod Tallying
 pub mod Unique

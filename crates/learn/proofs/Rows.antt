@@ -1,7 +1,7 @@
 -- Laws of rows: where their entries stand among the words, what judging them one by one comes to, and the types that a column has.
 -- Assumes nothing.
 use Prim.Native.Nat.{ℕ, zero, suc, _+_, _-_, _*_, _≤_, _<_, max}
-use mathlib.Core.Path.{_≡_, refl, sym, _∙_}
+use mathlib.Core.Path.{_≡_, refl, sym, ap, _∙_}
 use mathlib.Core.Bool.{Bool, true, false, cond, _||_}
 use mathlib.Core.List.{List, [], _∷_, _++_, append-nil, append-assoc}
 use native.Mathlib.Nat.{suc-mul, sub-zero}
@@ -9,10 +9,11 @@ use native.Mathlib.Numerals.{add-one}
 use native.Mathlib.Omega.{arith}
 use borrow.Author.Tests.{lt-ltb, le-ltb, eq-eqb, ne-eqb, ltb-false}
 use lib.Dec.{ltb}
-use lib.ListN.{length, take, drop, set}
+use lib.ListN.{length, take, drop, set, length-take}
 use lib.Seq.{drop-drop, take-suc-set}
+use Rattle.record.proofs.Laws.{long-value, entry-refused, good-body, good-read}
 use Rattle.record.proofs.Numbers.{by-test}
-use Rattle.record.specs.Entry.{unusedState, readEntry}
+use Rattle.record.specs.Entry.{bodyState, unusedState, badEntry, readEntry}
 use Rattle.record.specs.declared.entry.Entry.{Entry}
 use Rattle.record.specs.declared.entry.EntryRead.the-variants.{Of, Refused}
 use Rattle.record.specs.declared.record.Value.{Value}
@@ -218,6 +219,22 @@ module _ (s : List ℕ) (e : Entry) where
   unfolding given
   given-bad h r = simp (lt-ltb (e .state) unusedState h, r)
 
+  -- a text or a blob gives the type that it has
+  pub given-own : e .state ≡ bodyState → 12 ≤ e .kind → badEntry e s ≡ false → given s e ≡ e .kind ∷ []
+  unfolding valueType
+  given-own there big good =
+      let g = good-body e s there good in
+      long-value (e .kind) s (e .start) (e .len) big (g .0)
+      (λ k v. given-value (omega arith) (g .1 ∙ ap Of v) ∙ ap (λ t. t ∷ []) (sym k))
+      (λ k v. given-value (omega arith) (g .1 ∙ ap Of v) ∙ ap (λ t. t ∷ []) (sym k))
+
+  -- and a bad entry is one that is refused
+  pub refused-bad : isRefused (readEntry e s) ≡ badEntry e s
+  refused-bad =
+      by-test (badEntry e s)
+      (λ bad. rw (bad, entry-refused e s bad .0))
+      (λ good. rw (good, good-read e s good .1))
+
 pub put-none : {types kinds : List ℕ} {n : ℕ} → types ≡ [] → PutType types n kinds n kinds
 put-none {types} {kinds} {n} e = record { most = omega arith; list = rw e (sym (append-nil (take n kinds))) }
 
@@ -233,6 +250,9 @@ module _ (s : List ℕ) where
       let e : wordsPerEntry * suc c ≡ wordsPerEntry + wordsPerEntry * c = omega arith in
       given-at c w (drop wordsPerEntry words) (omega arith)
       ∙ rw (e, drop-drop (wordsPerEntry * c) wordsPerEntry words)
+
+pub taken-most : {n m : ℕ} (l : List ℕ) → n ≤ m → length (take n l) ≤ m
+taken-most {n} {m} l h = rw (length-take n l) (omega arith)
 
 -- the first n types of a list are those of the rows before `at`, and so many rows are left
 pub record Gathered (s words : List ℕ) (width rows c at left n : ℕ) (kinds : List ℕ) : Type 0 where

@@ -1,4 +1,5 @@
 // Hints learned from rows that were read: for each column the commonest type of its values.
+use record::entry::BODY;
 use record::entry::Entry;
 use record::entry::EntryRead;
 use record::entry::UNUSED;
@@ -10,11 +11,12 @@ use sheet::hint::hint_count_fits;
 use sheet::refusal::Refusal;
 ghost use mathlib.Core.Path.{_≡_};
 ghost use mathlib.Core.Bool.{cond};
+ghost use mathlib.Core.List.{[]};
 ghost use Prim.Native.Nat.{_+_, _*_, _≤_, _<_, max, min};
 ghost use lib.Dec.{eqb};
 ghost use lib.IntN.{pos};
-ghost use lib.ListN.{length, take, drop};
-ghost use Rattle.learn.specs.Inner.{judgedEntry, judgedRow, judgedRows, Lent, PutType, Counts};
+ghost use lib.ListN.{length, getD, set, take, drop};
+ghost use Rattle.learn.specs.Inner.{counterCount, judgedEntry, judgedRow, judgedRows, Lent, OwnType, PutType, Counts, Tallied};
 ghost use Rattle.learn.specs.Learn.{mostRows, rowsIn, given, columnTypes, hintOf, hintsBelow, learnNumber, learnWritten, learnAnswer, learnTypes};
 ghost use Rattle.learn.specs.Types.{widthType, integerType, valueType, countIn, better, commonestOf};
 ghost use Rattle.record.specs.Value.{lengthOf};
@@ -23,6 +25,8 @@ ghost use Rattle.sheet.specs.Limits.{mostColumns, wordsPerEntry, largestRegion}
 ghost use Rattle.sheet.specs.Sheet.{overlay, entryIn, entriesIn};
 
 pub const MOST_ROWS: usize = 1_024;
+// Types below it have a counter in a table. Larger ones, texts and blobs of 4 KiB, are rare.
+const COUNTERS: usize = 8_192;
 
 // What judging entries comes to.
 enum Judged {
@@ -96,9 +100,9 @@ fn judge_entry(e: Entry, bytes: &[u8], i: usize, n: usize) -> Judged
     requires { ⌜ i < mostColumns ⌝ }
     ensures { λ r. ⌜ r ≡ judgedEntry (now (bytes .entry)) e i n ⌝ }
 {
-    let EntryRead::Of(_) = e.read(bytes) else {
+    if e.is_bad(bytes) {
         return Judged::Bad;
-    };
+    }
     if e.state >= UNUSED {
         return Judged::Columns(n);
     }
@@ -154,6 +158,22 @@ fn judge_rows(bytes: &[u8], entries: &[u64], width: usize, rows: usize) -> Judge
     Judged::Columns(most)
 }
 
+// Whether it surely is a text or a blob: those count as the type that they have, and need not be decoded.
+fn is_own_type(e: Entry, bytes: &[u8]) -> bool
+    ensures { λ r. ⌜ OwnType (now (bytes .entry)) e r ⌝ }
+{
+    if e.state != BODY {
+        return false;
+    }
+    if e.kind < 12 {
+        return false;
+    }
+    if e.is_bad(bytes) {
+        return false;
+    }
+    true
+}
+
 // Writes the entry's type behind n others, if it is used; the answer is how many there are then.
 fn put_type(bytes: &[u8], e: Entry, kinds: &mut [u64], n: usize) -> usize
     requires { ⌜ length (now bytes) ≤ largestRegion ⌝ }
@@ -162,6 +182,10 @@ fn put_type(bytes: &[u8], e: Entry, kinds: &mut [u64], n: usize) -> usize
 {
     if e.state >= UNUSED {
         return n;
+    }
+    if is_own_type(e, bytes) {
+        kinds[n] = e.kind;
+        return n + 1;
     }
     let EntryRead::Of(value) = e.read(bytes) else {
         return n;
@@ -221,8 +245,64 @@ fn count_of(kinds: &[u64], kind: u64) -> usize
     n
 }
 
+// One more of a type, if it has a counter.
+fn count_up(table: &mut [u16], kind: u64)
+    requires { ⌜ getD (now table) kind 0 ≤ mostRows ⌝ }
+    ensures { λ _. ⌜ now (table .exit) ≡ set (now (table .entry)) kind (getD (now (table .entry)) kind 0 + 1) ⌝ }
+{
+    if kind < table.len() as u64 {
+        table[kind as usize] = table[kind as usize] + 1;
+    }
+}
+
+// Counts every type that the table has a counter for.
+fn tally(kinds: &[u64], table: &mut [u16])
+    requires { ⌜ length (now kinds) ≤ mostRows ⌝ }
+    requires { ⌜ Tallied (now table) [] ⌝ }
+    ensures { λ _. ⌜ Tallied (now (table .exit)) (now (kinds .entry)) ⌝ }
+{
+    let mut i = 0;
+    while i < kinds.len() {
+        count_up(table, kinds[i]);
+        i = i + 1;
+    }
+}
+
+// The counter of a type, if it has one, to 0.
+fn set_back(table: &mut [u16], kind: u64)
+    ensures { λ _. ⌜ now (table .exit) ≡ set (now (table .entry)) kind 0 ⌝ }
+{
+    if kind < table.len() as u64 {
+        table[kind as usize] = 0;
+    }
+}
+
+// Sets back the counters of the types that were counted: the others are 0 already.
+fn clear(kinds: &[u64], table: &mut [u16])
+    requires { ⌜ Tallied (now table) (now kinds) ⌝ }
+    ensures { λ _. ⌜ Tallied (now (table .exit)) [] ⌝ }
+{
+    let mut i = 0;
+    while i < kinds.len() {
+        set_back(table, kinds[i]);
+        i = i + 1;
+    }
+}
+
+// How often a type occurs, by its counter if it has one.
+fn look_up(kinds: &[u64], table: &[u16], kind: u64) -> usize
+    requires { ⌜ Tallied (now table) (now kinds) ⌝ }
+    ensures { λ r. ⌜ r ≡ countIn kind (now (kinds .entry)) ⌝ }
+{
+    if kind < table.len() as u64 {
+        return table[kind as usize] as usize;
+    }
+    count_of(kinds, kind)
+}
+
 // The leader, or the type that comes before it.
-fn challenge(kinds: &[u64], leader: Leader, kind: u64) -> Leader
+fn challenge(kinds: &[u64], table: &[u16], leader: Leader, kind: u64) -> Leader
+    requires { ⌜ Tallied (now table) (now kinds) ⌝ }
     requires { ⌜ Counts (now kinds) leader ⌝ }
     ensures { λ r. ⌜ r .kind ≡ better (now (kinds .entry)) (leader .kind) kind ⌝ }
     ensures counts { λ r. ⌜ Counts (now (kinds .entry)) r ⌝ }
@@ -231,7 +311,7 @@ fn challenge(kinds: &[u64], leader: Leader, kind: u64) -> Leader
     if kind == leader.kind {
         return leader;
     }
-    let count = count_of(kinds, kind);
+    let count = look_up(kinds, table, kind);
     if count < leader.count {
         return leader;
     }
@@ -244,19 +324,34 @@ fn challenge(kinds: &[u64], leader: Leader, kind: u64) -> Leader
     Leader { kind, count }
 }
 
-fn commonest(kinds: &[u64]) -> u64
+// The commonest by the table.
+fn seek(kinds: &[u64], table: &[u16]) -> u64
+    requires { ⌜ Tallied (now table) (now kinds) ⌝ }
     ensures { λ r. ⌜ r ≡ commonestOf (now (kinds .entry)) ⌝ }
 {
     let mut leader = Leader {
         kind: 0,
-        count: count_of(kinds, 0),
+        count: look_up(kinds, table, 0),
     };
     let mut i = 0;
     while i < kinds.len() {
-        leader = challenge(kinds, leader, kinds[i]);
+        leader = challenge(kinds, table, leader, kinds[i]);
         i = i + 1;
     }
     leader.kind
+}
+
+// The table is clear before and after, so that it serves every column.
+fn commonest(kinds: &[u64], table: &mut [u16]) -> u64
+    requires { ⌜ length (now kinds) ≤ mostRows ⌝ }
+    requires { ⌜ Tallied (now table) [] ⌝ }
+    ensures { λ r. ⌜ r ≡ commonestOf (now (kinds .entry)) ⌝ }
+    ensures clear { λ _. ⌜ Tallied (now (table .exit)) [] ⌝ }
+{
+    tally(kinds, table);
+    let kind = seek(kinds, table);
+    clear(kinds, table);
+    kind
 }
 
 fn hint_of(
@@ -266,14 +361,17 @@ fn hint_of(
     rows: usize,
     column: usize,
     kinds: &mut [u64],
+    table: &mut [u16],
 ) -> u64
     requires { ⌜ Lent (now bytes) (now entries) width rows ⌝ }
     requires { ⌜ column < width ⌝ }
     requires { ⌜ length (now kinds) ≡ mostRows ⌝ }
+    requires { ⌜ Tallied (now table) [] ⌝ }
     ensures { λ r. ⌜ r ≡ hintOf (now (bytes .entry)) column (rowsIn rows width (now (entries .entry))) ⌝ }
+    ensures clear { λ _. ⌜ Tallied (now (table .exit)) [] ⌝ }
 {
     let n = gather(bytes, entries, width, rows, column, kinds);
-    commonest(&kinds[..n])
+    commonest(&kinds[..n], table)
 }
 
 // Writes the hints of the first columns.
@@ -285,18 +383,28 @@ fn put_hints(
     columns: usize,
     types: &mut [u64],
     kinds: &mut [u64],
+    table: &mut [u16],
 )
     requires { ⌜ Lent (now bytes) (now entries) width rows ⌝ }
     requires { ⌜ columns ≤ width ⌝ }
     requires { ⌜ columns ≤ length (now types) ⌝ }
     requires { ⌜ length (now kinds) ≡ mostRows ⌝ }
+    requires { ⌜ Tallied (now table) [] ⌝ }
     ensures { λ _. ⌜ now (types .exit) ≡ overlay (hintsBelow (now (bytes .entry)) columns (rowsIn rows width (now (entries .entry)))) (now (types .entry)) ⌝ }
 {
     let mut c = 0;
     while c < columns {
-        types[c] = hint_of(bytes, entries, width, rows, c, kinds);
+        types[c] = hint_of(bytes, entries, width, rows, c, kinds, table);
         c = c + 1;
     }
+}
+
+// A table of counters that are all 0.
+fn counters() -> [u16; COUNTERS]
+    ensures { λ r. ⌜ counterCount ≡ length r ⌝ }
+    ensures clear { λ r. ⌜ Tallied r [] ⌝ }
+{
+    [0; COUNTERS]
 }
 
 fn smaller(a: usize, b: usize) -> usize
@@ -321,6 +429,7 @@ fn learn_columns(
 {
     let room = types.len();
     let mut kinds = [0; MOST_ROWS];
+    let mut table = counters();
     put_hints(
         bytes,
         entries,
@@ -329,6 +438,7 @@ fn learn_columns(
         smaller(columns, room),
         types,
         &mut kinds,
+        &mut table,
     );
     if room < columns {
         return Filled::Full(room);

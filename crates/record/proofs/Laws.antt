@@ -1,6 +1,6 @@
 -- What other crates rest on: they cite these laws and unfold no definition of this one.
 -- Assumes nothing.
-use Prim.Native.Nat.{ℕ, zero, suc, _+_, _-_, _*_, _<_, _≤_, min}
+use Prim.Native.Nat.{ℕ, zero, suc, _+_, _-_, _*_, _/_, _%_, _<_, _≤_, min}
 use mathlib.Core.Path.{_≡_, refl, sym, ap, _∙_}
 use mathlib.Core.Bool.{true, false, _||_, or-true}
 use mathlib.Core.Logic.{⊎-elim, by-cases}
@@ -26,7 +26,7 @@ use Rattle.record.specs.declared.record.Decoded.the-variants.{Of as Got}
 use Rattle.record.specs.declared.record.Length.{Length}
 use Rattle.record.specs.declared.record.Length.the-variants.{Bytes, Reserved}
 use Rattle.record.specs.declared.record.Value.{Value as Cell}
-use Rattle.record.specs.declared.record.Value.the-variants.{Null}
+use Rattle.record.specs.declared.record.Value.the-variants.{Null, Text, Blob}
 use Rattle.record.specs.declared.varint.Cursor.{Cursor}
 use Rattle.record.specs.declared.varint.Varint.{Varint}
 use Rattle.record.specs.declared.varint.Varint.the-variants.{Value, Short}
@@ -209,6 +209,28 @@ places-count s at = places-length at _
 pub decoded-ends : (t : ℕ) (s : List ℕ) (at : ℕ) (v : Cell) (n : ℕ) → at ≤ length s → decodeAt t s at ≡ Got v n → at + n ≤ length s
 decoded-ends t s at v n h e = let d = decoded t s at v n e in fits-inside t n s at (d .0) (d .1) h
 
+-- THE LAW: of types from 12 up the even ones are blobs and the odd ones texts, of as many bytes as the type says
+pub long-value : {C : Type 0} (t : ℕ) (s : List ℕ) (at n : ℕ) → 12 ≤ t → bodyLength t ≡ Bytes n →
+    (t ≡ 12 + 2 * n → valueOf t s at n ≡ Blob at n → C) → (t ≡ 13 + 2 * n → valueOf t s at n ≡ Text at n → C) → C
+unfolding bodyLength valueOf
+long-value t s at n big l blob text =
+    let no0 = ne-eqb t 0 (λ z. omega arith) in
+    let no7 = ne-eqb t 7 (λ z. omega arith) in
+    let ge7 = le-ltb t 7 (omega arith) in
+    let ge10 = le-ltb t 10 (omega arith) in
+    let ge12 = le-ltb t 12 (omega arith) in
+    by-cases (ℕ-discrete (t % 2) 0)
+    (λ even.
+    let q = eq-eqb (t % 2) 0 even in
+    let z : Bytes ((t - 12) / 2) ≡ Bytes n = simp (ge10, ge12, q) at l in
+    let y : (t - 12) / 2 ≡ n = cc in
+    blob (omega arith) (simp (no0, ge7, no7, ge10, q)))
+    (λ odd.
+    let q = ne-eqb (t % 2) 0 odd in
+    let z : Bytes ((t - 13) / 2) ≡ Bytes n = simp (ge10, ge12, q) at l in
+    let y : (t - 13) / 2 ≡ n = cc in
+    text (omega arith) (simp (no0, ge7, no7, ge10, q)))
+
 -- ---- entries
 module _ (e : Entry) (s : List ℕ) where
   -- THE LAW: a bad entry is refused
@@ -247,6 +269,36 @@ module _ (e : Entry) (s : List ℕ) where
           by-cases (ℕ-discrete (e .len) n)
           (λ q. simp (lt-ltb (length s) (e .start + e .len) (omega (arith, h n l q)), or-true))
           (λ ne. simp (ne-eqb (e .len) n ne))
+
+  pub good-bodiless : (e .state ≡ bodyState → ⊥) → e .state ≤ unusedState → badEntry e s ≡ false
+  unfolding badEntry
+  good-bodiless other hi = simp (le-ltb unusedState (e .state) hi, ne-eqb (e .state) bodyState other)
+
+  -- where the length is the type's, the place decides
+  pub bad-by-place : e .state ≡ bodyState → bodyLength (e .kind) ≡ Bytes (e .len) → badEntry e s ≡ ltb (length s) (e .start + e .len)
+  unfolding badEntry
+  bad-by-place z l = simp (z, l, eq-eqb (e .len) (e .len) refl)
+
+  -- THE LAW: a good entry is read: where there is a body, as the value of its type
+  pub good-body : e .state ≡ bodyState → badEntry e s ≡ false → (bodyLength (e .kind) ≡ Bytes (e .len)) × (readEntry e s ≡ Of (valueOf (e .kind) s (e .start) (e .len)))
+  unfolding readEntry
+  good-body z good = (by-length (bodyLength (e .kind)) refl, simp (good, z))
+    where
+      bad : badEntry e s ≡ true → ⊥
+      bad b = let y : _≡_ {A = ℕ} 0 1 = cc in absurd (omega arith)
+
+      by-length : (l : Length) → bodyLength (e .kind) ≡ l → bodyLength (e .kind) ≡ Bytes (e .len)
+      by-length Reserved l = absurd (bad (bad-body z (λ n k q. let y : _≡_ {A = ℕ} 0 1 = cc in absurd (omega arith))))
+      by-length (Bytes n) l =
+          by-cases (ℕ-discrete (e .len) n)
+          (λ q. rw q l)
+          (λ ne. absurd (bad (bad-body z (λ m k q. let y : Bytes m ≡ Bytes n = cc in absurd (ne (cc))))))
+
+  pub good-read : badEntry e s ≡ false → (v : Cell) × (readEntry e s ≡ Of v)
+  good-read good =
+      by-cases (ℕ-discrete (e .state) bodyState)
+      (λ there. (_, good-body there good .1))
+      (λ other. (Null, entry-null other (by-order unusedState (e .state) (λ big. let y : _≡_ {A = ℕ} 0 1 = cc (bad-state big) in absurd (omega arith)) (λ hi. hi)) .0))
 
   -- THE LAW: a body that is there reads as what is decoded at its start, if the length is what that takes
   module _ (body : e .state ≡ bodyState) (v : Cell) (n : ℕ) (there : decodeAt (e .kind) s (e .start) ≡ Got v n) where

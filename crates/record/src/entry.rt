@@ -1,9 +1,11 @@
 // A column entry: four words that say where a value's body lies in a slice.
 use crate::record::Decoded;
+use crate::record::Length;
 use crate::record::Value;
+use crate::record::body_length;
 use crate::record::decode_serial_type;
 ghost use mathlib.Core.Path.{_≡_};
-ghost use Rattle.record.specs.Entry.{readEntry, refusalOf, entryRefusal, entryBytes};
+ghost use Rattle.record.specs.Entry.{badEntry, readEntry, refusalOf, entryRefusal, entryBytes};
 
 // What a state says of its entry: the body is there,
 pub const BODY: u64 = 0;
@@ -50,6 +52,29 @@ impl Entry {
             return EntryRead::Of(value);
         }
         EntryRead::Refused
+    }
+
+    // Whether reading is refused, told without decoding the value.
+    pub fn is_bad(self, bytes: &[u8]) -> bool
+        ensures { λ r. ⌜ r ≡ badEntry self (now (bytes .entry)) ⌝ }
+    {
+        if self.state > UNUSED {
+            return true;
+        }
+        if self.state > BODY {
+            return false;
+        }
+        let Length::Bytes(n) = body_length(self.kind) else {
+            return true;
+        };
+        if self.len != n as u64 {
+            return true;
+        }
+        let start = self.start as usize;
+        if bytes.len() < start {
+            return true;
+        }
+        bytes.len() - start < n
     }
 
     // The bytes of a text or a blob, where they lie in the slice.

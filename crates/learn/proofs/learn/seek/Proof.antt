@@ -1,23 +1,23 @@
--- `learn::learn::commonest` meets its contract. The loop's invariant: the leader is the best of the first i types.
+-- `learn::learn::seek` meets its contract. The loop's invariant: the leader is the best of the first i types.
 -- Assumes nothing.
 use Prim.Native.Nat.{_-_}
 use borrow.Author.Needs.{needs}
 use lib.ListN.{length}
 use Rattle.learn.proofs.Counting.{Led, led-none, led-more, led-all}
-use Rattle.learn.proofs.learn.commonest.Statement.{statement}
-use Rattle.learn.proofs.learn.commonest.Tie as tie
+use Rattle.learn.proofs.learn.seek.Statement.{statement}
+use Rattle.learn.proofs.learn.seek.Tie as tie
 
 abbrev Inv-loop : tie.InvT-loop
-Inv-loop kinds leader₀ i₀ leader i = Led kinds i leader
+Inv-loop kinds table leader₀ i₀ leader i = Led kinds i leader
 
 abbrev μ-loop : tie.MeasureT-loop
-μ-loop kinds leader₀ i₀ leader i = length kinds - i
+μ-loop kinds table leader₀ i₀ leader i = length kinds - i
 
-count-of-requires : tie.Need-count-of-requires Inv-loop μ-loop
-count-of-requires c κs = search needs
+look-up-requires : tie.Need-look-up-requires Inv-loop μ-loop
+look-up-requires c κs = c .before .before .pre
 
 loop-holds : tie.Need-loop-holds Inv-loop μ-loop
-loop-holds c = led-none _ _ (c .count-of .ensures)
+loop-holds c = led-none _ _ (c .look-up .ensures)
 
 mul-challenge : tie.Need-mul-challenge Inv-loop μ-loop
 mul-challenge c = search needs
@@ -26,7 +26,7 @@ shared-slice-read-challenge : tie.Need-shared-slice-read-challenge Inv-loop μ-l
 shared-slice-read-challenge c = search needs
 
 challenge-requires : tie.Need-challenge-requires Inv-loop μ-loop
-challenge-requires c κs = c .before .before .loop .inv .counts
+challenge-requires c κs = (c .before .before .before .before .before .before .pre, c .before .before .loop .inv .counts)
 
 add-i : tie.Need-add-i Inv-loop μ-loop
 add-i c = search needs
@@ -40,13 +40,13 @@ loop-again c = led-more (c .before .before .before .loop .inv) _ (search needs) 
 returns : tie.Need-returns Inv-loop μ-loop
 returns c = led-all (c .before .loop .inv) (search needs)
 
-pub commonest-spec : {M : Type 1} → statement M
-commonest-spec =
+pub seek-spec : {M : Type 1} → statement M
+seek-spec =
     tie.close
     (tie.spec
     Inv-loop
     μ-loop
-    count-of-requires
+    look-up-requires
     loop-holds
     mul-challenge
     shared-slice-read-challenge

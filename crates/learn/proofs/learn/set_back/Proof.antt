@@ -1,0 +1,26 @@
+-- `learn::learn::set_back` meets its contract: a type beyond the table moves nothing.
+-- Assumes nothing.
+use mathlib.Core.Path.{sym}
+use native.Mathlib.Omega.{arith}
+use borrow.Author.Needs.{needs}
+use lib.Seq.{set-out}
+use Rattle.learn.proofs.learn.set_back.Statement.{statement}
+use Rattle.learn.proofs.learn.set_back.Tie as tie
+
+mul-table : tie.Need-mul-table
+mul-table c = search needs
+
+slice-write-table : tie.Need-slice-write-table
+slice-write-table c = search needs
+
+same-length : tie.Need-same-length
+same-length c = search needs
+
+returns : tie.Need-returns
+returns c = search needs
+
+returns-2 : tie.Need-returns-2
+returns-2 c = sym (set-out _ _ _ (omega arith))
+
+pub set-back-spec : {M : Type 1} → statement M
+set-back-spec = tie.close (tie.spec mul-table slice-write-table same-length returns returns-2)

@@ -3,6 +3,7 @@
 
 use crate::calls::{ATTEMPT, SCAN};
 use crate::case::Case;
+use crate::cases::blocks::block;
 use crate::cases::regions::{attempt, lists, scan};
 use crate::runner::Sink;
 
@@ -16,6 +17,7 @@ pub fn all(sink: &mut dyn Sink) {
     suiting(sink);
     every_type(sink);
     past_the_header(sink);
+    soon_seen(sink);
     offsets(sink);
     starts(sink);
     rooms(sink);
@@ -103,6 +105,32 @@ fn past_the_header(sink: &mut dyn Sink) {
     let region = [3, 1, 0x80, 0x0F, 0x2A, 0x61, 0];
     scan(sink, &region, &HINTS, 2);
     attempt(sink, &region, &HINTS, 0);
+}
+
+/// Where a header shows soon that it makes no row, or only seems to; the count tells how far it was read.
+fn soon_seen(sink: &mut dyn Sink) {
+    let ones = |n: usize| vec![1; n];
+    let high = |n: usize| vec![0xFF; n];
+    for region in [
+        // Too many types, and the last byte ends none, or ends one.
+        [&[12][..], &ones(10), &[0x80, 0, 0, 0]].concat(),
+        [&[12][..], &ones(11), &[0, 0, 0]].concat(),
+        // It ends in a run of bytes from 128 up, which begins with a 128.
+        [&[40][..], &ones(19), &[0x80], &high(40), &[0; 4]].concat(),
+        // The longest header.
+        [&[0x84, 0][..], &ones(510), &[0; 4]].concat(),
+        // A type of nine bytes, and a type of two that is one too few.
+        [&[10][..], &[0x80; 8], &[1, 7, 0, 0]].concat(),
+        [&[3, 0x81, 0][..], &ones(58), &[0; 2]].concat(),
+        // As many types of one byte as columns, and one more.
+        [&[2, 1, 7][..], &[3, 1, 1, 7, 7], &[0; 2]].concat(),
+    ] {
+        for hints in [&[0][..], &[3, 3], &[5]] {
+            scan(sink, &region, hints, 3);
+        }
+    }
+    // A type of 127 in a header whose length is lost.
+    block(sink, &[&[127, 1][..], &ones(58), &[0; 3]].concat(), &[2, 0], 40);
 }
 
 /// One attempt at each offset, up to the region's end and behind it, with a base; in the last two bytes stands a row that

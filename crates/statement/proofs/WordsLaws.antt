@@ -1,8 +1,8 @@
 -- How the definitions on words go on from a byte to the next, which is how the code's loops go.
 -- Assumes nothing.
-use Prim.Native.Nat.{ℕ, zero, suc, _+_, _-_, _≤_, _<_}
+use Prim.Native.Nat.{ℕ, zero, suc, _+_, _-_, _%_, _≤_, _<_}
 use mathlib.Core.Path.{_≡_, refl, sym, ap, _∙_}
-use mathlib.Core.Bool.{Bool, true, false, cond, not, _&&_, _||_}
+use mathlib.Core.Bool.{Bool, true, false, cond, not, _&&_, _||_, and-eq-true-iff}
 use mathlib.Core.List.{List, [], _∷_, _++_, reverse, reverse-append, reverse-reverse, reverse-cons}
 use native.Mathlib.Numerals.{add-one}
 use native.Mathlib.Omega.{arith}
@@ -15,7 +15,7 @@ use Rattle.statement.specs.Inner.{Kept, PieceEnds, piecesFrom}
 use Rattle.statement.specs.Words.{takeWhile, dropWhile, isNot, has, behindFirst, beforeLast, comma, pieces, raise, startsWith, holds}
 
 -- ---- a byte, and what stands behind or before it
-from-at : (s : List ℕ) (i : ℕ) → i < length s → drop i s ≡ getD s i 0 ∷ drop (i + 1) s
+pub from-at : (s : List ℕ) (i : ℕ) → i < length s → drop i s ≡ getD s i 0 ∷ drop (i + 1) s
 from-at s i h = rw (add-one, drop-cons s i 0)
 
 -- the part of a slice that goes to its end
@@ -157,6 +157,20 @@ starts-short [] s h = absurd (omega arith)
 starts-short (a ∷ w) [] h = refl
 starts-short (a ∷ w) (b ∷ s) h = rw (starts-short w s (omega arith)) (by-test (eqb (raise b) a) (λ h. rw h) (λ h. rw h))
 
+-- a letter and its capital are 32 apart
+raise-mod : (b : ℕ) → raise b % 32 ≡ b % 32
+unfolding raise
+raise-mod b =
+    by-test (leb 97 b && leb b 122)
+    (λ h. rw h (let l = leb-true 97 b (and-eq-true-iff (leb 97 b) (leb b 122) .0 h .0) in omega arith))
+    (λ h. rw h)
+
+pub starts-other : (w s : List ℕ) → 0 < length w → (getD s 0 0 % 32 ≡ getD w 0 0 % 32 → ⊥) → startsWith w s ≡ false
+unfolding startsWith
+starts-other [] s h ne = absurd (omega arith)
+starts-other (a ∷ w) [] h ne = refl
+starts-other (a ∷ w) (b ∷ s) h ne = rw (ne-eqb (raise b) a (λ e. ne (sym (raise-mod b) ∙ rw e)))
+
 pub starts-at : (w s : List ℕ) (i : ℕ) → i < length w → i < length s →
     startsWith (drop i w) (drop i s) ≡ (eqb (raise (getD s i 0)) (getD w i 0) && startsWith (drop (i + 1) w) (drop (i + 1) s))
 unfolding startsWith
@@ -166,11 +180,39 @@ pub starts-all : (w s : List ℕ) → startsWith (drop (length w) w) s ≡ true
 unfolding startsWith
 starts-all w s = rw drop-length
 
+-- tests that are all made, and the same one after the other
+pub or-five : (a b c d e : Bool) → ((((a || b) || c) || d) || e) ≡ (a || (b || (c || (d || (e || false)))))
+or-five true b c d e = refl
+or-five false true c d e = refl
+or-five false false true d e = refl
+or-five false false false true e = refl
+or-five false false false false true = refl
+or-five false false false false false = refl
+
+pub or-one-five : (a b c d e f : Bool) → (((((a || b) || c) || d) || e) || f) ≡ ((a || false) || (b || (c || (d || (e || (f || false))))))
+or-one-five true b c d e f = refl
+or-one-five false b c d e f = or-five b c d e f
+
+pub or-five-one : (a b c d e f : Bool) → (((((a || b) || c) || d) || e) || f) ≡ ((a || (b || (c || (d || (e || false))))) || (f || false))
+or-five-one true b c d e f = refl
+or-five-one false true c d e f = refl
+or-five-one false false true d e f = refl
+or-five-one false false false true e f = refl
+or-five-one false false false false true f = refl
+or-five-one false false false false false true = refl
+or-five-one false false false false false false = refl
+
+pub or-one-two : (a b c : Bool) → ((a || b) || c) ≡ ((a || false) || (b || (c || false)))
+or-one-two true b c = refl
+or-one-two false true c = refl
+or-one-two false false true = refl
+or-one-two false false false = refl
+
 pub holds-at : (w s : List ℕ) (i : ℕ) → i < length s → holds w (drop i s) ≡ (startsWith w (drop i s) || holds w (drop (i + 1) s))
 unfolding holds
 holds-at w s i h = rw (from-at s i h)
 
-pub holds-end : (w s : List ℕ) → holds w (drop (length s) s) ≡ eqb (length w) 0
+pub holds-end : (w s : List ℕ) → 0 < length w → holds w (drop (length s) s) ≡ false
 unfolding holds startsWith
-holds-end [] s = rw drop-length
-holds-end (a ∷ w) s = rw drop-length (sym (ne-eqb (suc (length w)) 0 (λ z. omega arith)))
+holds-end [] s h = absurd (omega arith)
+holds-end (a ∷ w) s h = rw drop-length

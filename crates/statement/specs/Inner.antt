@@ -2,15 +2,13 @@
 -- Assumes nothing.
 use Prim.Native.Nat.{ℕ, _+_, _-_, _≤_}
 use mathlib.Core.Path.{_≡_}
-use mathlib.Core.Bool.{Bool, cond, _||_}
+use mathlib.Core.Bool.{Bool, cond}
 use mathlib.Core.List.{List, [], _∷_}
 use lib.Dec.{leb}
 use lib.ListN.{length, take, drop}
-use Rattle.statement.specs.Words.{isBlank, inWord, isNot, dropWhileEnd, pieces, startsWith, equals, oneOf}
+use Rattle.statement.specs.Words.{isBlank, inWord, isNot, dropWhileEnd, pieces}
 use Rattle.statement.specs.declared.statement.Given.{Given}
 use Rattle.statement.specs.declared.statement.Given.the-variants.{Hint, Nothing}
-use Rattle.statement.specs.declared.statement.Match.{Match}
-use Rattle.statement.specs.declared.statement.Match.the-variants.{Start, Whole}
 use Rattle.statement.specs.declared.statement.Run.{Run}
 use Rattle.statement.specs.declared.statement.Run.the-variants.{Blanks, Word, Until}
 
@@ -24,15 +22,6 @@ inRun (Until x) = isNot x
 pub record Kept (p : ℕ → Bool) (s : List ℕ) (e : ℕ) : Type 0 where
   pub within : e ≤ length s
   pub kept : take e s ≡ dropWhileEnd p s
-
--- how a keyword is compared
-abbrev pub matches : Match → List ℕ → List ℕ → Bool
-matches Start = startsWith
-matches Whole = equals
-
--- whether s starts with one of the first keywords, or is one of the others; commas part both
-abbrev pub startsOrIs : List ℕ → List ℕ → List ℕ → Bool
-startsOrIs starts names s = oneOf startsWith (pieces starts) s || oneOf equals (pieces names) s
 
 -- the pieces from `at` on; behind the last there are none
 unfoldable pub piecesFrom : List ℕ → ℕ → List (List ℕ)

@@ -17,25 +17,25 @@ abbrev μ-loop : tie.MeasureT-loop
 μ-loop s word i₀ i = length s - i
 
 -- the test at i
-tested : (c : tie.After-starts-with Inv-loop μ-loop) →
+tested : (c : tie.After-begins Inv-loop μ-loop) →
     let a = c .before .before .before .before .before .before .args in
-    startsWith (a .word .now) (drop (c .before .before .before .loop .i) (a .s .now)) ≡ c .starts-with .result
-tested c = sym (c .starts-with .ensures ∙ rw part-from)
+    startsWith (a .word .now) (drop (c .before .before .before .loop .i) (a .s .now)) ≡ c .begins .result
+tested c = sym (c .begins .ensures ∙ rw part-from)
 
 loop-holds : tie.Need-loop-holds Inv-loop μ-loop
 loop-holds c = (search needs, refl)
 
-sub-starts-with : tie.Need-sub-starts-with Inv-loop μ-loop
-sub-starts-with c = search needs
+sub-begins : tie.Need-sub-begins Inv-loop μ-loop
+sub-begins c = search needs
 
-part-starts-with-start : tie.Need-part-starts-with-start Inv-loop μ-loop
-part-starts-with-start c = search needs
+part-begins-start : tie.Need-part-begins-start Inv-loop μ-loop
+part-begins-start c = search needs
 
-part-starts-with-end : tie.Need-part-starts-with-end Inv-loop μ-loop
-part-starts-with-end c = search needs
+part-begins-end : tie.Need-part-begins-end Inv-loop μ-loop
+part-begins-end c = search needs
 
-starts-with-requires : tie.Need-starts-with-requires Inv-loop μ-loop
-starts-with-requires c κs = search needs
+begins-requires : tie.Need-begins-requires Inv-loop μ-loop
+begins-requires c κs = c .before .before .before .before .before .pre
 
 returns : tie.Need-returns Inv-loop μ-loop
 returns c =
@@ -61,7 +61,7 @@ returns-2 : tie.Need-returns-2 Inv-loop μ-loop
 returns-2 c =
     let a = c .before .before .before .before .args in
     let e : c .before .loop .i ≡ length (a .s .now) = omega arith in
-    sym (c .before .loop .inv .1 ∙ rw e (holds-end (a .word .now) (a .s .now)))
+    sym (c .before .loop .inv .1 ∙ rw e (holds-end (a .word .now) (a .s .now) (c .before .before .before .before .pre)))
 
 pub holds-word-spec : {M : Type 1} → statement M
 holds-word-spec =
@@ -70,10 +70,10 @@ holds-word-spec =
     Inv-loop
     μ-loop
     loop-holds
-    sub-starts-with
-    part-starts-with-start
-    part-starts-with-end
-    starts-with-requires
+    sub-begins
+    part-begins-start
+    part-begins-end
+    begins-requires
     returns
     add-i
     loop-less

@@ -1,6 +1,6 @@
 -- The hints that are written so far, and the answer from what the code found.
 -- Assumes nothing.
-use Prim.Native.Nat.{ℕ, suc, _+_, _-_, _≤_, _<_}
+use Prim.Native.Nat.{ℕ, _+_, _-_, _≤_, _<_}
 use mathlib.Core.Path.{_≡_, refl, sym, ap, _∙_}
 use mathlib.Core.Bool.{Bool, true, false, cond, not, and-eq-true-iff}
 use mathlib.Core.List.{List, [], _∷_, _++_, append-nil, append-assoc}
@@ -36,25 +36,22 @@ unfolding allHints
 hints-none s at h = rw (pieces-none s at h)
 
 -- ---- writing
--- behind its end a list takes nothing
-sets-out : (l : List ℕ) (i : ℕ) (vs : List ℕ) → length l ≤ i → sets l i vs ≡ l
-sets-out l i [] h = refl
-sets-out l i (v ∷ vs) h = rw (set-out l i v h) (sets-out l (suc i) vs (omega arith))
-
 -- one hint more, or none, where there is room for it
-laid-more : (first vs old : List ℕ) → length vs ≤ 1 → sets (laid first old) (length first) vs ≡ laid (first ++ vs) old
-laid-more first vs old one =
+laid-more : (vs first old : List ℕ) → length vs ≤ 1 → sets (laid first old) (length first) vs ≡ laid (first ++ vs) old
+laid-more [] first old one = rw append-nil
+laid-more (v ∷ []) first old one =
     let room = length old in
-    let size = length-append first vs in
-    by-test (leb (length first + length vs) room)
+    let size = length-append first (v ∷ []) in
+    by-test (leb (length first + 1) room)
     (λ t.
-    let fits = leb-true (length first + length vs) room t in
-    rw (take-all room first (omega arith), take-all room (first ++ vs) (omega arith)) (overlay-more first vs old fits))
+    let fits = leb-true (length first + 1) room t in
+    rw (take-all room first (omega arith), take-all room (first ++ (v ∷ [])) (omega arith)) (overlay-more first (v ∷ []) old fits))
     (λ f.
-    let over = leb-false (length first + length vs) room f in
+    let over = leb-false (length first + 1) room f in
     let whole : length (take room first) ≡ room = length-take-le room first (omega arith) in
-    rw (take-append-le room first vs (omega arith))
-    (sets-out (laid first old) (length first) vs (omega (arith, overlay-length (take room first) old (omega arith)))))
+    rw (take-append-le room first (v ∷ []) (omega arith))
+    (set-out (laid first old) (length first) v (omega (arith, overlay-length (take room first) old (omega arith)))))
+laid-more (v ∷ w ∷ vs) first old one = absurd (omega arith)
 
 -- n of all the hints lie over what the list held, as many as fit, and the rest is to come
 pub record Written (all rest old hints : List ℕ) (n : ℕ) : Type 0 where
@@ -75,7 +72,7 @@ module _ {all rest old hints : List ℕ} {n : ℕ} where
         first = w .first ++ vs;
         whole = w .whole ∙ sym (append-assoc (w .first) vs rest);
         count = length-append (w .first) vs ∙ rw (l, e);
-        lies = rw (put, w .lies, ← l) (laid-more (w .first) vs old h);
+        lies = rw (put, w .lies, ← l) (laid-more vs (w .first) old h);
       }
 
   -- THE LAW: where the list is full, the first hints lie in it,

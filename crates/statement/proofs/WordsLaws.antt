@@ -4,14 +4,17 @@ use Prim.Native.Nat.{ℕ, zero, suc, _+_, _-_, _%_, _≤_, _<_}
 use mathlib.Core.Path.{_≡_, refl, sym, ap, _∙_}
 use mathlib.Core.Bool.{Bool, true, false, cond, not, _&&_, _||_, and-eq-true-iff}
 use mathlib.Core.List.{List, [], _∷_, _++_, reverse, reverse-append, reverse-reverse, reverse-cons}
+use mathlib.Core.Logic.{by-cases}
+use native.Mathlib.Decide.{ℕ-discrete}
+use native.Mathlib.Nat.{add-zero}
 use native.Mathlib.Numerals.{add-one}
 use native.Mathlib.Omega.{arith}
-use borrow.Author.Tests.{ne-eqb, lt-ltb, le-ltb, le-leb, lt-leb, leb-true, leb-false}
+use borrow.Author.Tests.{ne-eqb, eqb-false, lt-ltb, le-ltb, le-leb, lt-leb, leb-true, leb-false}
 use lib.Dec.{leb, ltb, eqb, leb·suc-suc}
 use lib.ListN.{length, take, drop, getD, length-drop, length-reverse}
 use lib.Seq.{drop-cons, drop-length, take-suc, take-all, take-length, length-take-le, drop-drop}
 use Rattle.record.proofs.Numbers.{by-test}
-use Rattle.statement.specs.Inner.{Kept, PieceEnds, piecesFrom}
+use Rattle.statement.specs.Inner.{isUnlike, AllIn, Kept, PieceEnds, piecesFrom}
 use Rattle.statement.specs.Words.{takeWhile, dropWhile, isNot, has, behindFirst, beforeLast, comma, pieces, raise, startsWith, holds}
 
 -- ---- a byte, and what stands behind or before it
@@ -50,6 +53,20 @@ module _ (p : ℕ → Bool) where
     pub run-ends : p (getD s i 0) ≡ false → i + length (takeWhile p (drop i s)) ≡ i
     unfolding takeWhile
     run-ends h = rw (from-at s i inside, h) (omega arith)
+
+  -- n bytes of the run at once
+  pub run-many : (s : List ℕ) (i n : ℕ) → i + n ≤ length s → ((k : ℕ) → k < n → p (getD s (i + k) 0) ≡ true) →
+      i + length (takeWhile p (drop i s)) ≡ i + n + length (takeWhile p (drop (i + n) s))
+  run-many s i zero h all = rw add-zero
+  run-many s i (suc n) h all =
+      let e : i + suc n ≡ i + n + 1 = omega arith in
+      rw e (run-many s i n (omega arith) (λ k below. all k (omega arith)) ∙ run-more s (i + n) (omega arith) (all n (omega arith)))
+
+  -- one byte more passes the test, if it does
+  pub all-more : (s : List ℕ) (at k : ℕ) {all b : Bool} → AllIn p s at k all → b ≡ p (getD s (at + k) 0) → AllIn p s at (k + 1) (all && b)
+  all-more s at k {all} {b} h e t j below =
+      let both = and-eq-true-iff all b .0 t in
+      by-cases (ℕ-discrete j k) (λ q. rw q (sym e ∙ both .1)) (λ other. h (both .0) j (omega arith))
 
   pub back-all : (s : List ℕ) → dropWhile p (reverse s) ≡ dropWhile p (reverse (take (length s) s))
   back-all s = rw take-length
@@ -208,11 +225,30 @@ or-one-two false true c = refl
 or-one-two false false true = refl
 or-one-two false false false = refl
 
-pub holds-at : (w s : List ℕ) (i : ℕ) → i < length s → holds w (drop i s) ≡ (startsWith w (drop i s) || holds w (drop (i + 1) s))
-unfolding holds
-holds-at w s i h = rw (from-at s i h)
+-- THE LAW: a word stands at none of the bytes that cannot be its first letter
+holds-run : (w s : List ℕ) → 0 < length w → holds w s ≡ holds w (drop (length (takeWhile (isUnlike (getD w 0 0)) s)) s)
+unfolding holds takeWhile
+holds-run w [] h = refl
+holds-run w (b ∷ s) h =
+    by-test (eqb (b % 32) (getD w 0 0 % 32))
+    (λ t. rw t)
+    (λ f. rw (f, starts-other w (b ∷ s) h (eqb-false (b % 32) (getD w 0 0 % 32) f)) (holds-run w s h))
 
-pub holds-end : (w s : List ℕ) → 0 < length w → holds w (drop (length s) s) ≡ false
+pub holds-on : (w s : List ℕ) (i n : ℕ) → 0 < length w → n ≡ length (takeWhile (isUnlike (getD w 0 0)) (take (length s - i) (drop i s))) →
+    holds w (drop i s) ≡ holds w (drop (i + n) s)
+holds-on w s i n h e = holds-run w (drop i s) h ∙ rw (e, part-from s i, drop-drop)
+
+-- and at none behind the last byte
+pub holds-none : (w s : List ℕ) → 0 < length w → length s ≡ 0 → holds w s ≡ false
 unfolding holds startsWith
-holds-end [] s h = absurd (omega arith)
-holds-end (a ∷ w) s h = rw drop-length
+holds-none [] s h e = absurd (omega arith)
+holds-none (a ∷ w) [] h e = refl
+holds-none (a ∷ w) (b ∷ s) h e = absurd (omega arith)
+
+holds-cut : (w s : List ℕ) → 0 < length w → holds w s ≡ (startsWith w s || holds w (drop 1 s))
+unfolding holds
+holds-cut w [] h = rw (starts-short w [] h)
+holds-cut w (b ∷ s) h = refl
+
+pub holds-at : (w s : List ℕ) (i : ℕ) → 0 < length w → holds w (drop i s) ≡ (startsWith w (drop i s) || holds w (drop (i + 1) s))
+holds-at w s i h = holds-cut w (drop i s) h ∙ rw drop-drop

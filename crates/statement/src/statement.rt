@@ -14,7 +14,7 @@ ghost use lib.ListN.{length};
 ghost use lib.Seq.{sets};
 ghost use Rattle.sheet.specs.Filled.{filledNumber, filledWritten, laid};
 ghost use Rattle.statement.specs.Statement.{closing, isInteger, isText, isReal, isBlob, hintOf, isRowId, isConstraint, isSkipped, pieceHints, allHints, statementNumber, statementWritten, statementAnswer, statementHints};
-ghost use Rattle.statement.specs.Inner.{inRun, Kept, PieceEnds, givenHints};
+ghost use Rattle.statement.specs.Inner.{inRun, AllIn, Leads, Kept, PieceEnds, givenHints};
 ghost use Rattle.statement.specs.Words.{isBlank, isNot, raise, takeWhile, dropWhile, trim, behindFirst, pieces, firstWord, secondWord, startsWith, equals, holds};
 
 // In bytes.
@@ -27,6 +27,8 @@ enum Run {
     Word,
     // Bytes that are not this one.
     Until(u8),
+    // Bytes that cannot be this capital letter, raised.
+    Unlike(u8),
 }
 
 // What a piece gives.
@@ -70,6 +72,8 @@ fn in_run(run: Run, byte: u8) -> bool
         Run::Blanks => is_blank(byte),
         Run::Word => !is_blank(byte),
         Run::Until(end) => byte != end,
+        // A letter and its capital are 32 apart.
+        Run::Unlike(letter) => byte % 32 != letter % 32,
     }
 }
 
@@ -86,6 +90,43 @@ fn leading(s: &[u8], run: Run) -> usize
         i = i + 1;
     }
     i
+}
+
+// Whether 16 bytes are of the run, all of them tested: a test for all at once is cheap.
+fn all_in(s: &[u8], at: usize, run: Run) -> bool
+    requires { ⌜ at + 16 ≤ length (now s) ⌝ }
+    ensures { λ r. ⌜ AllIn (inRun run) (now (s .entry)) at 16 r ⌝ }
+{
+    let mut all = true;
+    let mut k = 0;
+    while k < 16 {
+        all = all & in_run(run, s[at + k]);
+        k = k + 1;
+    }
+    all
+}
+
+// How many bytes of the run `s` starts with, as far as they fill blocks of 16.
+fn whole_blocks(s: &[u8], run: Run) -> usize
+    ensures { λ r. ⌜ Leads (inRun run) (now (s .entry)) r ⌝ }
+{
+    let mut i = 0;
+    while s.len() - i >= 16 {
+        if !all_in(s, i, run) {
+            return i;
+        }
+        i = i + 16;
+    }
+    i
+}
+
+// As `leading`, for runs that are long.
+fn long_run(s: &[u8], run: Run) -> usize
+    ensures { λ r. ⌜ r ≡ length (takeWhile (inRun run) (now (s .entry))) ⌝ }
+    ensures within { λ r. ⌜ r ≤ length (now (s .entry)) ⌝ }
+{
+    let i = whole_blocks(s, run);
+    i + leading(&s[i..], run)
 }
 
 // Where `s` ends without the run at its end.
@@ -187,7 +228,8 @@ fn holds_word(s: &[u8], word: &[u8]) -> bool
 {
     let mut i = 0;
     while i < s.len() {
-        if begins(&s[i..], word) {
+        i = i + long_run(&s[i..], Run::Unlike(word[0]));
+        if starts_with(&s[i..], word) {
             return true;
         }
         i = i + 1;
@@ -200,7 +242,7 @@ fn piece_end(s: &[u8], at: usize) -> usize
     requires { ⌜ at ≤ length (now s) ⌝ }
     ensures { λ r. ⌜ PieceEnds (now (s .entry)) at r ⌝ }
 {
-    at + leading(&s[at..], Run::Until(b','))
+    at + long_run(&s[at..], Run::Until(b','))
 }
 
 fn is_integer(word: &[u8]) -> bool
@@ -272,13 +314,13 @@ fn sql_type_to_hint(word: &[u8]) -> u8
 fn is_row_id(piece: &[u8]) -> bool
     ensures { λ r. ⌜ r ≡ isRowId (now (piece .entry)) ⌝ }
 {
-    if !holds_word(piece, b"INTEGER") {
+    if !holds_word(piece, b"KEY") {
         return false;
     }
     if !holds_word(piece, b"PRIMARY") {
         return false;
     }
-    holds_word(piece, b"KEY")
+    holds_word(piece, b"INTEGER")
 }
 
 fn is_skipped(piece: &[u8]) -> bool

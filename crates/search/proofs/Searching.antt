@@ -2,16 +2,17 @@
 -- Assumes nothing.
 use Prim.Native.Nat.{ℕ, zero, suc, _+_, _-_, _≤_, _<_}
 use mathlib.Core.Path.{_≡_, refl, sym, ap, _∙_}
-use mathlib.Core.Bool.{Bool, true, false, cond, and-eq-true-iff, not-eq-not}
+use mathlib.Core.Bool.{Bool, true, false, cond, _&&_, and-eq-true-iff, not-eq-not}
 use mathlib.Core.List.{List, [], _∷_, _++_, append-nil, append-assoc}
 use mathlib.Core.Logic.{by-cases}
 use native.Mathlib.Decide.{ℕ-discrete, le-ind}
 use native.Mathlib.Numerals.{add-one}
 use native.Mathlib.Omega.{arith}
-use borrow.Author.Tests.{eq-eqb, eqb-true, le-leb, lt-leb}
+use borrow.Author.Tests.{eq-eqb, eqb-true, eqb-false, le-leb, lt-leb}
 use lib.Dec.{eqb, ltb}
 use lib.ListN.{length, getD, drop, set, replicate, length-append, length-drop, length-set, length-replicate, getD-replicate}
 use lib.Seq.{sets, length-sets, set-out, getD-set-same, getD-set-other, getD-drop, take-all, take-at}
+use Rattle.record.proofs.Numbers.{by-test}
 use Rattle.sheet.specs.Filled.{filledNumber, filledWritten, filledBy, writtenAfter, laid}
 use Rattle.sheet.specs.Limits.{largestRegion}
 use Rattle.sheet.specs.Refusal.{after}
@@ -21,7 +22,7 @@ use Rattle.sheet.specs.declared.filled.Filled.the-variants.{Done, Full, Refused
 use Rattle.sheet.specs.declared.refusal.Checked.the-variants.{Passed, Refused as Stopped}
 use Rattle.sheet.specs.declared.refusal.Refusal.the-variants.{TooLarge}
 use Rattle.sheet.proofs.Laws.{overlay-length, overlay-more, Numbers, filled-numbers}
-use Rattle.search.specs.Inner.{AtMost, Entered, lastOf, Staying, Windows, Skips}
+use Rattle.search.specs.Inner.{Tells, AtMost, Entered, lastOf, Staying, Windows, Skips}
 use Rattle.search.specs.Search.{matches, standsAt, placeAt, placesBelow, placesOf, tooLarge, searchNumber, searchWritten, searchAnswer, searchPlaces}
 
 -- ---- a match, byte by byte
@@ -58,6 +59,28 @@ module _ (haystack pattern : List ℕ) (o : ℕ) where
   unfolding standsAt
   stands-all fits same =
       matches-all pattern (drop o haystack) (omega (arith, length-drop o haystack)) (λ k below. getD-drop o haystack k 0 ∙ same k below)
+
+  -- no byte told of yet
+  pub tells-none : (i : ℕ) → Tells haystack pattern o i i true
+  tells-none i = record { same = λ t k from below. absurd (omega arith); differs = λ f. let z : _≡_ {A = ℕ} 0 1 = cc in absurd (omega arith) }
+
+  -- one byte more
+  pub tells-more : {i j : ℕ} {same : Bool} → j < length pattern → Tells haystack pattern o i j same →
+      Tells haystack pattern o i (j + 1) (same && eqb (getD haystack (o + j) 0) (getD pattern j 0))
+  tells-more {i} {j} {same} inside t =
+      let b = getD haystack (o + j) 0 in
+      let p = getD pattern j 0 in
+      record {
+        same =
+            λ h k from below.
+            let both = and-eq-true-iff same (eqb b p) .0 h in
+            by-cases (ℕ-discrete k j) (λ e. rw e (eqb-true b p (both .1))) (λ other. t .same (both .0) k from (omega arith));
+        differs =
+            λ f.
+            by-test same
+            (λ h. not-eq-not {b = false} .0 (λ stands. eqb-false b p (rw h at f) (stands-byte stands j inside)))
+            (λ h. t .differs h);
+      }
 
   pub place-here : standsAt haystack pattern o ≡ true → placeAt haystack pattern o ≡ o ∷ []
   unfolding placeAt

@@ -2,10 +2,20 @@
 -- Assumes nothing.
 use Prim.Native.Nat.{ℕ, _+_, _-_, _≤_, _<_}
 use mathlib.Core.Path.{_≡_}
+use mathlib.Core.Bool.{Bool, true, false}
 use mathlib.Core.List.{List}
 use lib.ListN.{length, getD}
 use Rattle.sheet.specs.Limits.{largestRegion}
-use Rattle.search.specs.Search.{placesBelow}
+use Rattle.search.specs.Search.{standsAt, placesBelow}
+
+-- from j on the pattern's bytes are those at `at`
+abbrev pub SameFrom : List ℕ → List ℕ → ℕ → ℕ → Type 0
+SameFrom haystack pattern at j = (k : ℕ) → j ≤ k → k < length pattern → getD haystack (at + k) 0 ≡ getD pattern k 0
+
+-- an answer about the pattern's bytes from i up to j
+pub record Tells (haystack pattern : List ℕ) (at i j : ℕ) (answer : Bool) : Type 0 where
+  pub same : answer ≡ true → (k : ℕ) → i ≤ k → k < j → getD haystack (at + k) 0 ≡ getD pattern k 0
+  pub differs : answer ≡ false → standsAt haystack pattern at ≡ false
 
 -- no shift is larger than n
 abbrev pub AtMost : ℕ → List ℕ → Type 0

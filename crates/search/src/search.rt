@@ -6,7 +6,7 @@ ghost use mathlib.Core.Path.{_≡_};
 ghost use Prim.Native.Nat.{_+_, _-_, _≤_, _<_};
 ghost use lib.ListN.{length, getD, set};
 ghost use lib.Seq.{sets};
-ghost use Rattle.search.specs.Inner.{Entered, AtMost, Windows, Skips, Ends};
+ghost use Rattle.search.specs.Inner.{SameFrom, Tells, Entered, AtMost, Windows, Skips, Ends};
 ghost use Rattle.sheet.specs.Filled.{filledNumber, filledWritten, filledBy, laid};
 ghost use Rattle.sheet.specs.Limits.{largestRegion};
 ghost use Rattle.search.specs.Search.{standsAt, placeAt, placesOf, searchNumber, searchWritten, searchAnswer, searchPlaces};
@@ -27,11 +27,29 @@ fn shifts(pattern: &[u8]) -> [usize; 256]
     table
 }
 
-fn stands(haystack: &[u8], pattern: &[u8], at: usize) -> bool
+// Whether 16 bytes are the same, all of them compared: a test for all at once is cheap.
+fn all_same(haystack: &[u8], pattern: &[u8], at: usize, from: usize) -> bool
     requires { ⌜ at + length (now pattern) ≤ length (now haystack) ⌝ }
+    requires { ⌜ from + 16 ≤ length (now pattern) ⌝ }
+    ensures { λ r. ⌜ Tells (now (haystack .entry)) (now (pattern .entry)) at from (from + 16) r ⌝ }
+{
+    let mut same = true;
+    let mut k = 0;
+    while k < 16 {
+        same = same & (haystack[at + (from + k)] == pattern[from + k]);
+        k = k + 1;
+    }
+    same
+}
+
+// Whether the bytes before an offset are the same, too.
+fn same_before(haystack: &[u8], pattern: &[u8], at: usize, before: usize) -> bool
+    requires { ⌜ at + length (now pattern) ≤ length (now haystack) ⌝ }
+    requires { ⌜ before ≤ length (now pattern) ⌝ }
+    requires { ⌜ SameFrom (now haystack) (now pattern) at before ⌝ }
     ensures { λ r. ⌜ r ≡ standsAt (now (haystack .entry)) (now (pattern .entry)) at ⌝ }
 {
-    let mut j = pattern.len();
+    let mut j = before;
     while j > 0 {
         j = j - 1;
         if haystack[at + j] != pattern[j] {
@@ -39,6 +57,20 @@ fn stands(haystack: &[u8], pattern: &[u8], at: usize) -> bool
         }
     }
     true
+}
+
+fn stands(haystack: &[u8], pattern: &[u8], at: usize) -> bool
+    requires { ⌜ at + length (now pattern) ≤ length (now haystack) ⌝ }
+    ensures { λ r. ⌜ r ≡ standsAt (now (haystack .entry)) (now (pattern .entry)) at ⌝ }
+{
+    let mut j = pattern.len();
+    while j >= 16 {
+        j = j - 16;
+        if !all_same(haystack, pattern, at, j) {
+            return false;
+        }
+    }
+    same_before(haystack, pattern, at, j)
 }
 
 // Writes the offset behind n places, if it is one; the answer is how many there are then.

@@ -2,17 +2,19 @@
 -- Assumes nothing.
 use Prim.Native.Nat.{ℕ, zero, suc, _+_, _-_, _≤_, _<_}
 use mathlib.Core.Path.{_≡_, refl, sym, ap, _∙_}
-use mathlib.Core.Bool.{Bool, true, false, cond, and-eq-true-iff, not-eq-not}
+use mathlib.Core.Bool.{Bool, true, false, cond, _&&_, and-eq-true-iff, not-eq-not}
 use mathlib.Core.List.{List, [], _∷_, _++_, append-nil, append-assoc}
 use mathlib.Core.Logic.{by-cases}
 use native.Mathlib.Decide.{ℕ-discrete, le-ind}
 use native.Mathlib.Numerals.{add-one}
 use native.Mathlib.Omega.{arith}
-use borrow.Author.Tests.{eq-eqb, eqb-true, le-leb, lt-leb}
+use borrow.Author.Tests.{eq-eqb, eqb-true, eqb-false, le-leb, lt-leb}
 use lib.Dec.{eqb, ltb}
-use lib.ListN.{length, getD, drop, set, replicate, length-append, length-drop, getD-replicate}
+use lib.ListN.{length, getD, drop, set, replicate, length-append, length-drop, length-set, length-replicate, getD-replicate}
 use lib.Seq.{sets, length-sets, set-out, getD-set-same, getD-set-other, getD-drop, take-all, take-at}
+use Rattle.record.proofs.Numbers.{by-test}
 use Rattle.sheet.specs.Filled.{filledNumber, filledWritten, filledBy, writtenAfter, laid}
+use Rattle.sheet.specs.Limits.{largestRegion}
 use Rattle.sheet.specs.Refusal.{after}
 use Rattle.sheet.specs.Sheet.{overlay}
 use Rattle.sheet.specs.declared.filled.Filled.{Filled}
@@ -20,7 +22,7 @@ use Rattle.sheet.specs.declared.filled.Filled.the-variants.{Done, Full, Refused
 use Rattle.sheet.specs.declared.refusal.Checked.the-variants.{Passed, Refused as Stopped}
 use Rattle.sheet.specs.declared.refusal.Refusal.the-variants.{TooLarge}
 use Rattle.sheet.proofs.Laws.{overlay-length, overlay-more, Numbers, filled-numbers}
-use Rattle.search.specs.Inner.{Entered}
+use Rattle.search.specs.Inner.{Tells, AtMost, Entered, lastOf, Staying, Windows, Skips}
 use Rattle.search.specs.Search.{matches, standsAt, placeAt, placesBelow, placesOf, tooLarge, searchNumber, searchWritten, searchAnswer, searchPlaces}
 
 -- ---- a match, byte by byte
@@ -58,6 +60,28 @@ module _ (haystack pattern : List ℕ) (o : ℕ) where
   stands-all fits same =
       matches-all pattern (drop o haystack) (omega (arith, length-drop o haystack)) (λ k below. getD-drop o haystack k 0 ∙ same k below)
 
+  -- no byte told of yet
+  pub tells-none : (i : ℕ) → Tells haystack pattern o i i true
+  tells-none i = record { same = λ t k from below. absurd (omega arith); differs = λ f. let z : _≡_ {A = ℕ} 0 1 = cc in absurd (omega arith) }
+
+  -- one byte more
+  pub tells-more : {i j : ℕ} {same : Bool} → j < length pattern → Tells haystack pattern o i j same →
+      Tells haystack pattern o i (j + 1) (same && eqb (getD haystack (o + j) 0) (getD pattern j 0))
+  tells-more {i} {j} {same} inside t =
+      let b = getD haystack (o + j) 0 in
+      let p = getD pattern j 0 in
+      record {
+        same =
+            λ h k from below.
+            let both = and-eq-true-iff same (eqb b p) .0 h in
+            by-cases (ℕ-discrete k j) (λ e. rw e (eqb-true b p (both .1))) (λ other. t .same (both .0) k from (omega arith));
+        differs =
+            λ f.
+            by-test same
+            (λ h. not-eq-not {b = false} .0 (λ stands. eqb-false b p (rw h at f) (stands-byte stands j inside)))
+            (λ h. t .differs h);
+      }
+
   pub place-here : standsAt haystack pattern o ≡ true → placeAt haystack pattern o ≡ o ∷ []
   unfolding placeAt
   place-here h = simp h
@@ -85,15 +109,17 @@ stored P l i j a h new old =
 pub entered-none : (pattern : List ℕ) → 0 < length pattern → Entered pattern 0 (replicate 256 (length pattern))
 entered-none pattern some =
     let all : (b : ℕ) → b < 256 → getD (replicate 256 (length pattern)) b 0 ≡ length pattern = λ b h. getD-replicate 256 b (length pattern) 0 h in
-    record { moves = λ b h. rw (all b h) some; most = λ b h. rw (all b h) (omega arith); meets = λ k h. absurd (omega arith) }
+    record { size = length-replicate 256 (length pattern); moves = λ b h. rw (all b h) some; most = λ b h. rw (all b h) (omega arith); meets = λ k h. absurd (omega arith) }
 
 -- one byte more
-pub entered-more : (pattern table : List ℕ) (i : ℕ) → length table ≡ 256 → i + 1 < length pattern → getD pattern i 0 < 256 →
+pub entered-more : (pattern table : List ℕ) (i : ℕ) → i + 1 < length pattern → getD pattern i 0 < 256 →
     Entered pattern i table → Entered pattern (i + 1) (set table (getD pattern i 0) (length pattern - 1 - i))
-entered-more pattern table i size inside byte t =
+entered-more pattern table i inside byte t =
+    let size = t .size in
     let shift = length pattern - 1 - i in
     let here : getD pattern i 0 < length table = omega arith in
     record {
+      size = length-set table _ shift ∙ size;
       moves = λ b h. stored (λ (x : ℕ). 0 < x) table _ b shift here (omega arith) (λ ne. t .moves b h);
       most = λ b h. stored (λ (x : ℕ). x ≤ length pattern) table _ b shift here (omega arith) (λ ne. t .most b h);
       meets =
@@ -101,6 +127,23 @@ entered-more pattern table i size inside byte t =
           stored (λ (x : ℕ). k + 1 + x ≤ length pattern) table _ (getD pattern k 0) shift here (omega arith)
           (λ ne.
           by-cases (ℕ-discrete k i) (λ e. absurd (ne (ap (λ (n : ℕ). getD pattern n 0) e))) (λ other. t .meets k (omega arith)));
+    }
+
+-- a window that ends with the last byte is to stay
+staying : {pattern table : List ℕ} → 0 < length pattern → getD pattern (lastOf pattern) 0 < 256 →
+    Entered pattern (lastOf pattern) table → Staying pattern (set table (getD pattern (lastOf pattern) 0) 0)
+staying {pattern} {table} some byte t =
+    let size = t .size in
+    let end = getD pattern (lastOf pattern) 0 in
+    let here : end < length table = omega arith in
+    record {
+      moves = λ b h other. rw (getD-set-other table end b 0 0 other) (t .moves b h);
+      most = λ b h. stored (λ (x : ℕ). x ≤ length pattern) table end b 0 here (omega arith) (λ ne. t .most b h);
+      meets =
+          λ k h.
+          stored (λ (x : ℕ). k + 1 + x ≤ length pattern) table end (getD pattern k 0) 0 here (omega arith)
+          (λ ne.
+          by-cases (ℕ-discrete k (lastOf pattern)) (λ e. absurd (ne (ap (λ (n : ℕ). getD pattern n 0) e))) (λ other. t .meets k (omega arith)));
     }
 
 -- ---- offsets that are passed over
@@ -142,30 +185,86 @@ module _ (haystack pattern : List ℕ) where
       ∙ passed at (length haystack) inside
       (λ o from below. not-eq-not {b = false} .0 (λ h. omega (arith, stands-fits haystack pattern o some h)))
 
-  -- a window that ends at i
-  module _ {table : List ℕ} (t : Entered pattern (length pattern - 1) table) (i : ℕ) (some : 0 < length pattern) (window : length pattern - 1 ≤ i)
-      (byte : getD haystack i 0 < 256) where
-    abbrev last : ℕ
-    last = length pattern - 1
-
-    abbrev shift : ℕ
-    shift = getD table (getD haystack i 0) 0
-
+  -- a window that ends at i, with a byte that the pattern's first n bytes let it go on by the shift
+  module _ (i shift n : ℕ) (some : 0 < length pattern) (whole : lastOf pattern ≤ i) (most : shift ≤ length pattern) (part : n ≤ length pattern)
+      (meets : (k : ℕ) → k < n → getD haystack i 0 ≡ getD pattern k 0 → k + 1 + shift ≤ length pattern) where
     -- at a place between, the pattern would hold the byte at i, and no shift goes further than to such a place
-    between : (o : ℕ) → i - last + 1 ≤ o → o < i + shift - last → standsAt haystack pattern o ≡ false
+    between : (o : ℕ) → i < o + n → o < i + shift - lastOf pattern → standsAt haystack pattern o ≡ false
     between o from below =
         not-eq-not {b = false} .0
         (λ h.
-        let most = t .most _ byte in
         let under : o + (i - o) ≡ i = omega arith in
         let held : i - o < length pattern = omega arith in
         let same : getD haystack i 0 ≡ getD pattern (i - o) 0 = rw under at (stands-byte haystack pattern o h (i - o) held) in
-        let reach : i - o + 1 + shift ≤ length pattern = rw same (t .meets (i - o) (omega arith)) in
+        let reach : i - o + 1 + shift ≤ length pattern = meets (i - o) (omega arith) same in
         omega arith)
 
-    -- THE LAW: the window goes on by the shift of its last byte and passes no place
-    pub shifted : placesBelow haystack pattern (i + shift - last) ≡ placesBelow haystack pattern (i - last + 1)
-    shifted = passed (i - last + 1) (i + shift - last) (omega (arith, t .moves _ byte)) between
+    -- THE LAW: the window goes on by the shift and passes no place
+    goes-on : (start : ℕ) → start + n ≡ i + 1 → start ≤ i + shift - lastOf pattern →
+        placesBelow haystack pattern (i + shift - lastOf pattern) ≡ placesBelow haystack pattern start
+    goes-on start e le = passed start (i + shift - lastOf pattern) le (λ o from below. between o (omega arith) below)
+
+  -- from a window that ends with the pattern's last byte, by the shift that was in the table before,
+  shifted : {table : List ℕ} → Entered pattern (lastOf pattern) table → (i : ℕ) → 0 < length pattern → lastOf pattern ≤ i →
+      getD pattern (lastOf pattern) 0 < 256 → getD haystack i 0 ≡ getD pattern (lastOf pattern) 0 →
+      let shift = getD table (getD pattern (lastOf pattern) 0) 0 in
+      placesBelow haystack pattern (i + shift - lastOf pattern) ≡ placesBelow haystack pattern (i - lastOf pattern + 1)
+  shifted {table} t i some whole byte ends =
+      let moves = t .moves _ byte in
+      let same : (k : ℕ) → k < lastOf pattern → getD haystack i 0 ≡ getD pattern k 0 → k + 1 + getD table (getD pattern (lastOf pattern) 0) 0 ≤ length pattern =
+      λ k below e. rw (sym ends ∙ e) (t .meets k below) in
+      goes-on i _ (lastOf pattern) some whole (t .most _ byte) (omega arith) same (i - lastOf pattern + 1) (omega arith) (omega arith)
+
+module _ {haystack pattern table : List ℕ} {from : ℕ} (w : Windows haystack pattern table from) where
+  pub pass-none : Skips haystack pattern from from
+  pass-none = record { on = omega arith; inside = w .inside; none = refl }
+
+  -- and from any window by the table's
+  pub pass-more : {i j : ℕ} → i < length haystack → (j ≡ i + getD table (getD haystack i 0) 0) × (getD haystack i 0 < 256) → Skips haystack pattern from i →
+      Skips haystack pattern from j × (i ≤ j) × (j ≤ i + length pattern)
+  pass-more {i} {j} inside (e, byte) p =
+      let shift = getD table (getD haystack i 0) 0 in
+      let most = w .shifts .most _ byte in
+      let same : (k : ℕ) → k < length pattern → getD haystack i 0 ≡ getD pattern k 0 → k + 1 + shift ≤ length pattern = λ k below e. rw e (w .shifts .meets k below) in
+      let whole : lastOf pattern ≤ i = omega (arith, w .whole, p .on) in
+      let some = w .some in (
+        record {
+          on = omega (arith, p .on);
+          inside = omega arith;
+          none = rw e (goes-on haystack pattern i shift (length pattern) some whole most (omega arith) same (i - lastOf pattern) (omega arith) (omega arith) ∙ p .none);
+        },
+        omega arith,
+        omega arith,
+      )
+
+  pub at-most : AtMost (length haystack) table
+  at-most b h = omega (arith, w .shifts .most b h, w .fits)
+
+  -- three shifts move a window that then does not end with the last byte
+  pub moved : {i j k l : ℕ} → getD haystack i 0 < 256 → j ≡ i + getD table (getD haystack i 0) 0 → j ≤ k → k ≤ l →
+      (getD haystack l 0 ≡ getD pattern (lastOf pattern) 0 → ⊥) → i < l
+  moved {i} {j} {k} {l} byte e m n other =
+      by-cases (ℕ-discrete i l) (λ q. omega (arith, w .shifts .moves _ byte (λ end. other (rw (sym q) end)))) (λ ne. omega arith)
+
+-- a table by which windows stay, and how far one then goes on that ends with the last byte
+pub record Slides (haystack pattern table : List ℕ) (on : ℕ) : Type 0 where
+  pub windows : (i : ℕ) → lastOf pattern ≤ i → i - lastOf pattern ≤ length haystack → Windows haystack pattern table i
+  pub moves : 0 < on
+  pub most : on ≤ length pattern
+  pub passes : (i : ℕ) → lastOf pattern ≤ i → getD haystack i 0 ≡ getD pattern (lastOf pattern) 0 →
+      placesBelow haystack pattern (i + on - lastOf pattern) ≡ placesBelow haystack pattern (i - lastOf pattern + 1)
+
+pub slides : {haystack pattern table new : List ℕ} {on : ℕ} → (0 < length pattern) × ((length pattern ≤ length haystack) × (length haystack ≤ largestRegion)) →
+    getD pattern (lastOf pattern) 0 < 256 → Entered pattern (lastOf pattern) table →
+    (on ≡ getD table (getD pattern (lastOf pattern) 0) 0) × (new ≡ set table (getD pattern (lastOf pattern) 0) 0) → Slides haystack pattern new on
+slides {haystack} {pattern} (some, (fits, small)) byte t (e, stored) = record {
+  windows =
+      λ i whole inside.
+      record { some = some; fits = fits; small = small; whole = whole; inside = inside; shifts = rw stored (staying some byte t) };
+  moves = rw e (t .moves _ byte);
+  most = rw e (t .most _ byte);
+  passes = λ i whole ends. rw e (shifted haystack pattern t i some whole byte ends);
+}
 
 -- ---- the places seen so far
 
@@ -187,6 +286,10 @@ seen-none = record { count = refl; room = omega arith; list = refl }
 module _ {haystack pattern old places : List ℕ} {at n : ℕ} (s : Seen haystack pattern old at places n) where
   pub seen-length : length places ≡ length old
   seen-length = rw (s .list) (overlay-length (placesBelow haystack pattern at) old (omega arith))
+
+  -- the offsets up to the next are passed over
+  pub seen-on : {next : ℕ} → placesBelow haystack pattern next ≡ placesBelow haystack pattern at → Seen haystack pattern old next places n
+  seen-on e = record { count = rw e (s .count); room = s .room; list = rw e (s .list) }
 
   -- no place follows
   pub seen-all : placesOf haystack pattern ≡ placesBelow haystack pattern at →

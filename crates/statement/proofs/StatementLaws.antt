@@ -2,19 +2,19 @@
 -- Assumes nothing.
 use Prim.Native.Nat.{ℕ, _+_, _-_, _≤_, _<_}
 use mathlib.Core.Path.{_≡_, refl, sym, ap, _∙_}
-use mathlib.Core.Bool.{Bool, true, false, cond, not}
-use mathlib.Core.List.{List, [], _++_, append-nil, append-assoc}
+use mathlib.Core.Bool.{Bool, true, false, cond, not, and-eq-true-iff}
+use mathlib.Core.List.{List, [], _∷_, _++_, append-nil, append-assoc}
 use native.Mathlib.Omega.{arith}
-use borrow.Author.Tests.{lt-ltb, le-ltb, le-leb, lt-leb}
-use lib.Dec.{ltb}
+use borrow.Author.Tests.{lt-ltb, le-ltb, le-leb, lt-leb, leb-true, leb-false}
+use lib.Dec.{ltb, leb}
 use lib.ListN.{length, take, drop, length-append}
-use lib.Seq.{sets, take-all, take-at}
+use lib.Seq.{sets, set-out, take-all, take-nil, take-append-seam, take-append-le, length-take-le}
 use Rattle.statement.specs.Statement.{largestStatement, opening, closing, between, pieceHints, allHints, hintsOf, tooLarge, unlisted, miscounted, statementNumber, statementWritten, statementChecks, statementAnswer, statementHints}
 use Rattle.statement.specs.Inner.{Kept, PieceEnds, piecesFrom}
 use Rattle.statement.specs.Words.{trim, isNot, has, behindFirst, beforeLast, pieces}
 use Rattle.statement.proofs.WordsLaws.{behind-has, kept-has, kept-before, pieces-none}
 use Rattle.sheet.specs.Filled.{filledNumber, filledWritten, filledBy, writtenAfter, laid}
-use Rattle.sheet.specs.Limits.{countFits}
+use Rattle.sheet.specs.Limits.{mostColumns, countFits}
 use Rattle.sheet.specs.Refusal.{firstHeld, after}
 use Rattle.sheet.specs.Sheet.{overlay}
 use Rattle.sheet.specs.declared.filled.Filled.{Filled}
@@ -22,7 +22,8 @@ use Rattle.sheet.specs.declared.filled.Filled.the-variants.{Done, Full, Refused
 use Rattle.sheet.specs.declared.refusal.Checked.the-variants.{Passed, Refused as Stopped}
 use Rattle.sheet.specs.declared.refusal.Refusal.{Refusal}
 use Rattle.sheet.specs.declared.refusal.Refusal.the-variants.{ColumnCount, TooLarge, NoColumnList}
-use Rattle.sheet.proofs.Laws.{overlay-more, Numbers, filled-numbers}
+use Rattle.record.proofs.Numbers.{by-test}
+use Rattle.sheet.proofs.Laws.{overlay-length, overlay-more, Numbers, filled-numbers}
 
 -- ---- the hints of the pieces from a place on
 pub hints-next : {s : List ℕ} {at e : ℕ} → PieceEnds s at e →
@@ -35,18 +36,35 @@ unfolding allHints
 hints-none s at h = rw (pieces-none s at h)
 
 -- ---- writing
--- n of all the hints lie over what the list held, and the rest is to come
+-- one hint more, or none, where there is room for it
+laid-more : (vs first old : List ℕ) → length vs ≤ 1 → sets (laid first old) (length first) vs ≡ laid (first ++ vs) old
+laid-more [] first old one = rw append-nil
+laid-more (v ∷ []) first old one =
+    let room = length old in
+    let size = length-append first (v ∷ []) in
+    by-test (leb (length first + 1) room)
+    (λ t.
+    let fits = leb-true (length first + 1) room t in
+    rw (take-all room first (omega arith), take-all room (first ++ (v ∷ [])) (omega arith)) (overlay-more first (v ∷ []) old fits))
+    (λ f.
+    let over = leb-false (length first + 1) room f in
+    let whole : length (take room first) ≡ room = length-take-le room first (omega arith) in
+    rw (take-append-le room first (v ∷ []) (omega arith))
+    (set-out (laid first old) (length first) v (omega (arith, overlay-length (take room first) old (omega arith)))))
+laid-more (v ∷ w ∷ vs) first old one = absurd (omega arith)
+
+-- n of all the hints lie over what the list held, as many as fit, and the rest is to come
 pub record Written (all rest old hints : List ℕ) (n : ℕ) : Type 0 where
   pub first : List ℕ
   pub whole : all ≡ first ++ rest
   pub count : length first ≡ n
-  pub lies : hints ≡ overlay first old
+  pub lies : hints ≡ laid first old
 
 pub written-none : (all old : List ℕ) → Written all all old old 0
-written-none all old = record { first = []; whole = refl; count = refl; lies = refl }
+written-none all old = record { first = []; whole = refl; count = refl; lies = rw take-nil }
 
 module _ {all rest old hints : List ℕ} {n : ℕ} where
-  pub written-more : (vs : List ℕ) {new : List ℕ} {m : ℕ} → m ≤ length old → m ≡ n + length vs → new ≡ sets hints n vs →
+  pub written-more : (vs : List ℕ) {new : List ℕ} {m : ℕ} → length vs ≤ 1 → m ≡ n + length vs → new ≡ sets hints n vs →
       Written all (vs ++ rest) old hints n → Written all rest old new m
   written-more vs h e put w =
       let l = w .count in
@@ -54,24 +72,30 @@ module _ {all rest old hints : List ℕ} {n : ℕ} where
         first = w .first ++ vs;
         whole = w .whole ∙ sym (append-assoc (w .first) vs rest);
         count = length-append (w .first) vs ∙ rw (l, e);
-        lies = rw (put, w .lies, ← l) (overlay-more (w .first) vs old (omega arith));
+        lies = rw (put, w .lies, ← l) (laid-more vs (w .first) old h);
       }
 
   -- THE LAW: where the list is full, the first hints lie in it,
-  pub written-full : n ≡ length old → Written all rest old hints n → hints ≡ laid all old
+  pub written-full : length old ≤ n → Written all rest old hints n → hints ≡ laid all old
   written-full h w =
-      let e : take (length old) all ≡ w .first = rw (w .whole) (take-at (w .first) rest (length old) (w .count ∙ h)) in
-      rw e (w .lies)
+      let l = w .count in
+      rw (w .whole, take-append-le (length old) (w .first) rest (omega arith)) (w .lies)
 
   -- and where no more are to come, all of them do
-  pub written-all : n ≤ length old → rest ≡ [] → Written all rest old hints n → hints ≡ laid all old
-  written-all h r w =
-      let l = w .count in
+  pub written-all : rest ≡ [] → Written all rest old hints n → (n ≡ length all) × (hints ≡ laid all old)
+  written-all r w =
       let whole : all ≡ w .first = w .whole ∙ rw r (append-nil (w .first)) in
-      let e : take (length old) all ≡ w .first = rw whole (take-all (length old) (w .first) (omega arith)) in
-      rw e (w .lies)
+      rw whole (sym (w .count), w .lies)
+
+-- where there is room for all, the first cells hold them
+pub taken : (all old : List ℕ) {found : List ℕ} {n : ℕ} → found ≡ laid all old → n ≡ length all → n ≤ length old → take n found ≡ all
+taken all old put e h = rw (put, e, take-all (length old) all (omega arith)) (take-append-seam all (drop (length all) old))
 
 -- ---- the answer
+pub fits-most : (n : ℕ) → countFits n ≡ true → n ≤ mostColumns
+unfolding countFits
+fits-most n h = leb-true n mostColumns (and-eq-true-iff (leb 1 n) (leb n mostColumns) .0 h .1)
+
 -- THE LAW: the number is that of the first check that holds
 numbers : (s : List ℕ) (room : ℕ) → Numbers (statementAnswer s room) (statementNumber s room) (statementWritten s room)
 unfolding statementAnswer statementChecks statementNumber statementWritten

@@ -1,21 +1,24 @@
 -- How the definitions on words go on from a byte to the next, which is how the code's loops go.
 -- Assumes nothing.
-use Prim.Native.Nat.{ℕ, zero, suc, _+_, _-_, _≤_, _<_}
+use Prim.Native.Nat.{ℕ, zero, suc, _+_, _-_, _%_, _≤_, _<_}
 use mathlib.Core.Path.{_≡_, refl, sym, ap, _∙_}
-use mathlib.Core.Bool.{Bool, true, false, cond, not, _&&_, _||_}
+use mathlib.Core.Bool.{Bool, true, false, cond, not, _&&_, _||_, and-eq-true-iff}
 use mathlib.Core.List.{List, [], _∷_, _++_, reverse, reverse-append, reverse-reverse, reverse-cons}
+use mathlib.Core.Logic.{by-cases}
+use native.Mathlib.Decide.{ℕ-discrete}
+use native.Mathlib.Nat.{add-zero}
 use native.Mathlib.Numerals.{add-one}
 use native.Mathlib.Omega.{arith}
-use borrow.Author.Tests.{ne-eqb, lt-ltb, le-ltb, le-leb, lt-leb, leb-true, leb-false}
+use borrow.Author.Tests.{ne-eqb, eqb-false, lt-ltb, le-ltb, le-leb, lt-leb, leb-true, leb-false}
 use lib.Dec.{leb, ltb, eqb, leb·suc-suc}
 use lib.ListN.{length, take, drop, getD, length-drop, length-reverse}
 use lib.Seq.{drop-cons, drop-length, take-suc, take-all, take-length, length-take-le, drop-drop}
 use Rattle.record.proofs.Numbers.{by-test}
-use Rattle.statement.specs.Inner.{Kept, PieceEnds, piecesFrom}
+use Rattle.statement.specs.Inner.{isUnlike, AllIn, Kept, PieceEnds, piecesFrom}
 use Rattle.statement.specs.Words.{takeWhile, dropWhile, isNot, has, behindFirst, beforeLast, comma, pieces, raise, startsWith, holds}
 
 -- ---- a byte, and what stands behind or before it
-from-at : (s : List ℕ) (i : ℕ) → i < length s → drop i s ≡ getD s i 0 ∷ drop (i + 1) s
+pub from-at : (s : List ℕ) (i : ℕ) → i < length s → drop i s ≡ getD s i 0 ∷ drop (i + 1) s
 from-at s i h = rw (add-one, drop-cons s i 0)
 
 -- the part of a slice that goes to its end
@@ -50,6 +53,20 @@ module _ (p : ℕ → Bool) where
     pub run-ends : p (getD s i 0) ≡ false → i + length (takeWhile p (drop i s)) ≡ i
     unfolding takeWhile
     run-ends h = rw (from-at s i inside, h) (omega arith)
+
+  -- n bytes of the run at once
+  pub run-many : (s : List ℕ) (i n : ℕ) → i + n ≤ length s → ((k : ℕ) → k < n → p (getD s (i + k) 0) ≡ true) →
+      i + length (takeWhile p (drop i s)) ≡ i + n + length (takeWhile p (drop (i + n) s))
+  run-many s i zero h all = rw add-zero
+  run-many s i (suc n) h all =
+      let e : i + suc n ≡ i + n + 1 = omega arith in
+      rw e (run-many s i n (omega arith) (λ k below. all k (omega arith)) ∙ run-more s (i + n) (omega arith) (all n (omega arith)))
+
+  -- one byte more passes the test, if it does
+  pub all-more : (s : List ℕ) (at k : ℕ) {all b : Bool} → AllIn p s at k all → b ≡ p (getD s (at + k) 0) → AllIn p s at (k + 1) (all && b)
+  all-more s at k {all} {b} h e t j below =
+      let both = and-eq-true-iff all b .0 t in
+      by-cases (ℕ-discrete j k) (λ q. rw q (sym e ∙ both .1)) (λ other. h (both .0) j (omega arith))
 
   pub back-all : (s : List ℕ) → dropWhile p (reverse s) ≡ dropWhile p (reverse (take (length s) s))
   back-all s = rw take-length
@@ -157,6 +174,20 @@ starts-short [] s h = absurd (omega arith)
 starts-short (a ∷ w) [] h = refl
 starts-short (a ∷ w) (b ∷ s) h = rw (starts-short w s (omega arith)) (by-test (eqb (raise b) a) (λ h. rw h) (λ h. rw h))
 
+-- a letter and its capital are 32 apart
+raise-mod : (b : ℕ) → raise b % 32 ≡ b % 32
+unfolding raise
+raise-mod b =
+    by-test (leb 97 b && leb b 122)
+    (λ h. rw h (let l = leb-true 97 b (and-eq-true-iff (leb 97 b) (leb b 122) .0 h .0) in omega arith))
+    (λ h. rw h)
+
+pub starts-other : (w s : List ℕ) → 0 < length w → (getD s 0 0 % 32 ≡ getD w 0 0 % 32 → ⊥) → startsWith w s ≡ false
+unfolding startsWith
+starts-other [] s h ne = absurd (omega arith)
+starts-other (a ∷ w) [] h ne = refl
+starts-other (a ∷ w) (b ∷ s) h ne = rw (ne-eqb (raise b) a (λ e. ne (sym (raise-mod b) ∙ rw e)))
+
 pub starts-at : (w s : List ℕ) (i : ℕ) → i < length w → i < length s →
     startsWith (drop i w) (drop i s) ≡ (eqb (raise (getD s i 0)) (getD w i 0) && startsWith (drop (i + 1) w) (drop (i + 1) s))
 unfolding startsWith
@@ -166,11 +197,58 @@ pub starts-all : (w s : List ℕ) → startsWith (drop (length w) w) s ≡ true
 unfolding startsWith
 starts-all w s = rw drop-length
 
-pub holds-at : (w s : List ℕ) (i : ℕ) → i < length s → holds w (drop i s) ≡ (startsWith w (drop i s) || holds w (drop (i + 1) s))
-unfolding holds
-holds-at w s i h = rw (from-at s i h)
+-- tests that are all made, and the same one after the other
+pub or-five : (a b c d e : Bool) → ((((a || b) || c) || d) || e) ≡ (a || (b || (c || (d || (e || false)))))
+or-five true b c d e = refl
+or-five false true c d e = refl
+or-five false false true d e = refl
+or-five false false false true e = refl
+or-five false false false false true = refl
+or-five false false false false false = refl
 
-pub holds-end : (w s : List ℕ) → holds w (drop (length s) s) ≡ eqb (length w) 0
+pub or-one-five : (a b c d e f : Bool) → (((((a || b) || c) || d) || e) || f) ≡ ((a || false) || (b || (c || (d || (e || (f || false))))))
+or-one-five true b c d e f = refl
+or-one-five false b c d e f = or-five b c d e f
+
+pub or-five-one : (a b c d e f : Bool) → (((((a || b) || c) || d) || e) || f) ≡ ((a || (b || (c || (d || (e || false))))) || (f || false))
+or-five-one true b c d e f = refl
+or-five-one false true c d e f = refl
+or-five-one false false true d e f = refl
+or-five-one false false false true e f = refl
+or-five-one false false false false true f = refl
+or-five-one false false false false false true = refl
+or-five-one false false false false false false = refl
+
+pub or-one-two : (a b c : Bool) → ((a || b) || c) ≡ ((a || false) || (b || (c || false)))
+or-one-two true b c = refl
+or-one-two false true c = refl
+or-one-two false false true = refl
+or-one-two false false false = refl
+
+-- THE LAW: a word stands at none of the bytes that cannot be its first letter
+holds-run : (w s : List ℕ) → 0 < length w → holds w s ≡ holds w (drop (length (takeWhile (isUnlike (getD w 0 0)) s)) s)
+unfolding holds takeWhile
+holds-run w [] h = refl
+holds-run w (b ∷ s) h =
+    by-test (eqb (b % 32) (getD w 0 0 % 32))
+    (λ t. rw t)
+    (λ f. rw (f, starts-other w (b ∷ s) h (eqb-false (b % 32) (getD w 0 0 % 32) f)) (holds-run w s h))
+
+pub holds-on : (w s : List ℕ) (i n : ℕ) → 0 < length w → n ≡ length (takeWhile (isUnlike (getD w 0 0)) (take (length s - i) (drop i s))) →
+    holds w (drop i s) ≡ holds w (drop (i + n) s)
+holds-on w s i n h e = holds-run w (drop i s) h ∙ rw (e, part-from s i, drop-drop)
+
+-- and at none behind the last byte
+pub holds-none : (w s : List ℕ) → 0 < length w → length s ≡ 0 → holds w s ≡ false
 unfolding holds startsWith
-holds-end [] s = rw drop-length
-holds-end (a ∷ w) s = rw drop-length (sym (ne-eqb (suc (length w)) 0 (λ z. omega arith)))
+holds-none [] s h e = absurd (omega arith)
+holds-none (a ∷ w) [] h e = refl
+holds-none (a ∷ w) (b ∷ s) h e = absurd (omega arith)
+
+holds-cut : (w s : List ℕ) → 0 < length w → holds w s ≡ (startsWith w s || holds w (drop 1 s))
+unfolding holds
+holds-cut w [] h = rw (starts-short w [] h)
+holds-cut w (b ∷ s) h = refl
+
+pub holds-at : (w s : List ℕ) (i : ℕ) → 0 < length w → holds w (drop i s) ≡ (startsWith w (drop i s) || holds w (drop (i + 1) s))
+holds-at w s i h = holds-cut w (drop i s) h ∙ rw drop-drop

@@ -1,4 +1,5 @@
 // The hints of the columns that a CREATE TABLE statement lists, read where the statement lies.
+use sheet::MOST_COLUMNS;
 use sheet::filled::Filled;
 use sheet::hint::ANY;
 use sheet::hint::BLOB;
@@ -12,9 +13,9 @@ ghost use Prim.Native.Nat.{_+_, _≤_, _<_};
 ghost use lib.ListN.{length};
 ghost use lib.Seq.{sets};
 ghost use Rattle.sheet.specs.Filled.{filledNumber, filledWritten, laid};
-ghost use Rattle.statement.specs.Statement.{closing, hintOf, isRowId, isSkipped, pieceHints, allHints, statementNumber, statementWritten, statementAnswer, statementHints};
-ghost use Rattle.statement.specs.Inner.{inRun, Kept, matches, startsOrIs, PieceEnds, givenHints};
-ghost use Rattle.statement.specs.Words.{isBlank, isNot, raise, takeWhile, dropWhile, trim, behindFirst, pieces, firstWord, secondWord, startsWith, holds, oneOf};
+ghost use Rattle.statement.specs.Statement.{closing, isInteger, isText, isReal, isBlob, hintOf, isRowId, isConstraint, isSkipped, pieceHints, allHints, statementNumber, statementWritten, statementAnswer, statementHints};
+ghost use Rattle.statement.specs.Inner.{inRun, AllIn, Leads, Kept, PieceEnds, givenHints};
+ghost use Rattle.statement.specs.Words.{isBlank, isNot, raise, takeWhile, dropWhile, trim, behindFirst, pieces, firstWord, secondWord, startsWith, equals, holds};
 
 // In bytes.
 pub const LARGEST_STATEMENT: usize = 65_536;
@@ -26,12 +27,8 @@ enum Run {
     Word,
     // Bytes that are not this one.
     Until(u8),
-}
-
-// How much of a word a keyword is.
-enum Match {
-    Start,
-    Whole,
+    // Bytes that cannot be this capital letter, raised.
+    Unlike(u8),
 }
 
 // What a piece gives.
@@ -43,6 +40,10 @@ enum Given {
 fn is_blank(byte: u8) -> bool
     ensures { λ r. ⌜ r ≡ isBlank byte ⌝ }
 {
+    // Most bytes are letters.
+    if byte > 32 {
+        return false;
+    }
     if byte == 32 {
         return true;
     }
@@ -71,6 +72,8 @@ fn in_run(run: Run, byte: u8) -> bool
         Run::Blanks => is_blank(byte),
         Run::Word => !is_blank(byte),
         Run::Until(end) => byte != end,
+        // A letter and its capital are 32 apart.
+        Run::Unlike(letter) => byte % 32 != letter % 32,
     }
 }
 
@@ -87,6 +90,43 @@ fn leading(s: &[u8], run: Run) -> usize
         i = i + 1;
     }
     i
+}
+
+// Whether 16 bytes are of the run, all of them tested: a test for all at once is cheap.
+fn all_in(s: &[u8], at: usize, run: Run) -> bool
+    requires { ⌜ at + 16 ≤ length (now s) ⌝ }
+    ensures { λ r. ⌜ AllIn (inRun run) (now (s .entry)) at 16 r ⌝ }
+{
+    let mut all = true;
+    let mut k = 0;
+    while k < 16 {
+        all = all & in_run(run, s[at + k]);
+        k = k + 1;
+    }
+    all
+}
+
+// How many bytes of the run `s` starts with, as far as they fill blocks of 16.
+fn whole_blocks(s: &[u8], run: Run) -> usize
+    ensures { λ r. ⌜ Leads (inRun run) (now (s .entry)) r ⌝ }
+{
+    let mut i = 0;
+    while s.len() - i >= 16 {
+        if !all_in(s, i, run) {
+            return i;
+        }
+        i = i + 16;
+    }
+    i
+}
+
+// As `leading`, for runs that are long.
+fn long_run(s: &[u8], run: Run) -> usize
+    ensures { λ r. ⌜ r ≡ length (takeWhile (inRun run) (now (s .entry))) ⌝ }
+    ensures within { λ r. ⌜ r ≤ length (now (s .entry)) ⌝ }
+{
+    let i = whole_blocks(s, run);
+    i + leading(&s[i..], run)
 }
 
 // Where `s` ends without the run at its end.
@@ -158,32 +198,43 @@ fn starts_with(s: &[u8], word: &[u8]) -> bool
     true
 }
 
+// As `starts_with`, told mostly by the first letter: a letter and its capital are 32 apart.
+fn begins(s: &[u8], word: &[u8]) -> bool
+    requires { ⌜ 0 < length (now word) ⌝ }
+    ensures { λ r. ⌜ r ≡ startsWith (now (word .entry)) (now (s .entry)) ⌝ }
+{
+    if s.len() < word.len() {
+        return false;
+    }
+    if s[0] % 32 != word[0] % 32 {
+        return false;
+    }
+    starts_with(s, word)
+}
+
+fn is_word(s: &[u8], word: &[u8]) -> bool
+    requires { ⌜ 0 < length (now word) ⌝ }
+    ensures { λ r. ⌜ r ≡ equals (now (word .entry)) (now (s .entry)) ⌝ }
+{
+    if s.len() != word.len() {
+        return false;
+    }
+    begins(s, word)
+}
+
 fn holds_word(s: &[u8], word: &[u8]) -> bool
+    requires { ⌜ 0 < length (now word) ⌝ }
     ensures { λ r. ⌜ r ≡ holds (now (word .entry)) (now (s .entry)) ⌝ }
 {
     let mut i = 0;
     while i < s.len() {
+        i = i + long_run(&s[i..], Run::Unlike(word[0]));
         if starts_with(&s[i..], word) {
             return true;
         }
         i = i + 1;
     }
-    // Behind the last byte stands the empty word alone.
-    word.len() == 0
-}
-
-fn matched(s: &[u8], word: &[u8], how: Match) -> bool
-    ensures { λ r. ⌜ r ≡ matches how (now (word .entry)) (now (s .entry)) ⌝ }
-{
-    match how {
-        Match::Start => starts_with(s, word),
-        Match::Whole => {
-            if s.len() != word.len() {
-                return false;
-            }
-            starts_with(s, word)
-        }
-    }
+    false
 }
 
 // Where the piece that starts at `at` ends: at a comma, or with the slice.
@@ -191,47 +242,70 @@ fn piece_end(s: &[u8], at: usize) -> usize
     requires { ⌜ at ≤ length (now s) ⌝ }
     ensures { λ r. ⌜ PieceEnds (now (s .entry)) at r ⌝ }
 {
-    at + leading(&s[at..], Run::Until(b','))
+    at + long_run(&s[at..], Run::Until(b','))
 }
 
-// Whether one of the keywords, which commas part, matches.
-fn one_of(s: &[u8], keywords: &[u8], how: Match) -> bool
-    ensures { λ r. ⌜ r ≡ oneOf (matches how) (pieces (now (keywords .entry))) (now (s .entry)) ⌝ }
+fn is_integer(word: &[u8]) -> bool
+    ensures { λ r. ⌜ r ≡ isInteger (now (word .entry)) ⌝ }
 {
-    let mut at = 0;
-    while at <= keywords.len() {
-        let end = piece_end(keywords, at);
-        if matched(s, &keywords[at..end], how) {
-            return true;
-        }
-        at = end + 1;
-    }
-    false
+    begins(word, b"INT")
+        | is_word(word, b"BOOLEAN")
+        | is_word(word, b"TINYINT")
+        | is_word(word, b"SMALLINT")
+        | is_word(word, b"BIGINT")
+        | is_word(word, b"MEDIUMINT")
 }
 
-// A type's kind goes by how it starts, or by its whole name.
-fn starts_or_is(s: &[u8], starts: &[u8], names: &[u8]) -> bool
-    ensures { λ r. ⌜ r ≡ startsOrIs (now (starts .entry)) (now (names .entry)) (now (s .entry)) ⌝ }
+fn is_text(word: &[u8]) -> bool
+    ensures { λ r. ⌜ r ≡ isText (now (word .entry)) ⌝ }
 {
-    if one_of(s, starts, Match::Start) {
-        return true;
-    }
-    one_of(s, names, Match::Whole)
+    begins(word, b"TEXT")
+        | begins(word, b"CHAR")
+        | begins(word, b"VARCHAR")
+        | begins(word, b"NCHAR")
+        | begins(word, b"NVARCHAR")
+        | is_word(word, b"CLOB")
+}
+
+fn is_real(word: &[u8]) -> bool
+    ensures { λ r. ⌜ r ≡ isReal (now (word .entry)) ⌝ }
+{
+    begins(word, b"REAL")
+        | begins(word, b"FLOAT")
+        | begins(word, b"DOUBLE")
+        | begins(word, b"NUMERIC")
+        | begins(word, b"DECIMAL")
+}
+
+fn is_blob(word: &[u8]) -> bool
+    ensures { λ r. ⌜ r ≡ isBlob (now (word .entry)) ⌝ }
+{
+    begins(word, b"BLOB") | is_word(word, b"BINARY") | is_word(word, b"VARBINARY")
+}
+
+fn is_constraint(piece: &[u8]) -> bool
+    ensures { λ r. ⌜ r ≡ isConstraint (now (piece .entry)) ⌝ }
+{
+    begins(piece, b"PRIMARY")
+        | begins(piece, b"UNIQUE")
+        | begins(piece, b"CHECK")
+        | begins(piece, b"FOREIGN")
+        | begins(piece, b"CONSTRAINT")
 }
 
 fn sql_type_to_hint(word: &[u8]) -> u8
     ensures { λ r. ⌜ r ≡ hintOf (now (word .entry)) ⌝ }
 {
-    if starts_or_is(word, b"INT", b"BOOLEAN,TINYINT,SMALLINT,BIGINT,MEDIUMINT") {
+    if is_integer(word) {
         return INTEGER;
     }
-    if starts_or_is(word, b"TEXT,CHAR,VARCHAR,NCHAR,NVARCHAR", b"CLOB") {
+    if is_text(word) {
         return TEXT;
     }
-    if one_of(word, b"REAL,FLOAT,DOUBLE,NUMERIC,DECIMAL", Match::Start) {
+    if is_real(word) {
         return REAL;
     }
-    if starts_or_is(word, b"BLOB", b"BINARY,VARBINARY") {
+    if is_blob(word) {
         return BLOB;
     }
     ANY
@@ -240,13 +314,13 @@ fn sql_type_to_hint(word: &[u8]) -> u8
 fn is_row_id(piece: &[u8]) -> bool
     ensures { λ r. ⌜ r ≡ isRowId (now (piece .entry)) ⌝ }
 {
-    if !holds_word(piece, b"INTEGER") {
+    if !holds_word(piece, b"KEY") {
         return false;
     }
     if !holds_word(piece, b"PRIMARY") {
         return false;
     }
-    holds_word(piece, b"KEY")
+    holds_word(piece, b"INTEGER")
 }
 
 fn is_skipped(piece: &[u8]) -> bool
@@ -258,11 +332,7 @@ fn is_skipped(piece: &[u8]) -> bool
     if is_row_id(piece) {
         return true;
     }
-    one_of(
-        piece,
-        b"PRIMARY,UNIQUE,CHECK,FOREIGN,CONSTRAINT",
-        Match::Start,
-    )
+    is_constraint(piece)
 }
 
 fn piece_hint(piece: &[u8]) -> Given
@@ -275,55 +345,48 @@ fn piece_hint(piece: &[u8]) -> Given
     Given::Hint(sql_type_to_hint(second_word(column)))
 }
 
-fn counted(given: Given) -> usize
-    ensures { λ r. ⌜ r ≡ length (givenHints given) ⌝ }
-    ensures small { λ r. ⌜ r ≤ 1 ⌝ }
-{
-    match given {
-        Given::Hint(_) => 1,
-        Given::Nothing => 0,
-    }
-}
-
-fn count_hints(columns: &[u8]) -> usize
-    ensures { λ r. ⌜ r ≡ length (allHints (pieces (now (columns .entry)))) ⌝ }
-{
-    let mut at = 0;
-    let mut n = 0;
-    while at <= columns.len() {
-        let end = piece_end(columns, at);
-        n = n + counted(piece_hint(&columns[at..end]));
-        at = end + 1;
-    }
-    n
-}
-
+// A hint too many is only counted.
 fn put(hints: &mut [u8], n: usize, given: Given) -> usize
-    requires { ⌜ n < length (now hints) ⌝ }
+    requires { ⌜ n < 9223372036854775808 ⌝ }
     ensures { λ r. ⌜ r ≡ n + length (givenHints given) ⌝ }
-    ensures within { λ r. ⌜ r ≤ length (now (hints .entry)) ⌝ }
+    ensures within { λ r. ⌜ r ≤ n + 1 ⌝ }
     ensures list { λ _. ⌜ now (hints .exit) ≡ sets (now (hints .entry)) n (givenHints given) ⌝ }
 {
     let Given::Hint(hint) = given else {
         return n;
     };
+    if n >= hints.len() {
+        return n + 1;
+    }
     hints[n] = hint;
     n + 1
 }
 
-// Writes as many as there is room for.
-fn put_hints(columns: &[u8], hints: &mut [u8])
-    ensures { λ _. ⌜ now (hints .exit) ≡ laid (allHints (pieces (now (columns .entry)))) (now (hints .entry)) ⌝ }
+// Writes as many hints as there is room for, and counts them all.
+fn read_hints(columns: &[u8], hints: &mut [u8]) -> usize
+    ensures { λ r. ⌜ r ≡ length (allHints (pieces (now (columns .entry)))) ⌝ }
+    ensures list { λ _. ⌜ now (hints .exit) ≡ laid (allHints (pieces (now (columns .entry)))) (now (hints .entry)) ⌝ }
 {
     let mut at = 0;
     let mut n = 0;
     while at <= columns.len() {
-        if n == hints.len() {
-            return;
-        }
         let end = piece_end(columns, at);
         n = put(hints, n, piece_hint(&columns[at..end]));
         at = end + 1;
+    }
+    n
+}
+
+fn copy(from: &[u8], to: &mut [u8])
+    ensures { λ _. ⌜ now (to .exit) ≡ laid (now (from .entry)) (now (to .entry)) ⌝ }
+{
+    let mut i = 0;
+    while i < from.len() {
+        if i >= to.len() {
+            return;
+        }
+        to[i] = from[i];
+        i = i + 1;
     }
 }
 
@@ -350,12 +413,13 @@ pub fn from_create_sql(statement: &[u8], hints: &mut [u8]) -> Filled
         return Filled::Refused(Refusal::NoColumnList);
     }
     let columns = &rest[..end - 1];
-    let count = count_hints(columns);
+    let mut found = [ANY; MOST_COLUMNS];
+    let count = read_hints(columns, &mut found);
     if !hint_count_fits(count) {
         return Filled::Refused(Refusal::ColumnCount);
     }
     let room = hints.len();
-    put_hints(columns, hints);
+    copy(&found[..count], hints);
     if room < count {
         return Filled::Full(room);
     }

@@ -21,7 +21,7 @@ unfolding searchAnswer searchPlaces
 returns-3 c = answers _ _ _ (simp (le-ltb _ _ (c .before .before .if1 .left)) (seen-all seen-none (ended _ _ 0 (search needs) (search needs) (search needs))))
 
 slide-requires : tie.Need-slide-requires
-slide-requires c κs = search needs
+slide-requires c κs = (search needs, (search needs, search needs))
 
 same-length : tie.Need-same-length
 same-length c = search needs

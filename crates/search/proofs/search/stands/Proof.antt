@@ -1,20 +1,19 @@
 -- `search::search::stands` meets its contract. The loop's invariant: from j on the bytes are equal.
 -- Assumes nothing.
-use Prim.Native.Nat.{ℕ, _+_, _-_, _≤_, _<_}
-use mathlib.Core.Path.{_≡_, sym}
-use mathlib.Core.Bool.{not-eq-not}
-use mathlib.Core.Logic.{by-cases}
-use native.Mathlib.Decide.{ℕ-discrete}
+use Prim.Native.Nat.{_≤_}
+use mathlib.Core.Path.{sym}
 use native.Mathlib.Omega.{arith}
+use borrow.Author.Tests.{not-true, not-false, leb-true, leb-false}
 use borrow.Author.Needs.{needs}
-use lib.ListN.{length, getD}
-use Rattle.search.proofs.Searching.{stands-byte, stands-all}
+use lib.Dec.{leb}
+use lib.ListN.{length}
+use Rattle.record.proofs.Numbers.{by-test}
+use Rattle.search.specs.Inner.{SameFrom}
 use Rattle.search.proofs.search.stands.Statement.{statement}
 use Rattle.search.proofs.search.stands.Tie as tie
 
 abbrev Inv-loop : tie.InvT-loop
-Inv-loop haystack pattern at j₀ j =
-    (j ≤ length pattern) × ((k : ℕ) → j ≤ k → k < length pattern → getD haystack (at + k) 0 ≡ getD pattern k 0)
+Inv-loop haystack pattern at j₀ j = (j ≤ length pattern) × SameFrom haystack pattern at j
 
 abbrev μ-loop : tie.MeasureT-loop
 μ-loop haystack pattern at j₀ j = j
@@ -22,33 +21,31 @@ abbrev μ-loop : tie.MeasureT-loop
 loop-holds : tie.Need-loop-holds Inv-loop μ-loop
 loop-holds c = (search needs, λ k from below. absurd (omega arith))
 
-sub-j : tie.Need-sub-j Inv-loop μ-loop
-sub-j c = search needs
-
-add-if1 : tie.Need-add-if1 Inv-loop μ-loop
-add-if1 c = search needs
-
-shared-slice-read-if1 : tie.Need-shared-slice-read-if1 Inv-loop μ-loop
-shared-slice-read-if1 c = search needs
-
-shared-slice-read-if1-2 : tie.Need-shared-slice-read-if1-2 Inv-loop μ-loop
-shared-slice-read-if1-2 c = search needs
+all-same-requires : tie.Need-all-same-requires Inv-loop μ-loop
+all-same-requires c κs = (c .before .before .before .before .pre, omega arith)
 
 returns : tie.Need-returns Inv-loop μ-loop
-returns c =
-    let j = c .before .before .before .before .loop .j in
-    sym (not-eq-not .0 (λ h. c .if1 .taken (stands-byte _ _ _ h (j - 1) (omega arith))))
+returns c = sym (c .before .all-same .ensures .differs (not-true _ (c .if1 .taken)))
 
 loop-less : tie.Need-loop-less Inv-loop μ-loop
 loop-less c = search needs
 
 loop-again : tie.Need-loop-again Inv-loop μ-loop
 loop-again c =
-    let l = c .before .before .before .before .loop in
-    (search needs, λ k from below. by-cases (ℕ-discrete k (l .j - 1)) (λ e. rw e (c .if1 .left)) (λ ne. l .inv .1 k (omega arith) below))
+    let l = c .before .before .before .loop in
+    let same = c .before .all-same .ensures .same (not-false _ (c .if1 .left)) in (
+      omega arith,
+      λ k from below.
+          by-test (leb (l .j) k)
+          (λ t. l .inv .1 k (leb-true (l .j) k t) below)
+          (λ f. same k from (omega (arith, leb-false (l .j) k f))),
+    )
+
+same-before-requires : tie.Need-same-before-requires Inv-loop μ-loop
+same-before-requires c κs = (c .before .before .before .before .pre, c .before .loop .inv)
 
 returns-2 : tie.Need-returns-2 Inv-loop μ-loop
-returns-2 c = sym (stands-all _ _ _ (c .before .before .pre) (λ k below. c .before .loop .inv .1 k (omega arith) below))
+returns-2 c = c .same-before .ensures
 
 pub stands-spec : {M : Type 1} → statement M
 stands-spec =
@@ -57,11 +54,9 @@ stands-spec =
     Inv-loop
     μ-loop
     loop-holds
-    sub-j
-    add-if1
-    shared-slice-read-if1
-    shared-slice-read-if1-2
+    all-same-requires
     returns
     loop-less
     loop-again
+    same-before-requires
     returns-2)

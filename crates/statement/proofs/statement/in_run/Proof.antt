@@ -19,6 +19,9 @@ is-blank-requires-2 c κs = search needs
 enum-known-run : tie.Need-enum-known-run
 enum-known-run c = search needs
 
+enum-known-run-2 : tie.Need-enum-known-run-2
+enum-known-run-2 c = search needs
+
 returns : tie.Need-returns
 returns c = rw (c .before .enum-told .given .1) (c .is-blank .ensures)
 
@@ -27,6 +30,9 @@ returns-2 c = rw (c .before .enum-told2 .given .1, c .is-blank2 .ensures)
 
 returns-3 : tie.Need-returns-3
 returns-3 c = rw (c .before .run .given .1)
+
+returns-4 : tie.Need-returns-4
+returns-4 c = rw (c .before .run2 .given .1)
 
 pub in-run-spec : {M : Type 1} → statement M
 in-run-spec =
@@ -37,6 +43,8 @@ in-run-spec =
     enum-told-2
     is-blank-requires-2
     enum-known-run
+    enum-known-run-2
     returns
     returns-2
-    returns-3)
+    returns-3
+    returns-4)

@@ -1,6 +1,7 @@
--- `statement::statement::is_row_id` meets its contract: the three tests are the definition.
+-- `statement::statement::is_row_id` meets its contract: the three tests are the definition, the one that fails most first.
 -- Assumes nothing.
 use mathlib.Core.Path.{sym, _∙_}
+use mathlib.Core.Bool.{and-false, and-true}
 use borrow.Author.Tests.{not-true, not-false}
 use borrow.Author.Needs.{needs}
 use Rattle.statement.specs.Statement.{isRowId}
@@ -15,7 +16,7 @@ holds-word-requires c κs = search needs
 
 returns : tie.Need-returns
 unfolding isRowId
-returns c = simp (sym (c .before .holds-word .ensures) ∙ not-true _ (c .if1 .taken))
+returns c = simp (sym (c .before .holds-word .ensures) ∙ not-true _ (c .if1 .taken), and-false)
 
 slice-aggregate-holds-word-2 : tie.Need-slice-aggregate-holds-word-2
 slice-aggregate-holds-word-2 c = search needs
@@ -29,6 +30,7 @@ returns-2 c =
     simp (
       sym (c .before .before .before .before .holds-word .ensures) ∙ not-false _ (c .before .before .before .if1 .left),
       sym (c .before .holds-word2 .ensures) ∙ not-true _ (c .if2 .taken),
+      and-false,
     )
 
 slice-aggregate-holds-word-3 : tie.Need-slice-aggregate-holds-word-3
@@ -44,6 +46,7 @@ returns-3 c =
       sym (c .before .before .before .before .before .before .holds-word .ensures) ∙ not-false _ (c .before .before .before .before .before .if1 .left),
       sym (c .before .before .before .holds-word2 .ensures) ∙ not-false _ (c .before .before .if2 .left),
       c .holds-word3 .ensures,
+      and-true,
     )
 
 pub is-row-id-spec : {M : Type 1} → statement M

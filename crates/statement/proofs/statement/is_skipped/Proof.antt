@@ -3,8 +3,7 @@
 use mathlib.Core.Path.{sym, _∙_}
 use borrow.Author.Tests.{eq-eqb, ne-eqb}
 use borrow.Author.Needs.{needs}
-use Rattle.statement.specs.Statement.{isConstraint, isSkipped}
-use Rattle.statement.specs.Words.{pieces}
+use Rattle.statement.specs.Statement.{isSkipped}
 use Rattle.statement.proofs.statement.is_skipped.Statement.{statement}
 use Rattle.statement.proofs.statement.is_skipped.Tie as tie
 
@@ -19,28 +18,18 @@ returns-2 : tie.Need-returns-2
 unfolding isSkipped
 returns-2 c = simp (ne-eqb _ _ (c .before .before .if1 .left), sym (c .before .is-row-id .ensures) ∙ c .if2 .taken)
 
-slice-aggregate-one-of : tie.Need-slice-aggregate-one-of
-slice-aggregate-one-of c = search needs
-
-one-of-requires : tie.Need-one-of-requires
-one-of-requires c κs = search needs
+is-constraint-requires : tie.Need-is-constraint-requires
+is-constraint-requires c κs = search needs
 
 returns-3 : tie.Need-returns-3
-unfolding isSkipped isConstraint pieces
+unfolding isSkipped
 returns-3 c =
     simp (
-      ne-eqb _ _ (c .before .before .before .before .if1 .left),
-      sym (c .before .before .before .is-row-id .ensures) ∙ c .before .before .if2 .left,
-      c .one-of .ensures,
+      ne-eqb _ _ (c .before .before .before .if1 .left),
+      sym (c .before .before .is-row-id .ensures) ∙ c .before .if2 .left,
+      c .is-constraint .ensures,
     )
 
 pub is-skipped-spec : {M : Type 1} → statement M
 is-skipped-spec =
-    tie.close
-    (tie.spec
-    returns
-    is-row-id-requires
-    returns-2
-    slice-aggregate-one-of
-    one-of-requires
-    returns-3)
+    tie.close (tie.spec returns is-row-id-requires returns-2 is-constraint-requires returns-3)

@@ -9,36 +9,36 @@ use Rattle.statement.proofs.WordsLaws.{part-from, piece-ends}
 use Rattle.statement.proofs.statement.piece_end.Statement.{statement}
 use Rattle.statement.proofs.statement.piece_end.Tie as tie
 
-inside : (c : tie.After-leading) →
+inside : (c : tie.After-long-run) →
     let a = c .before .before .before .args in
-    c .leading .result ≤ length (drop (a .at) (a .s .now))
-inside c = rw part-from at (c .leading .ensures .1)
+    c .long-run .result ≤ length (drop (a .at) (a .s .now))
+inside c = rw part-from at (c .long-run .ensures .1)
 
-sub-leading : tie.Need-sub-leading
-sub-leading c = search needs
+sub-long-run : tie.Need-sub-long-run
+sub-long-run c = search needs
 
-part-leading-start : tie.Need-part-leading-start
-part-leading-start c = search needs
+part-long-run-start : tie.Need-part-long-run-start
+part-long-run-start c = search needs
 
-part-leading-end : tie.Need-part-leading-end
-part-leading-end c = search needs
+part-long-run-end : tie.Need-part-long-run-end
+part-long-run-end c = search needs
 
-leading-requires : tie.Need-leading-requires
-leading-requires c κs = search needs
+long-run-requires : tie.Need-long-run-requires
+long-run-requires c κs = search needs
 
 add-result : tie.Need-add-result
 add-result c = omega (arith, inside c, length-drop (c .before .before .before .args .at) (c .before .before .before .args .s .now))
 
 returns : tie.Need-returns
-returns c = piece-ends _ _ _ (c .before .before .before .pre) (c .leading .ensures .0 ∙ rw part-from) (inside c)
+returns c = piece-ends _ _ _ (c .before .before .before .pre) (c .long-run .ensures .0 ∙ rw part-from) (inside c)
 
 pub piece-end-spec : {M : Type 1} → statement M
 piece-end-spec =
     tie.close
     (tie.spec
-    sub-leading
-    part-leading-start
-    part-leading-end
-    leading-requires
+    sub-long-run
+    part-long-run-start
+    part-long-run-end
+    long-run-requires
     add-result
     returns)

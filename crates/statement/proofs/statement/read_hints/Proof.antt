@@ -1,4 +1,4 @@
--- `statement::statement::put_hints` meets its contract. The loop's invariant: the hints written and those of the pieces from `at` on are all hints.
+-- `statement::statement::read_hints` meets its contract. The loop's invariant: the hints written and those of the pieces from `at` on are all hints.
 -- Assumes nothing.
 use Prim.Native.Nat.{_+_, _-_, _≤_}
 use mathlib.Core.Path.{_≡_, refl, _∙_}
@@ -8,28 +8,20 @@ use lib.ListN.{length}
 use Rattle.statement.specs.Statement.{allHints}
 use Rattle.statement.specs.Inner.{piecesFrom, givenHints}
 use Rattle.statement.specs.Words.{pieces}
-use Rattle.statement.proofs.StatementLaws.{hints-next, hints-none, Written, written-none, written-more, written-full, written-all}
+use Rattle.statement.proofs.StatementLaws.{hints-next, hints-none, Written, written-none, written-more, written-all}
 use Rattle.statement.proofs.WordsLaws.{pieces-start}
-use Rattle.statement.proofs.statement.put_hints.Statement.{statement}
-use Rattle.statement.proofs.statement.put_hints.Tie as tie
+use Rattle.statement.proofs.statement.read_hints.Statement.{statement}
+use Rattle.statement.proofs.statement.read_hints.Tie as tie
 
 abbrev Inv-loop : tie.InvT-loop
 Inv-loop columns hints₀ at₀ n₀ hints at n =
-    (length hints ≡ length hints₀) × (n ≤ length hints₀) × Written (allHints (pieces columns)) (allHints (piecesFrom columns at)) hints₀ hints n
+    (length hints ≡ length hints₀) × (n ≤ at) × Written (allHints (pieces columns)) (allHints (piecesFrom columns at)) hints₀ hints n
 
 abbrev μ-loop : tie.MeasureT-loop
 μ-loop columns hints₀ at₀ n₀ hints at n = length columns + 1 - at
 
 loop-holds : tie.Need-loop-holds Inv-loop μ-loop
 loop-holds c = (refl, search needs, rw pieces-start (written-none _ _))
-
-same-length : tie.Need-same-length Inv-loop μ-loop
-same-length c = c .before .before .loop .inv .0
-
-returns : tie.Need-returns Inv-loop μ-loop
-returns c =
-    let l = c .before .before .loop in
-    written-full (c .if1 .taken ∙ l .inv .0) (l .inv .2)
 
 piece-end-requires : tie.Need-piece-end-requires Inv-loop μ-loop
 piece-end-requires c κs = search needs
@@ -57,32 +49,28 @@ loop-less c = search needs
 
 loop-again : tie.Need-loop-again Inv-loop μ-loop
 loop-again c =
-    let l = c .before .before .before .before .before .before .before .before .before .loop in
+    let l = c .before .before .before .before .before .before .before .before .loop in
     let put = c .before .before .put in
     let ends = c .before .before .before .before .before .before .piece-end .ensures in
     let w = rw (hints-next ends, ← c .before .before .before .piece-hint .ensures) at (l .inv .2) in (
       put .kept .0 ∙ l .inv .0,
       omega (arith, put .ensures .1 .0),
-      written-more (givenHints (c .before .before .before .piece-hint .result)) (omega (arith, put .ensures .1 .0)) (put .ensures .0) (put .ensures .1 .1) w,
+      written-more (givenHints (c .before .before .before .piece-hint .result)) (omega (arith, put .ensures .0, put .ensures .1 .0)) (put .ensures .0) (put .ensures .1 .1) w,
     )
 
-same-length-2 : tie.Need-same-length-2 Inv-loop μ-loop
-same-length-2 c = c .before .loop .inv .0
+same-length : tie.Need-same-length Inv-loop μ-loop
+same-length c = c .before .loop .inv .0
 
-returns-2 : tie.Need-returns-2 Inv-loop μ-loop
-returns-2 c =
-    let l = c .before .loop in
-    written-all (l .inv .1) (hints-none _ _ (c .loop-test .left)) (l .inv .2)
+returns : tie.Need-returns Inv-loop μ-loop
+returns c = written-all (hints-none _ _ (c .loop-test .left)) (c .before .loop .inv .2)
 
-pub put-hints-spec : {M : Type 1} → statement M
-put-hints-spec =
+pub read-hints-spec : {M : Type 1} → statement M
+read-hints-spec =
     tie.close
     (tie.spec
     Inv-loop
     μ-loop
     loop-holds
-    same-length
-    returns
     piece-end-requires
     sub-piece-hint
     part-piece-hint-start
@@ -92,5 +80,5 @@ put-hints-spec =
     add-at
     loop-less
     loop-again
-    same-length-2
-    returns-2)
+    same-length
+    returns)

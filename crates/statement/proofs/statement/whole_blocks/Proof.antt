@@ -4,7 +4,6 @@ use Prim.Native.Nat.{_+_, _-_, _≤_}
 use mathlib.Core.Path.{_∙_}
 use native.Mathlib.Omega.{arith}
 use borrow.Author.Tests.{not-false}
-use borrow.Author.Needs.{needs}
 use lib.ListN.{length}
 use Rattle.statement.specs.Inner.{inRun, Leads}
 use Rattle.statement.proofs.WordsLaws.{run-many}

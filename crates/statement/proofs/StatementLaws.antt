@@ -16,7 +16,6 @@ use Rattle.statement.proofs.WordsLaws.{behind-has, kept-has, kept-befor
 use Rattle.sheet.specs.Filled.{filledNumber, filledWritten, filledBy, writtenAfter, laid}
 use Rattle.sheet.specs.Limits.{mostColumns, countFits}
 use Rattle.sheet.specs.Refusal.{firstHeld, after}
-use Rattle.sheet.specs.Sheet.{overlay}
 use Rattle.sheet.specs.declared.filled.Filled.{Filled}
 use Rattle.sheet.specs.declared.filled.Filled.the-variants.{Done, Full, Refused}
 use Rattle.sheet.specs.declared.refusal.Checked.the-variants.{Passed, Refused as Stopped}

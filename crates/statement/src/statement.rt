@@ -92,30 +92,30 @@ fn leading(s: &[u8], run: Run) -> usize
     i
 }
 
-// Whether 16 bytes are of the run, all of them tested: a test for all at once is cheap.
+// Whether 8 bytes are of the run, all of them tested: a test for all at once is cheap.
 fn all_in(s: &[u8], at: usize, run: Run) -> bool
-    requires { ⌜ at + 16 ≤ length (now s) ⌝ }
-    ensures { λ r. ⌜ AllIn (inRun run) (now (s .entry)) at 16 r ⌝ }
+    requires { ⌜ at + 8 ≤ length (now s) ⌝ }
+    ensures { λ r. ⌜ AllIn (inRun run) (now (s .entry)) at 8 r ⌝ }
 {
     let mut all = true;
     let mut k = 0;
-    while k < 16 {
+    while k < 8 {
         all = all & in_run(run, s[at + k]);
         k = k + 1;
     }
     all
 }
 
-// How many bytes of the run `s` starts with, as far as they fill blocks of 16.
+// How many bytes of the run `s` starts with, as far as they fill blocks of 8.
 fn whole_blocks(s: &[u8], run: Run) -> usize
     ensures { λ r. ⌜ Leads (inRun run) (now (s .entry)) r ⌝ }
 {
     let mut i = 0;
-    while s.len() - i >= 16 {
+    while s.len() - i >= 8 {
         if !all_in(s, i, run) {
             return i;
         }
-        i = i + 16;
+        i = i + 8;
     }
     i
 }

@@ -1,13 +1,13 @@
 -- `search::search::same_before` meets its contract. The loop's invariant: from j on the bytes are equal.
 -- Assumes nothing.
-use Prim.Native.Nat.{ℕ, _+_, _-_, _≤_, _<_}
-use mathlib.Core.Path.{_≡_, sym}
+use Prim.Native.Nat.{_-_, _≤_}
+use mathlib.Core.Path.{sym}
 use mathlib.Core.Bool.{not-eq-not}
 use mathlib.Core.Logic.{by-cases}
 use native.Mathlib.Decide.{ℕ-discrete}
 use native.Mathlib.Omega.{arith}
 use borrow.Author.Needs.{needs}
-use lib.ListN.{length, getD}
+use lib.ListN.{length}
 use Rattle.search.specs.Inner.{SameFrom}
 use Rattle.search.proofs.Searching.{stands-byte, stands-all}
 use Rattle.search.proofs.search.same_before.Statement.{statement}

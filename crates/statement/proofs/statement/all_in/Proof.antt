@@ -9,10 +9,10 @@ use Rattle.statement.proofs.statement.all_in.Statement.{statement}
 use Rattle.statement.proofs.statement.all_in.Tie as tie
 
 abbrev Inv-loop : tie.InvT-loop
-Inv-loop s at run all₀ k₀ all k = (k ≤ 16) × AllIn (inRun run) s at k all
+Inv-loop s at run all₀ k₀ all k = (k ≤ 8) × AllIn (inRun run) s at k all
 
 abbrev μ-loop : tie.MeasureT-loop
-μ-loop s at run all₀ k₀ all k = 16 - k
+μ-loop s at run all₀ k₀ all k = 8 - k
 
 loop-holds : tie.Need-loop-holds Inv-loop μ-loop
 loop-holds c = (search needs, λ h k below. absurd (omega arith))

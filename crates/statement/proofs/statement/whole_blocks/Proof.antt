@@ -4,7 +4,6 @@ use Prim.Native.Nat.{_+_, _-_, _≤_}
 use mathlib.Core.Path.{_∙_}
 use native.Mathlib.Omega.{arith}
 use borrow.Author.Tests.{not-false}
-use borrow.Author.Needs.{needs}
 use lib.ListN.{length}
 use Rattle.statement.specs.Inner.{inRun, Leads}
 use Rattle.statement.proofs.WordsLaws.{run-many}
@@ -39,8 +38,8 @@ loop-again : tie.Need-loop-again Inv-loop μ-loop
 loop-again c =
     let l = c .before .before .before .loop in
     let a = c .before .before .before .before .before .args in
-    let inside : l .i + 16 ≤ length (a .s .now) = omega (arith, l .inv .within) in
-    record { within = inside; rest = l .inv .rest ∙ run-many (inRun (a .run)) (a .s .now) (l .i) 16 inside (c .before .all-in .ensures (not-false _ (c .if1 .left))) }
+    let inside : l .i + 8 ≤ length (a .s .now) = omega (arith, l .inv .within) in
+    record { within = inside; rest = l .inv .rest ∙ run-many (inRun (a .run)) (a .s .now) (l .i) 8 inside (c .before .all-in .ensures (not-false _ (c .if1 .left))) }
 
 returns-2 : tie.Need-returns-2 Inv-loop μ-loop
 returns-2 c = c .before .loop .inv

@@ -127,6 +127,8 @@ fn soon_seen(sink: &mut dyn Sink) {
     ] {
         for hints in [&[0][..], &[3, 3], &[5]] {
             scan(sink, &region, hints, 3);
+            // Behind an offset that is passed over.
+            scan(sink, &[&[0][..], &region].concat(), hints, 3);
         }
     }
     // A type of 127 in a header whose length is lost.

@@ -1,25 +1,19 @@
 -- What other crates may use of a recording's definitions.
 -- Assumes nothing.
-use Prim.Native.Nat.{ℕ, zero, suc, _+_, _≤_}
-use mathlib.Core.Path.{_≡_, refl, _∙_}
-use mathlib.Core.List.{List, [], _∷_}
+use Prim.Native.Nat.{ℕ, _+_, _≤_}
+use mathlib.Core.Path.{_≡_}
+use mathlib.Core.List.{List}
 use native.Mathlib.Nat.{min-le-left}
-use native.Mathlib.Numerals.{add-one}
 use native.Mathlib.Omega.{arith}
 use lib.Dec.{ltb}
-use lib.ListN.{length, take, drop, length-append, length-take}
+use lib.ListN.{length, take, drop, length-take}
 use lib.Seq.{length-take-le}
 use Rattle.record.proofs.Numbers.{by-test}
-use Rattle.recording.specs.Recording.{mostSize, cells, part}
-
-length-cells : (f : ℕ → ℕ) (n : ℕ) → length (cells f n) ≡ n
-unfolding cells
-length-cells f zero = refl
-length-cells f (suc n) = length-append (cells f n) (f n ∷ []) ∙ rw (length-cells f n, add-one)
+use Rattle.recording.specs.Recording.{mostSize, part}
 
 -- THE LAW: a list that is lent is as long as it is said to be
-pub lent-length : (f : ℕ → ℕ) (n : ℕ) {l : List ℕ} → l ≡ cells f mostSize → n ≤ mostSize → length (take n l) ≡ n
-lent-length f n {l = l} e h = length-take-le n l (rw (e, length-cells f mostSize) h)
+pub lent-length : (n : ℕ) (l : List ℕ) → mostSize ≡ length l → n ≤ mostSize → length (take n l) ≡ n
+lent-length n l e h = length-take-le n l (omega arith)
 
 -- THE LAW: a part is no longer than it is said to be
 pub part-short : (b : List ℕ) (at n : ℕ) → length (part b at n) ≤ n

@@ -3,15 +3,15 @@
 use Prim.Native.Nat.{ℕ, zero, suc, _+_, _-_, _*_, _≤_, _<_}
 use mathlib.Core.Path.{_≡_, refl, sym, _∙_}
 use mathlib.Core.Bool.{Bool, true, false, _&&_}
-use mathlib.Core.List.{List, []}
+use mathlib.Core.List.{List, [], _∷_}
 use mathlib.Core.Logic.{by-cases}
 use native.Mathlib.Decide.{ℕ-discrete}
 use native.Mathlib.Numerals.{add-one}
 use native.Mathlib.Omega.{arith}
 use borrow.Author.Tests.{lt-ltb, le-ltb, eq-eqb, ne-eqb}
 use lib.Dec.{eqb}
-use lib.ListN.{length, getD, take, drop, set}
-use lib.Seq.{take-suc-set, take-all}
+use lib.ListN.{length, length-append, getD, take, drop, set}
+use lib.Seq.{take-suc-set, take-all, take-append-le}
 use Rattle.record.specs.Value.{bigEndian}
 use Rattle.recording.specs.Recording.{wordAt, mostSize, sizeAt, part, freshWord, cells, cellAfter, after, below, holds, answered}
 
@@ -43,6 +43,11 @@ part-there b at n h = let e : at + n - at ≡ n = omega arith in simp (le-ltb _ 
 -- ---- cells
 
 -- none is filled, one more is, all are
+length-cells : (f : ℕ → ℕ) (n : ℕ) → length (cells f n) ≡ n
+unfolding cells
+length-cells f zero = refl
+length-cells f (suc n) = length-append (cells f n) (f n ∷ []) ∙ rw (length-cells f n, add-one)
+
 pub cells-none : (f : ℕ → ℕ) → [] ≡ cells f 0
 unfolding cells
 cells-none f = refl
@@ -52,8 +57,16 @@ module _ (f : ℕ → ℕ) (l : List ℕ) (i : ℕ) (first : take i l ≡ cells 
   unfolding cells
   cells-more e h = rw (add-one, e) (take-suc-set l i (f i) h ∙ rw first)
 
-  pub cells-all : length l ≡ i → l ≡ cells f i
-  cells-all e = sym (take-all i l (omega arith)) ∙ first
+  -- they are the first of more
+  pub cells-first : (k : ℕ) → take i l ≡ take i (cells f (i + k))
+  unfolding cells
+  cells-first k = first ∙ sym (go k)
+    where
+      go : (k : ℕ) → take i (cells f (i + k)) ≡ cells f i
+      go zero = let e : i + 0 ≡ i = omega arith in rw e (take-all i (cells f i) (omega (arith, length-cells f i)))
+      go (suc k) =
+          let e : i + suc k ≡ suc (i + k) = omega arith in
+          rw e (take-append-le i (cells f (i + k)) (f (i + k) ∷ []) (omega (arith, length-cells f (i + k))) ∙ go k)
 
 module _ (b : List ℕ) (at written i fresh : ℕ) where
   pub cell-written : i < written → wordAt b (at + 8 * i) ≡ cellAfter b at written i fresh

@@ -25,24 +25,29 @@ fn fresh_byte(i: usize) -> u8
     200 + (i % 50) as u8
 }
 
-pub fn fresh_words() -> [u64; MOST]
-    ensures { λ r. ⌜ r ≡ cells freshWord mostSize ⌝ }
+// So many of the cells that a call is lent; what is behind them is never lent, and is left as it is.
+pub fn fresh_words(n: usize) -> [u64; MOST]
+    requires { ⌜ n ≤ mostSize ⌝ }
+    ensures { λ r. ⌜ take n r ≡ take n (cells freshWord mostSize) ⌝ }
+    ensures size { λ r. ⌜ mostSize ≡ length r ⌝ }
 {
     let mut list = [0; MOST];
     let mut i = 0;
-    while i < MOST {
+    while i < n {
         list[i] = fresh_word(i);
         i = i + 1;
     }
     list
 }
 
-pub fn fresh_bytes() -> [u8; MOST]
-    ensures { λ r. ⌜ r ≡ cells freshByte mostSize ⌝ }
+pub fn fresh_bytes(n: usize) -> [u8; MOST]
+    requires { ⌜ n ≤ mostSize ⌝ }
+    ensures { λ r. ⌜ take n r ≡ take n (cells freshByte mostSize) ⌝ }
+    ensures size { λ r. ⌜ mostSize ≡ length r ⌝ }
 {
     let mut list = [0; MOST];
     let mut i = 0;
-    while i < MOST {
+    while i < n {
         list[i] = fresh_byte(i);
         i = i + 1;
     }

@@ -175,8 +175,8 @@ pub fn rows_agree(how: Attempts, head: &[u8], body: &[u8]) -> bool
 {
     let row_cells = size_at(head, CELLS);
     let col_cells = size_at(head, CELLS + 8);
-    let mut rows = fresh_words();
-    let mut cols = fresh_words();
+    let mut rows = fresh_words(row_cells);
+    let mut cols = fresh_words(col_cells);
     rows_agree_in(
         how,
         head,

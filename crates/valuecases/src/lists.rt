@@ -41,7 +41,7 @@ pub fn hints_agree(head: &[u8], body: &[u8]) -> bool
     ensures { λ r. ⌜ r ≡ hintsAgree (now (head .entry)) (now (body .entry)) (lent freshByte 64 (now (head .entry))) ⌝ }
 {
     let cells = size_at(head, CELLS);
-    let mut hints = fresh_bytes();
+    let mut hints = fresh_bytes(cells);
     hints_agree_in(head, body, &mut hints[..cells])
 }
 
@@ -64,7 +64,7 @@ pub fn places_agree(head: &[u8], body: &[u8]) -> bool
     ensures { λ r. ⌜ r ≡ placesAgree (now (head .entry)) (now (body .entry)) (lent freshWord 64 (now (head .entry))) ⌝ }
 {
     let cells = size_at(head, CELLS);
-    let mut places = fresh_words();
+    let mut places = fresh_words(cells);
     places_agree_in(head, body, &mut places[..cells])
 }
 
@@ -105,6 +105,6 @@ pub fn types_agree(head: &[u8], body: &[u8]) -> bool
     ensures { λ r. ⌜ r ≡ typesAgree (now (head .entry)) (now (body .entry)) (lent freshWord 64 (now (head .entry))) ⌝ }
 {
     let cells = size_at(head, CELLS);
-    let mut types = fresh_words();
+    let mut types = fresh_words(cells);
     types_agree_in(head, body, &mut types[..cells])
 }

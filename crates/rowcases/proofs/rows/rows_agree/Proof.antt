@@ -10,10 +10,10 @@ use Rattle.rowcases.proofs.rows.rows_agree.Statement.{statement}
 use Rattle.rowcases.proofs.rows.rows_agree.Tie as tie
 
 rows-fit : (c : tie.After-rows) → length (take (c .before .before .before .before .size-at .result) (c .before .before .fresh-words .result)) ≡ c .before .before .before .before .size-at .result
-rows-fit c = lent-length freshWord _ (c .before .before .fresh-words .ensures) (c .before .before .before .before .size-at .ensures .1)
+rows-fit c = lent-length _ (c .before .before .fresh-words .result) (c .before .before .fresh-words .ensures .1) (c .before .before .before .before .size-at .ensures .1)
 
 cols-fit : (c : tie.After-cols) → length (take (c .before .before .before .before .size-at2 .result) (c .before .before .fresh-words2 .result)) ≡ c .before .before .before .before .size-at2 .result
-cols-fit c = lent-length freshWord _ (c .before .before .fresh-words2 .ensures) (c .before .before .before .before .size-at2 .ensures .1)
+cols-fit c = lent-length _ (c .before .before .fresh-words2 .result) (c .before .before .fresh-words2 .ensures .1) (c .before .before .before .before .size-at2 .ensures .1)
 
 size-at-requires : tie.Need-size-at-requires
 size-at-requires c κs = search needs
@@ -48,7 +48,7 @@ rows-agree-in-requires c κs =
 
 returns : tie.Need-returns
 returns c =
-    c .before .before .rows-agree-in .ensures ∙ rw (c .before .before .before .before .before .fresh-words2 .ensures, c .before .before .before .before .before .before .fresh-words .ensures, c .before .before .before .before .before .before .before .size-at2 .ensures .0, c .before .before .before .before .before .before .before .before .size-at .ensures .0)
+    c .before .before .rows-agree-in .ensures ∙ rw (c .before .before .before .before .before .fresh-words2 .ensures .0, c .before .before .before .before .before .before .fresh-words .ensures .0, c .before .before .before .before .before .before .before .size-at2 .ensures .0, c .before .before .before .before .before .before .before .before .size-at .ensures .0)
 
 pub rows-agree-spec : {M : Type 1} → statement M
 rows-agree-spec =

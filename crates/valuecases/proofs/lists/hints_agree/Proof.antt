@@ -10,7 +10,7 @@ use Rattle.valuecases.proofs.lists.hints_agree.Statement.{statement}
 use Rattle.valuecases.proofs.lists.hints_agree.Tie as tie
 
 fits : (c : tie.After-hints) → length (take (c .before .before .size-at .result) (c .before .fresh-bytes .result)) ≡ c .before .before .size-at .result
-fits c = lent-length freshByte _ (c .before .fresh-bytes .ensures) (c .before .before .size-at .ensures .1)
+fits c = lent-length _ (c .before .fresh-bytes .result) (c .before .fresh-bytes .ensures .1) (c .before .before .size-at .ensures .1)
 
 size-at-requires : tie.Need-size-at-requires
 size-at-requires c κs = search needs
@@ -28,7 +28,7 @@ hints-agree-in-requires : tie.Need-hints-agree-in-requires
 hints-agree-in-requires c κs = omega (arith, fits c, c .before .before .size-at .ensures .1)
 
 returns : tie.Need-returns
-returns c = c .before .hints-agree-in .ensures ∙ rw (c .before .before .before .fresh-bytes .ensures, c .before .before .before .before .size-at .ensures .0)
+returns c = c .before .hints-agree-in .ensures ∙ rw (c .before .before .before .fresh-bytes .ensures .0, c .before .before .before .before .size-at .ensures .0)
 
 pub hints-agree-spec : {M : Type 1} → statement M
 hints-agree-spec =

@@ -10,7 +10,7 @@ use Rattle.valuecases.proofs.lists.places_agree.Statement.{statement}
 use Rattle.valuecases.proofs.lists.places_agree.Tie as tie
 
 fits : (c : tie.After-places) → length (take (c .before .before .size-at .result) (c .before .fresh-words .result)) ≡ c .before .before .size-at .result
-fits c = lent-length freshWord _ (c .before .fresh-words .ensures) (c .before .before .size-at .ensures .1)
+fits c = lent-length _ (c .before .fresh-words .result) (c .before .fresh-words .ensures .1) (c .before .before .size-at .ensures .1)
 
 size-at-requires : tie.Need-size-at-requires
 size-at-requires c κs = search needs
@@ -28,7 +28,7 @@ places-agree-in-requires : tie.Need-places-agree-in-requires
 places-agree-in-requires c κs = omega (arith, fits c, c .before .before .size-at .ensures .1)
 
 returns : tie.Need-returns
-returns c = c .before .places-agree-in .ensures ∙ rw (c .before .before .before .fresh-words .ensures, c .before .before .before .before .size-at .ensures .0)
+returns c = c .before .places-agree-in .ensures ∙ rw (c .before .before .before .fresh-words .ensures .0, c .before .before .before .before .size-at .ensures .0)
 
 pub places-agree-spec : {M : Type 1} → statement M
 places-agree-spec =

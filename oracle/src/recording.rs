@@ -17,8 +17,8 @@ const MOST_WORDS: usize = 300;
 const LARGEST_FILE: usize = 3_000_000;
 
 /// Cases of one kind: the first few, and then ever fewer of the many.
-const FIRST: usize = 8;
-const GROWTH: f64 = 1.3;
+const FIRST: usize = 6;
+const GROWTH: f64 = 1.7;
 
 struct Recorder {
     file: Vec<u8>,

@@ -86,32 +86,24 @@ left-start f s hints at stop h = (
 )
 
 module _ (s hints : List ℕ) (w : Types) (at stop count matched total : ℕ) where
-  pub left-step : (t : ℕ) (c : Cursor) → at < stop → at < c .at → varintAt s at ≡ Value t c → Left s hints w at stop count matched total
-      → Left s hints w (c .at) stop (count + 1) (matched + suitsAt hints count t) (min tooLong (total + bodySize t))
-  unfolding Left totalFrom
-  left-step t c h p e (zero, k, a) = absurd (omega arith)
-  left-step t c h p e (suc f, k, a) =
-      let b : Along s hints w (kind t (typesFrom f s (c .at) stop)) count matched total = rw (types-step f s at stop t c h e) at a in (
-        f,
-        omega arith,
-        record {
-          whole-is = b .whole-is;
-          reach-is = b .reach-is;
-          count-is = omega (arith, b .count-is);
-          matched-is = omega (arith, b .matched-is, suited-step hints count t (kinds (typesFrom f s (c .at) stop)));
-          total-is = b .total-is;
-        },
-      )
+  -- one type more was read,
+  pub along-step : (f t : ℕ) (c : Cursor) → at < stop → varintAt s at ≡ Value t c → Along s hints w (typesFrom (suc f) s at stop) count matched total
+      → Along s hints w (typesFrom f s (c .at) stop) (count + 1) (matched + suitsAt hints count t) (min tooLong (total + bodySize t))
+  unfolding totalFrom
+  along-step f t c h e a =
+      let b : Along s hints w (kind t (typesFrom f s (c .at) stop)) count matched total = rw (types-step f s at stop t c h e) at a in
+      record {
+        whole-is = b .whole-is;
+        reach-is = b .reach-is;
+        count-is = omega (arith, b .count-is);
+        matched-is = omega (arith, b .matched-is, suited-step hints count t (kinds (typesFrom f s (c .at) stop)));
+        total-is = b .total-is;
+      }
 
-  pub left-cut : at < stop → varintAt s at ≡ Short → Left s hints w at stop count matched total → Walked s hints w Cut
-  unfolding Left
-  left-cut h e (zero, k, a) = absurd (omega arith)
-  left-cut h e (suc f, k, a) = let b = rw (types-cut f s at stop h e) at a in b .whole-is
-
-  pub left-end : stop ≤ at → Left s hints w at stop count matched total → Walked s hints w (Whole count matched total at)
-  unfolding Left totalFrom
-  left-end h (f, k, a) =
-      let b : Along s hints w (ended at) count matched total = rw (types-end f s at stop h) at a in
+  -- or none is left
+  pub along-end : Along s hints w (ended at) count matched total → WholeIs s hints w count matched total at
+  unfolding totalFrom
+  along-end b =
       record {
         is-whole = b .whole-is;
         counts = omega (arith, b .count-is);
@@ -119,6 +111,21 @@ module _ (s hints : List ℕ) (w : Types) (at stop count matched total : ℕ) wh
         totals = b .total-is;
         ends = b .reach-is;
       }
+
+  pub left-step : (t : ℕ) (c : Cursor) → at < stop → at < c .at → varintAt s at ≡ Value t c → Left s hints w at stop count matched total
+      → Left s hints w (c .at) stop (count + 1) (matched + suitsAt hints count t) (min tooLong (total + bodySize t))
+  unfolding Left
+  left-step t c h p e (zero, k, a) = absurd (omega arith)
+  left-step t c h p e (suc f, k, a) = (f, omega arith, along-step f t c h e a)
+
+  pub left-cut : at < stop → varintAt s at ≡ Short → Left s hints w at stop count matched total → Walked s hints w Cut
+  unfolding Left
+  left-cut h e (zero, k, a) = absurd (omega arith)
+  left-cut h e (suc f, k, a) = let b = rw (types-cut f s at stop h e) at a in b .whole-is
+
+  pub left-end : stop ≤ at → Left s hints w at stop count matched total → Walked s hints w (Whole count matched total at)
+  unfolding Left
+  left-end h (f, k, a) = along-end (rw (types-end f s at stop h) at a)
 
 -- ---- where reading stops
 
@@ -177,3 +184,35 @@ module _ (s : List ℕ) (stop : ℕ) where
           let n = length-append (varintPlaces s at) [] in
           rw (types-cut f s at stop lt e, places-cut f s at stop lt e)
           (record { counts = omega (arith, n, places-count s at); inside = omega arith; near = λ _. omega (arith, z .near) })
+
+  -- THE LAW: types that end before their stop are those up to where they end
+  pub types-to-end : (f at g : ℕ) → at ≤ length s → isWhole (typesFrom f s at stop) ≡ true → reach s (typesFrom f s at stop) < stop
+      → reach s (typesFrom f s at stop) ≤ at + g → typesFrom g s at (reach s (typesFrom f s at stop)) ≡ typesFrom f s at stop
+  types-to-end zero at g in′ w lt h = rw (types-none s at stop) (types-end g s at at (omega arith))
+  types-to-end (suc f) at g in′ w lt h =
+      by-order at stop (λ more. go more (varintAt s at) refl (λ c k. types-to-end f c k))
+      (λ ge. absurd (omega (arith, ap (reach s) (types-end (suc f) s at stop ge))))
+    where
+      go : at < stop → (v : Varint) → varintAt s at ≡ v
+          → ((c k : ℕ) → c ≤ length s → isWhole (typesFrom f s c stop) ≡ true → reach s (typesFrom f s c stop) < stop → reach s (typesFrom f s c stop) ≤ c + k
+          → typesFrom k s c (reach s (typesFrom f s c stop)) ≡ typesFrom f s c stop)
+          → typesFrom g s at (reach s (typesFrom (suc f) s at stop)) ≡ typesFrom (suc f) s at stop
+      go more Short e rest = let q = rw (types-cut f s at stop more e) at w in let z : _≡_ {A = ℕ} 0 1 = cc in absurd (omega arith)
+      go more (Value t c) e rest = fuelled g h
+        where
+          same : typesFrom (suc f) s at stop ≡ kind t (typesFrom f s (c .at) stop)
+          same = types-step f s at stop t c more e
+
+          on : (at < c .at) × (c .at ≤ length s) × (c .at ≤ reach s (typesFrom f s (c .at) stop))
+          on =
+              let z = varint-reach s at in
+              let y : stopOf s (varintAt s at) ≡ c .at = ap (stopOf s) e in
+              (z .whole t c e, omega (arith, z .inside), omega (arith, stops f (c .at) (omega (arith, z .inside)) .counts))
+
+          fuelled : (g : ℕ) → reach s (typesFrom (suc f) s at stop) ≤ at + g → typesFrom g s at (reach s (typesFrom (suc f) s at stop)) ≡ typesFrom (suc f) s at stop
+          fuelled zero h = absurd (omega (arith, on, ap (reach s) same))
+          fuelled (suc k) h =
+              let r = ap (reach s) same in
+              rw same
+              (types-step k s at (reach s (typesFrom f s (c .at) stop)) t c (omega (arith, on)) e
+              ∙ rw (rest (c .at) k (on .1) (sym (ap isWhole same) ∙ w) (omega arith) (omega (arith, on))))

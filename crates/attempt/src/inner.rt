@@ -20,7 +20,7 @@ ghost use lib.ListN.{length};
 ghost use lib.Seq.{sets};
 ghost use Rattle.attempt.specs.Attempt.{kinds, attemptAt};
 ghost use Rattle.attempt.specs.Hints.{isInteger, isReal, isText, isBlob, suits as suitsHint};
-ghost use Rattle.attempt.specs.Inner.{suitsAt, tooLong, bodySize, sizes, columnsAt, headerTypes, Headed, Walked, Judged, Tells};
+ghost use Rattle.attempt.specs.Inner.{suitsAt, tooLong, bodySize, sizes, columnsAt, headerTypes, Headed, WholeIs, Walked, Judged, Tells};
 ghost use Rattle.attempt.specs.Places.{attemptPlaces};
 ghost use Rattle.sheet.specs.Limits.{wordsPerEntry, largestRegion};
 ghost use Rattle.sheet.specs.Sheet.{columnsWords};
@@ -110,7 +110,7 @@ pub fn suits(hint: u8, kind: u64) -> bool
 }
 
 // 1 where the type suits the hint at k; types behind the last hint suit none.
-fn suits_at(hints: &[u8], k: usize, kind: u64) -> u16
+pub fn suits_at(hints: &[u8], k: usize, kind: u64) -> u16
     ensures { λ r. ⌜ r ≡ suitsAt (now (hints .entry)) k kind ⌝ }
     ensures small { λ r. ⌜ r ≤ 1 ⌝ }
 {
@@ -132,7 +132,7 @@ fn body_size(kind: u64) -> usize
 }
 
 // The total with one more body, up to what is too long in any case.
-fn add_body(total: usize, kind: u64) -> usize
+pub fn add_body(total: usize, kind: u64) -> usize
     requires { ⌜ total ≤ tooLong ⌝ }
     ensures { λ r. ⌜ r ≡ min tooLong (total + bodySize kind) ⌝ }
 {
@@ -171,6 +171,41 @@ fn walk_types(bytes: &[u8], hints: &[u8], o: usize, head: usize, from: usize) ->
     }
 }
 
+// Whether as many types as hints make a row: those of the header of `head` bytes at o that stand behind `from`, and came to so much.
+pub fn judge(
+    bytes: &[u8],
+    hints: &[u8],
+    o: usize,
+    head: usize,
+    from: usize,
+    matched: u16,
+    total: usize,
+    end: usize,
+) -> Verdict
+    requires { ⌜ Headed (now bytes) o head from ⌝ }
+    requires { ⌜ WholeIs (now bytes) (now hints) (headerTypes (now bytes) o head from) (length (now hints)) matched total end ⌝ }
+    ensures { λ r. ⌜ Judged (now (bytes .entry)) (now (hints .entry)) o head from r ⌝ }
+{
+    let read = end - o;
+    if matched == 0 {
+        return Verdict::Miss(read);
+    }
+    let consumed = head + total;
+    if consumed > bytes.len() - o {
+        return Verdict::Miss(read);
+    }
+    if consumed > MOST_BYTES {
+        return Verdict::Miss(read);
+    }
+    Verdict::Hit(Find {
+        head,
+        from,
+        consumed,
+        matched,
+        read,
+    })
+}
+
 // Whether the types that stand behind `from` in the header of `head` bytes at o make a row; its own number need not stand there.
 pub fn given_header(bytes: &[u8], hints: &[u8], o: usize, head: usize, from: usize) -> Verdict
     requires { ⌜ Headed (now bytes) o head from ⌝ }
@@ -189,27 +224,10 @@ pub fn given_header(bytes: &[u8], hints: &[u8], o: usize, head: usize, from: usi
     else {
         return Verdict::Miss(bytes.len() - o);
     };
-    let read = end - o;
     if count != hints.len() {
-        return Verdict::Miss(read);
+        return Verdict::Miss(end - o);
     }
-    if matched == 0 {
-        return Verdict::Miss(read);
-    }
-    let consumed = head + total;
-    if consumed > bytes.len() - o {
-        return Verdict::Miss(read);
-    }
-    if consumed > MOST_BYTES {
-        return Verdict::Miss(read);
-    }
-    Verdict::Hit(Find {
-        head,
-        from,
-        consumed,
-        matched,
-        read,
-    })
+    judge(bytes, hints, o, head, from, matched, total, end)
 }
 
 pub fn attempt(bytes: &[u8], hints: &[u8], o: usize) -> Verdict

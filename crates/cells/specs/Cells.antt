@@ -1,4 +1,4 @@
--- Rows in the payload of a freed block (rules 11.4 to 11.7): whole cells, then records whose header's length is lost.
+-- Rows in the payload of a freed block (rules 11.4 to 11.7 and 11.9): whole cells, then records whose header's length is lost.
 -- Assumes nothing.
 use Prim.Native.Nat.{ℕ, zero, suc, _+_, _-_}
 use mathlib.Core.Bool.{Bool, true, false, cond}
@@ -7,13 +7,14 @@ use lib.Dec.{ltb, leb}
 use lib.Ieee.{Float}
 use lib.ListN.{length, take, drop}
 use Rattle.attempt.specs.Attempt.{Found, Tried, miss, hit, attemptAt}
-use Rattle.attempt.specs.Moved.{back}
 use Rattle.hit.specs.Hit.{rowAt, hitOf}
 use Rattle.hit.specs.declared.inner.Spot.{Spot}
 use Rattle.page.specs.Page.{among}
 use Rattle.record.specs.Varint.{varintAt}
 use Rattle.record.specs.declared.varint.Varint.{Varint}
 use Rattle.record.specs.declared.varint.Varint.the-variants.{Value, Short}
+use Rattle.rebuild.specs.Header.{rebuilt}
+use Rattle.rebuild.specs.declared.rebuilding.Rebuilding.{Rebuilding}
 use Rattle.sheet.specs.Confidence.{share, rebuiltShare, percentOf}
 use Rattle.sheet.specs.declared.row.RowId.{RowId}
 use Rattle.sheet.specs.declared.row.RowId.the-variants.{Absent, Present}
@@ -66,19 +67,6 @@ cellsOf d hints = cellsFrom (length d) d hints 0
 
 -- ---- rebuilt headers
 
--- what is made of a start of a payload
-abbrev pub Rebuilder : Type 0
-Rebuilder = List ℕ → List ℕ → ℕ → Tried
-
--- what was found behind one made-up byte, said of the bytes without it
-abbrev pub withoutByte : Tried → Tried
-withoutByte miss = miss
-withoutByte (hit x) = hit (record { consumed = x .consumed - 1; matched = x .matched; columns = back 1 (x .columns) })
-
--- Rule 11.6: an attempt on one made-up byte, columns + 1, before the bytes from v on
-unfoldable pub oneByte : Rebuilder
-oneByte d hints v = withoutByte (attemptAt (suc (length hints) ∷ drop v d) hints 0)
-
 -- where the records of cells start
 abbrev pub startsOf : List CellRow → List ℕ
 startsOf [] = []
@@ -111,14 +99,14 @@ startHits spot columns o v true t = []
 startHits spot columns o v false miss = []
 startHits spot columns o v false (hit x) = rebuiltHit spot columns (o + v) x ∷ []
 
--- Rule 11.6: of k starts, from v on; one at which the record of a cell starts is passed over
-unfoldable pub rebuiltFrom : ℕ → Rebuilder → Spot → ℕ → List ℕ → List ℕ → List ℕ → ℕ → List Hit
-rebuiltFrom zero rebuild spot o cells d hints v = []
-rebuiltFrom (suc k) rebuild spot o cells d hints v =
-    startHits spot (length hints) o v (among v cells) (rebuild d hints v) ++ rebuiltFrom k rebuild spot o cells d hints (suc v)
+-- Rules 11.6 and 11.9: of k starts, from v on; one at which the record of a cell starts is passed over
+unfoldable pub rebuiltFrom : ℕ → Rebuilding → Spot → ℕ → List ℕ → List ℕ → List ℕ → ℕ → List Hit
+rebuiltFrom zero how spot o cells d hints v = []
+rebuiltFrom (suc k) how spot o cells d hints v =
+    startHits spot (length hints) o v (among v cells) (rebuilt how d hints v) ++ rebuiltFrom k how spot o cells d hints (suc v)
 
 -- Rules 11.5 and 11.6: cells first, then what is rebuilt
-unfoldable pub payloadHits : Rebuilder → Spot → ℕ → List ℕ → List ℕ → List Hit
-payloadHits rebuild spot o d hints =
+unfoldable pub payloadHits : Rebuilding → Spot → ℕ → List ℕ → List ℕ → List Hit
+payloadHits how spot o d hints =
     cellHits spot (length hints) o (cellsOf d hints)
-    ++ rebuiltFrom (rebuiltStarts (length d) (length hints)) rebuild spot o (startsOf (cellsOf d hints)) d hints 0
+    ++ rebuiltFrom (rebuiltStarts (length d) (length hints)) how spot o (startsOf (cellsOf d hints)) d hints 0

@@ -3,22 +3,22 @@
 use Prim.Native.Nat.{ℕ, suc, _+_, _-_, _*_, _≤_, _<_}
 use mathlib.Core.Path.{_≡_}
 use mathlib.Core.Bool.{Bool, false, cond, _&&_}
-use mathlib.Core.List.{List, [], _∷_, _++_}
+use mathlib.Core.List.{List, [], _∷_}
 use lib.Dec.{ltb, eqb}
 use lib.ListN.{length, take, drop, getD}
-use Rattle.attempt.specs.Attempt.{Found, hit, miss, kinds, judgedWhole, attemptAt}
-use Rattle.attempt.specs.Inner.{columnsAt, headerTypes, findTypes, foundAt, HitIs}
-use Rattle.attempt.specs.Places.{typePlaces, attemptPlaces}
+use Rattle.attempt.specs.Attempt.{miss, attemptAt}
+use Rattle.attempt.specs.Inner.{foundAt, HitIs}
+use Rattle.attempt.specs.Places.{attemptPlaces}
 use Rattle.attempt.specs.declared.inner.Find.{Find}
-use Rattle.cells.specs.Cells.{CellRow, Looked, noCell, cell, cellAt, oneByte}
+use Rattle.cells.specs.Cells.{CellRow, Looked, noCell, cell, cellAt}
 use Rattle.cells.specs.declared.cell.Cell.{Cell}
 use Rattle.cells.specs.declared.cell.Cell.the-variants.{At, Nothing}
-use Rattle.cells.specs.declared.rebuilt.Rebuilt.{Rebuilt}
-use Rattle.cells.specs.declared.rebuilt.Rebuilt.the-variants.{Found as Row, Nothing as None}
 use Rattle.cells.specs.declared.turn.Turn.{Turn}
 use Rattle.cells.specs.declared.turn.Turn.the-variants.{On, Full}
 use Rattle.hit.specs.declared.inner.Spot.{Spot}
-use Rattle.record.specs.Places.{placesFrom}
+use Rattle.rebuild.specs.Header.{rebuilt}
+use Rattle.rebuild.specs.declared.rebuilding.Rebuilding.{Rebuilding}
+use Rattle.rebuild.specs.declared.rebuilding.Rebuilding.the-variants.{OneByte}
 use Rattle.sheet.specs.Limits.{wordsPerRow}
 use Rattle.walk.specs.Inner.{Told, on, over}
 
@@ -59,19 +59,6 @@ nextPlace pos (cell c) = c .end
 
 -- ---- rebuilt headers
 
--- what was found at v, said of the bytes from v on
-abbrev pub foundFrom : List ℕ → ℕ → Find → Found
-foundFrom d v x = record { consumed = x .consumed; matched = x .matched; columns = columnsAt (x .head) (kinds (findTypes d v x)) }
-
--- the types that begin at v make a row
-pub record RebuiltFound (d hints : List ℕ) (v : ℕ) (x : Find) : Type 0 where
-  pub is : oneByte d hints v ≡ hit (foundFrom d v x)
-  pub found : HitIs d hints v (judgedWhole (length d) hints v (length hints) (headerTypes d v (length hints) v)) (placesFrom v (v - v) ++ typePlaces (length hints) d v (v + length hints)) x
-
-abbrev pub RebuiltIs : List ℕ → List ℕ → ℕ → Rebuilt → Type 0
-RebuiltIs d hints v (Row x) = RebuiltFound d hints v x
-RebuiltIs d hints v None = oneByte d hints v ≡ miss
-
 -- the row k of a list is one of the first `cells`, and has that offset
 unfoldable pub isCell : List ℕ → ℕ → ℕ → ℕ → Bool
 isCell rows k cells offset = ltb k cells && eqb (getD rows (k * wordsPerRow) 0) offset
@@ -94,13 +81,13 @@ pub record BehindHigh (s : List ℕ) (v last r : ℕ) : Type 0 where
   pub high : v < r → 128 ≤ getD s (r - 1) 0
 
 -- from v on and before r, no types make a row
-abbrev pub NoneFrom : List ℕ → List ℕ → ℕ → ℕ → Type 0
-NoneFrom d hints v r = (u : ℕ) → v ≤ u → u < r → oneByte d hints u ≡ miss
+abbrev pub NoneFrom : Rebuilding → List ℕ → List ℕ → ℕ → ℕ → Type 0
+NoneFrom how d hints v r = (u : ℕ) → v ≤ u → u < r → rebuilt how d hints u ≡ miss
 
 pub record Passes (d hints : List ℕ) (v end r : ℕ) : Type 0 where
   pub on : v ≤ r
   pub near : r ≤ end
-  pub none : NoneFrom d hints v r
+  pub none : NoneFrom OneByte d hints v r
 
 -- before r, no start is that of the next cell's record
 pub record Apart (rows : List ℕ) (k cells offset starts r : ℕ) : Type 0 where
@@ -108,8 +95,8 @@ pub record Apart (rows : List ℕ) (k cells offset starts r : ℕ) : Type 0 wher
   pub apart : (u : ℕ) → u < r → isCell rows k cells (offset + u) ≡ false
 
 -- both, from v on and before r
-pub record StartIs (d hints rows : List ℕ) (k cells offset v starts r : ℕ) : Type 0 where
+pub record StartIs (how : Rebuilding) (d hints rows : List ℕ) (k cells offset v starts r : ℕ) : Type 0 where
   pub on : v ≤ r
   pub near : r ≤ starts
   pub apart : (u : ℕ) → v ≤ u → u < r → isCell rows k cells (offset + u) ≡ false
-  pub none : NoneFrom d hints v r
+  pub none : NoneFrom how d hints v r

@@ -1,14 +1,14 @@
-// Records whose header's length is lost: it is made up, one byte, and the types stand where the bytes begin.
+// Records whose header's length is lost: each start of a payload is tried.
 use crate::starts::next_start;
 use crate::turn::Turn;
 use attempt::inner::Find;
-use attempt::inner::MOST_BYTES;
-use attempt::inner::Verdict;
-use attempt::inner::given_header;
 use hit::inner::Head;
 use hit::inner::Lent;
 use hit::inner::Spot;
 use hit::inner::add_hit;
+use rebuild::inner::Rebuilt;
+use rebuild::inner::rebuild;
+use rebuild::rebuilding::Rebuilding;
 use sheet::WORDS_PER_ROW;
 use sheet::confidence::percent;
 use sheet::confidence::rebuilt;
@@ -23,36 +23,13 @@ ghost use mathlib.Core.Bool.{false};
 ghost use mathlib.Core.List.{[], _∷_};
 ghost use Prim.Native.Nat.{_+_, _*_, _≤_};
 ghost use lib.ListN.{length};
-ghost use Rattle.cells.specs.Cells.{oneByte, cellsOf, startsOf, rebuiltStarts, rebuiltHit, startHits, rebuiltFrom};
-ghost use Rattle.cells.specs.Inner.{foundFrom, RebuiltIs, isCell, nextRow, Standing, turnAs, GoesTo};
+ghost use Rattle.cells.specs.Cells.{cellsOf, startsOf, rebuiltStarts, rebuiltHit, startHits, rebuiltFrom};
+ghost use Rattle.cells.specs.Inner.{isCell, nextRow, Standing, turnAs, GoesTo};
 ghost use Rattle.hit.specs.Inner.{Laid, Ready};
-ghost use Rattle.sheet.specs.Limits.{largestRegion, mostColumns, wordsPerRow};
+ghost use Rattle.rebuild.specs.Header.{mostBy, rebuilt as rebuiltAt};
+ghost use Rattle.rebuild.specs.Inner.{foundFrom};
+ghost use Rattle.sheet.specs.Limits.{largestRegion, wordsPerRow};
 ghost use Rattle.walk.specs.Inner.{carvedAs, Carves};
-
-// A row whose types begin at a start, if there is one.
-pub enum Rebuilt {
-    Found(Find),
-    Nothing,
-}
-
-fn rebuild(payload: &[u8], hints: &[u8], v: usize) -> Rebuilt
-    requires { ⌜ (v ≤ length (now payload)) × (length (now payload) ≤ largestRegion) ⌝ }
-    requires { ⌜ (1 ≤ length (now hints)) × (length (now hints) ≤ mostColumns) ⌝ }
-    ensures { λ r. ⌜ RebuiltIs (now (payload .entry)) (now (hints .entry)) v r ⌝ }
-{
-    let columns = hints.len();
-    if columns > payload.len() - v {
-        return Rebuilt::Nothing;
-    }
-    let Verdict::Hit(find) = given_header(payload, hints, v, columns, v) else {
-        return Rebuilt::Nothing;
-    };
-    // With the byte that is made up it takes one more.
-    if find.consumed >= MOST_BYTES {
-        return Rebuilt::Nothing;
-    }
-    Rebuilt::Found(find)
-}
 
 // Adds the row whose types begin at v of a payload, which stands at o in its page.
 fn add_rebuilt(
@@ -107,6 +84,7 @@ fn is_cell(rows: &[u64], k: usize, cells: usize, offset: u64) -> bool
 
 // One start, which is passed over if the record of a cell starts there: the row k is the next of a cell.
 fn carve_start(
+    how: Rebuilding,
     payload: &[u8],
     hints: &[u8],
     v: usize,
@@ -119,16 +97,16 @@ fn carve_start(
     rows: &mut [u64],
     cols: &mut [u64],
 ) -> Turn
-    requires { ⌜ (v ≤ length (now payload)) × (cells ≤ n) ⌝ }
+    requires { ⌜ (v ≤ length (now payload)) × (cells ≤ n) × (length (now hints) ≤ mostBy how) ⌝ }
     requires { ⌜ Ready (o + length (now payload)) (length (now hints)) spot lent n (length (now rows)) (length (now cols)) ⌝ }
-    ensures rows { λ r. ⌜ Carves (lent .width) (lent .room) n (startHits spot (length (now (hints .entry))) o v (isCell (now (rows .entry)) k cells (spot .base + (o + v))) (oneByte (now (payload .entry)) (now (hints .entry)) v)) false (now (rows .entry)) (now (cols .entry)) (turnAs r) (now (rows .exit)) (now (cols .exit)) ⌝ }
+    ensures rows { λ r. ⌜ Carves (lent .width) (lent .room) n (startHits spot (length (now (hints .entry))) o v (isCell (now (rows .entry)) k cells (spot .base + (o + v))) (rebuiltAt how (now (payload .entry)) (now (hints .entry)) v)) false (now (rows .entry)) (now (cols .entry)) (turnAs r) (now (rows .exit)) (now (cols .exit)) ⌝ }
     ensures next { λ r. ⌜ GoesTo (nextRow k (isCell (now (rows .entry)) k cells (spot .base + (o + v)))) r ⌝ }
 {
     let place = o + v;
     if is_cell(rows, k, cells, spot.base + place as u64) {
         return Turn::On { next: k + 1, n };
     }
-    let Rebuilt::Found(find) = rebuild(payload, hints, v) else {
+    let Rebuilt::Found(find) = rebuild(how, payload, hints, v) else {
         return Turn::On { next: k, n };
     };
     let Carved::On(m) = add_rebuilt(payload, v, find, hints.len(), spot, o, lent, n, rows, cols)
@@ -152,6 +130,7 @@ fn starts_of(len: usize, columns: usize) -> usize
 
 // The rows that are rebuilt, behind those of the cells, of which the first is the row `first` and which end before the row `cells`.
 pub fn carve_rebuilt(
+    how: Rebuilding,
     payload: &[u8],
     hints: &[u8],
     spot: Spot,
@@ -162,9 +141,10 @@ pub fn carve_rebuilt(
     rows: &mut [u64],
     cols: &mut [u64],
 ) -> Carved
+    requires { ⌜ length (now hints) ≤ mostBy how ⌝ }
     requires { ⌜ Ready (o + length (now payload)) (length (now hints)) spot lent cells (length (now rows)) (length (now cols)) ⌝ }
     requires { ⌜ Standing spot o (now rows) cells first (startsOf (cellsOf (now payload) (now hints))) ⌝ }
-    ensures { λ r. ⌜ Carves (lent .width) (lent .room) cells (rebuiltFrom (rebuiltStarts (length (now (payload .entry))) (length (now (hints .entry)))) oneByte spot o (startsOf (cellsOf (now (payload .entry)) (now (hints .entry)))) (now (payload .entry)) (now (hints .entry)) 0) false (now (rows .entry)) (now (cols .entry)) (carvedAs r) (now (rows .exit)) (now (cols .exit)) ⌝ }
+    ensures { λ r. ⌜ Carves (lent .width) (lent .room) cells (rebuiltFrom (rebuiltStarts (length (now (payload .entry))) (length (now (hints .entry)))) how spot o (startsOf (cellsOf (now (payload .entry)) (now (hints .entry)))) (now (payload .entry)) (now (hints .entry)) 0) false (now (rows .entry)) (now (cols .entry)) (carvedAs r) (now (rows .exit)) (now (cols .exit)) ⌝ }
 {
     let starts = starts_of(payload.len(), hints.len());
     let offset = spot.base + o as u64;
@@ -172,11 +152,12 @@ pub fn carve_rebuilt(
     let mut k = first;
     let mut m = cells;
     loop {
-        let at = next_start(payload, hints, rows, k, cells, offset, v, starts);
+        let at = next_start(how, payload, hints, rows, k, cells, offset, v, starts);
         if at >= starts {
             return Carved::On(m);
         }
         let Turn::On { next, n } = carve_start(
+            how,
             payload,
             hints,
             at,

@@ -1,11 +1,13 @@
-// Which starts can be passed over. As many types as the header has bytes take one byte each, but for the last, which may run past its end; so
-// a byte from 128 up before the header's last byte shows that there is no row.
+// Which starts can be passed over. In the one-byte mode as many types as the header has bytes take one byte each, but for the last, which may run
+// past its end; so a byte from 128 up before the header's last byte shows that there is no row.
+use rebuild::rebuilding::Rebuilding;
 use sheet::WORDS_PER_ROW;
 ghost use Prim.Native.Nat.{_+_, _*_, _≤_};
 ghost use lib.ListN.{length};
 ghost use Rattle.cells.specs.Cells.{rebuiltStarts};
 ghost use Rattle.cells.specs.Inner.{BehindHigh, Apart, Passes, StartIs};
-ghost use Rattle.sheet.specs.Limits.{mostColumns, largestRegion, wordsPerRow};
+ghost use Rattle.rebuild.specs.Header.{oneByteTypes, mostBy};
+ghost use Rattle.sheet.specs.Limits.{largestRegion, wordsPerRow};
 
 // Behind the last byte from 128 up, of those from v on and before `last`; v if there is none.
 fn behind_high(payload: &[u8], v: usize, last: usize) -> usize
@@ -24,7 +26,7 @@ fn behind_high(payload: &[u8], v: usize, last: usize) -> usize
 
 // The first start from v on and before `end` at which a row may be; `end` if there is none. One byte dismisses all starts up to its own.
 fn pass_high(payload: &[u8], hints: &[u8], v: usize, end: usize) -> usize
-    requires { ⌜ (length (now payload) ≤ largestRegion) × (1 ≤ length (now hints)) × (length (now hints) ≤ mostColumns) ⌝ }
+    requires { ⌜ (length (now payload) ≤ largestRegion) × (1 ≤ length (now hints)) × (length (now hints) ≤ oneByteTypes) ⌝ }
     requires { ⌜ (v ≤ end) × (end ≤ rebuiltStarts (length (now payload)) (length (now hints))) ⌝ }
     ensures { λ r. ⌜ Passes (now (payload .entry)) (now (hints .entry)) v end r ⌝ }
 {
@@ -62,6 +64,7 @@ fn before_cell(rows: &[u64], k: usize, cells: usize, offset: u64, starts: usize)
 
 // The first start from v on at which the record of a cell starts, or a row may be; the payload's offset is `offset`.
 pub fn next_start(
+    how: Rebuilding,
     payload: &[u8],
     hints: &[u8],
     rows: &[u64],
@@ -71,11 +74,14 @@ pub fn next_start(
     v: usize,
     starts: usize,
 ) -> usize
-    requires { ⌜ (length (now payload) ≤ largestRegion) × (1 ≤ length (now hints)) × (length (now hints) ≤ mostColumns) ⌝ }
+    requires { ⌜ (length (now payload) ≤ largestRegion) × (1 ≤ length (now hints)) × (length (now hints) ≤ mostBy how) ⌝ }
     requires { ⌜ (v ≤ starts) × (starts ≤ rebuiltStarts (length (now payload)) (length (now hints))) ⌝ }
     requires { ⌜ cells * wordsPerRow ≤ length (now rows) ⌝ }
-    ensures { λ r. ⌜ StartIs (now (payload .entry)) (now (hints .entry)) (now (rows .entry)) k cells offset v starts r ⌝ }
+    ensures { λ r. ⌜ StartIs how (now (payload .entry)) (now (hints .entry)) (now (rows .entry)) k cells offset v starts r ⌝ }
 {
+    let Rebuilding::OneByte = how else {
+        return v;
+    };
     let clear = before_cell(rows, k, cells, offset, starts);
     if clear <= v {
         return v;

@@ -5,8 +5,8 @@ use mathlib.Core.Path.{_≡_, sym, _∙_}
 use native.Mathlib.Omega.{arith}
 use denote.Ref.{now}
 use Rattle.attempt.specs.Inner.{headerTypes, WholeIs}
-use Rattle.attempt.proofs.Bodies.{miss-count, miss-suited, miss-total}
-use Rattle.attempt.proofs.Judging.{read-all, end-past, judge-cut, judge-never, judge-miss, judge-hit}
+use Rattle.attempt.proofs.Bodies.{miss-count}
+use Rattle.attempt.proofs.Judging.{read-all, end-past, judge-cut, judge-never, judge-miss}
 use borrow.Author.Needs.{needs}
 use Rattle.attempt.proofs.inner.given_header.Statement.{statement}
 use Rattle.attempt.proofs.inner.given_header.Tie as tie
@@ -17,8 +17,8 @@ miscounted-requires c κs = search needs
 types-end-requires : tie.Need-types-end-requires
 types-end-requires c κs = search needs
 
-sub-t15 : tie.Need-sub-t15
-sub-t15 c =
+sub-t13 : tie.Need-sub-t13
+sub-t13 c =
     let a = c .before .before .before .before .before in
     rw (c .types-end .ensures) (omega (arith, read-all (now (a .args .bytes)) (now (a .args .hints)) _ _ _ (a .pre) .0))
 
@@ -36,8 +36,8 @@ enum-known-count c = search needs
 enum-told : tie.Need-enum-told
 enum-told c = search needs
 
-sub-t18 : tie.Need-sub-t18
-sub-t18 c = search needs
+sub-t16 : tie.Need-sub-t16
+sub-t16 c = search needs
 
 returns-2 : tie.Need-returns-2
 returns-2 c =
@@ -57,8 +57,8 @@ bounds : (c : tie.After-known-told) →
     (a .o ≤ w .1 .1 .1 .0) × (w .1 .1 .0 ≤ 65537)
 bounds c = end-past _ _ _ _ _ (c .before .before .before .before .before .before .before .before .pre) _ _ _ _ (walked c)
 
-sub-read : tie.Need-sub-read
-sub-read c = omega (arith, bounds c)
+sub-t18 : tie.Need-sub-t18
+sub-t18 c = omega (arith, bounds (c .before))
 
 returns-3 : tie.Need-returns-3
 returns-3 c =
@@ -67,41 +67,13 @@ returns-3 c =
     let head = o .before .before .before .before .before .before .before .before .pre in
     judge-miss _ _ _ _ _ head _ _ _ _ w (miss-count _ _ _ _ _ (head .inside) (λ e. c .if2 .taken (sym (w .counts) ∙ e)))
 
+judge-requires : tie.Need-judge-requires
+judge-requires c κs =
+    let o = c .before in
+    (o .before .before .before .before .before .before .before .before .pre, rw (c .if2 .left) at (walked o))
+
 returns-4 : tie.Need-returns-4
-returns-4 c =
-    let o = c .before .before in
-    let w = walked o in
-    let head = o .before .before .before .before .before .before .before .before .pre in
-    judge-miss _ _ _ _ _ head _ _ _ _ w (miss-suited _ _ _ _ _ (head .inside) (w .matches ∙ c .if3 .taken))
-
-add-consumed : tie.Need-add-consumed
-add-consumed c = omega (arith, bounds (c .before .before))
-
-sub-if4 : tie.Need-sub-if4
-sub-if4 c = search needs
-
-returns-5 : tie.Need-returns-5
-returns-5 c =
-    let o = c .before .before .before in
-    let w = walked o in
-    let head = o .before .before .before .before .before .before .before .before .pre in
-    judge-miss _ _ _ _ _ head _ _ _ _ w (miss-total _ _ _ _ _ (head .inside) (λ p q. omega (arith, w .totals)))
-
-returns-6 : tie.Need-returns-6
-returns-6 c =
-    let o = c .before .before .before .before in
-    let w = walked o in
-    let head = o .before .before .before .before .before .before .before .before .pre in
-    judge-miss _ _ _ _ _ head _ _ _ _ w (miss-total _ _ _ _ _ (head .inside) (λ p q. omega (arith, w .totals)))
-
-returns-7 : tie.Need-returns-7
-returns-7 c =
-    let o = c .before .before .before .before in
-    judge-hit _ _ _ _ _ (o .before .before .before .before .before .before .before .before .pre) _ _ _ _ (walked o)
-    (c .before .before .before .if2 .left)
-    (omega (arith, c .before .before .if3 .left))
-    (c .before .if4 .left)
-    (c .if5 .left)
+returns-4 c = search needs
 
 pub given-header-spec : {M : Type 1} → statement M
 given-header-spec =
@@ -109,18 +81,14 @@ given-header-spec =
     (tie.spec
     miscounted-requires
     types-end-requires
-    sub-t15
+    sub-t13
     returns
     walk-types-requires
     enum-known-count
     enum-told
-    sub-t18
+    sub-t16
     returns-2
-    sub-read
+    sub-t18
     returns-3
-    returns-4
-    add-consumed
-    sub-if4
-    returns-5
-    returns-6
-    returns-7)
+    judge-requires
+    returns-4)

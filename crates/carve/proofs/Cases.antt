@@ -77,7 +77,7 @@ cases =
     ∷ carve (0x01 ∷ 0x2a ∷ []) 1 8 (out 0 1 (bare 2) (body 1 1 1 ++ left 4))
     ∷ carve [] 1 8 (out 0 0 (left 8) (left 8))
     ∷ carve (0x01 ∷ 0x2a ∷ []) 0 8 (out 1 0 (left 8) (left 8))
-    ∷ carve (0x01 ∷ 0x2a ∷ []) 127 8 (out 1 0 (left 8) (left 8))
+    ∷ carve (0x01 ∷ 0x2a ∷ []) 511 8 (out 1 0 (left 8) (left 8))
     ∷ carve (0x01 ∷ 0x2a ∷ []) 3 8 (out 9 0 (left 8) (left 8))
     ∷ []
 

@@ -81,7 +81,7 @@ cases =
     ∷ learn bytes 1 (body 1 0 1 ∷ []) [] (out 9 0 [])
     -- no width, or too wide
     ∷ learn bytes 0 (body 1 0 1 ∷ []) (77 ∷ []) (out 1 0 (77 ∷ []))
-    ∷ learn bytes 127 (body 1 0 1 ∷ []) (77 ∷ []) (out 1 0 (77 ∷ []))
+    ∷ learn bytes 511 (body 1 0 1 ∷ []) (77 ∷ []) (out 1 0 (77 ∷ []))
     -- a used entry behind an unused one, a length that is not the type's, a body past the slice, a state above 3
     ∷ learn bytes 2 (unused ∷ body 1 0 1 ∷ []) (77 ∷ []) (out 2 0 (77 ∷ []))
     ∷ learn bytes 1 (body 1 0 2 ∷ []) (77 ∷ []) (out 2 0 (77 ∷ []))

@@ -55,7 +55,7 @@ none-holds (c ∷ cs) e = go (c .holds) refl e (λ p. none-holds cs p)
     go true h e rest = let z : _≡_ {A = ℕ} 0 1 = cc in absurd (omega arith)
     go false h e rest = (h, rest e)
 
--- THE LAW: a count that fits is from 1 to 126
+-- THE LAW: a count that fits is from 1 to 510
 pub count-fits : (n : ℕ) → countFits n ≡ true → (1 ≤ n) × (n ≤ mostColumns)
 unfolding countFits
 count-fits n h =

@@ -7,7 +7,7 @@ use lib.Dec.{leb}
 
 -- the most columns that a table may have
 abbrev pub mostColumns : ℕ
-mostColumns = 126
+mostColumns = 510
 
 -- the words of a row
 abbrev pub wordsPerRow : ℕ

@@ -1,5 +1,5 @@
 // What the sheet is made of: rows and column entries as words of lent lists, confidences, hints, and the answers with their refusals.
-// What only pages give, `Freelist` to `CarvedUnalloc`, the three modes, `freed`, `rebuilt`, `percent` and `put_unused`, waits for their crates.
+// The region scan uses a part of it: `Freelist` to `CarvedUnalloc`, the three modes, `freed`, `rebuilt`, `percent` and `put_unused` are the other carvers'.
 pub mod columns;
 pub mod confidence;
 pub mod filled;
@@ -10,7 +10,7 @@ pub mod row;
 pub mod slice;
 
 // The numbers that the paper fixes.
-pub const MOST_COLUMNS: usize = 126;
+pub const MOST_COLUMNS: usize = 510;
 
 pub const WORDS_PER_ROW: usize = 8;
 

@@ -70,8 +70,8 @@ several (suc n) = bytes "a," ++ several n
 -- the most hints, and one more
 counted : List Case
 counted =
-    case (bytes "t(" ++ several 125) 126 0 126 (replicate 126 5)
-    ∷ case (bytes "t(" ++ several 126) 127 1 0 (cells 127)
+    case (bytes "t(" ++ several 509) 510 0 510 (replicate 510 5)
+    ∷ case (bytes "t(" ++ several 510) 511 1 0 (cells 511)
     ∷ []
 
 cases : List Case

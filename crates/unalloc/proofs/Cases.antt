@@ -69,7 +69,7 @@ cases =
     ∷ carve (0x02 ∷ 0x01 ∷ 0x2a ∷ 0x02 ∷ 0x01 ∷ 0x2b ∷ []) (1 ∷ []) 8 (out 9 1 (row 100 3 100 0x3f800000) (body 1 2 1 ++ left 4))
     ∷ carve [] (1 ∷ []) 8 (out 0 0 (left 8) (left 8))
     ∷ carve hipik [] 8 (out 1 0 (left 8) (left 8))
-    ∷ carve hipik (replicate 127 1) 8 (out 1 0 (left 8) (left 8))
+    ∷ carve hipik (replicate 511 1) 8 (out 1 0 (left 8) (left 8))
     ∷ []
 
 table : map computed cases ≡ map expected cases

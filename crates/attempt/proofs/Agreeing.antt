@@ -25,7 +25,7 @@ module _ (x y : List ℕ) (same : length x ≡ length y) where
   abbrev TypesSame : ℕ → ℕ → ℕ → Type 0
   TypesSame f at stop = (typesFrom f y at stop ≡ typesFrom f x at stop) × (typePlaces f y at stop ≡ typePlaces f x at stop)
 
-  types-same : (f at stop : ℕ) → AgreeAt x y (typePlaces f x at stop) → TypesSame f at stop
+  pub types-same : (f at stop : ℕ) → AgreeAt x y (typePlaces f x at stop) → TypesSame f at stop
   types-same zero at stop a = (types-none y at stop ∙ sym (types-none x at stop), places-none y at stop ∙ sym (places-none x at stop))
   types-same (suc f) at stop a =
       by-order at stop (λ lt. go lt (varintAt x at) refl (λ k b. types-same f k stop b))

@@ -1,24 +1,25 @@
--- A header that stands in a part of a slice, and the same header in the slice; and one whose length is made up, in a byte before it.
+-- A header that stands in a part of a slice, and the same header in the slice; and one whose length is made up, in bytes before it.
 -- Assumes nothing.
 use Prim.Native.Nat.{ℕ, zero, suc, _+_, _-_, _≤_, _<_}
 use mathlib.Core.Path.{_≡_, refl, sym, ap, _∙_}
 use mathlib.Core.Bool.{Bool, true, false, cond, _&&_}
-use mathlib.Core.List.{List, [], _∷_}
-use native.Mathlib.Nat.{add-assoc}
+use mathlib.Core.List.{List, [], _∷_, _++_}
+use native.Mathlib.Nat.{add-zero, add-assoc}
 use native.Mathlib.Omega.{arith}
 use lib.Dec.{leb, ltb, eqb}
-use lib.ListN.{length}
-use borrow.Author.Tests.{le-leb, lt-leb, le-ltb}
-use Rattle.attempt.specs.Attempt.{Types, cut, kinds, isWhole, typesFrom, Bodies, unfit, laid, before, bodiesFrom, Tried, miss, hit, sized, judged, judgedWhole, attemptAt, mostBytes}
+use lib.ListN.{length, length-append}
+use lib.Seq.{getD-append-add}
+use borrow.Author.Tests.{le-leb, lt-leb}
+use Rattle.attempt.specs.Attempt.{Types, cut, kinds, isWhole, typesFrom, Bodies, unfit, laid, before, bodiesFrom, Tried, miss, hit, sized, judged, judgedWhole, attemptAt, mostHeader, mostBytes}
 use Rattle.attempt.specs.Hints.{suited}
-use Rattle.attempt.specs.Inner.{headerTypes}
+use Rattle.attempt.specs.Inner.{bodySize, columnsAt, headerTypes}
 use Rattle.attempt.specs.Moved.{movedOne, moved, backOne, back}
 use Rattle.attempt.proofs.Bodies.{over-laid, bodies-end, bodies-step, bodies-out, bodies-none}
 use Rattle.attempt.proofs.Judging.{fits, fits-not, attempt-is, attempt-bad}
 use Rattle.attempt.proofs.Types.{types-step, types-cut, types-end}
-use Rattle.record.proofs.Laws.{varint-lies, varint-low}
+use Rattle.record.proofs.Laws.{varint-lies}
 use Rattle.record.proofs.Numbers.{by-order}
-use Rattle.record.proofs.Shifts.{PartOf, part-behind, movedVarint, varint-moved}
+use Rattle.record.proofs.Shifts.{PartOf, movedVarint, varint-moved}
 use Rattle.record.specs.Value.{bodyLength}
 use Rattle.record.specs.Varint.{varintAt}
 use Rattle.record.specs.declared.record.Length.{Length}
@@ -38,6 +39,11 @@ back-moved by (c ∷ cs) = rw (one c, back-moved by cs)
     one (Unfit t) = refl
     one Lost = refl
     one Unused = refl
+
+-- THE LAW: columns of a part are those of the slice, laid from further on
+pub moved-at : (by at : ℕ) (ts : List ℕ) → moved by (columnsAt at ts) ≡ columnsAt (by + at) ts
+moved-at by at [] = refl
+moved-at by at (t ∷ ts) = rw (moved-at by (at + bodySize t) ts, ← add-assoc by at (bodySize t))
 
 -- ---- types: the same numbers, and cut in both or in none
 pub record Alike (a b : Types) : Type 0 where
@@ -143,58 +149,61 @@ given-moved {by} {p} {s} part together hints o h =
     go true = refl
     go false = refl
 
--- ---- the same header behind its length, which is made up: one byte, so it is below 128
-abbrev pub oneLonger : Tried → Tried
-oneLonger miss = miss
-oneLonger (hit x) =
-    cond (ltb (x .consumed) mostBytes) (hit (record { consumed = suc (x .consumed); matched = x .matched; columns = moved 1 (x .columns) })) miss
+-- ---- the same header behind its length, which is made up and has k bytes itself
+abbrev pub longer : ℕ → Tried → Tried
+longer k miss = miss
+longer k (hit x) =
+    cond (leb (k + x .consumed) mostBytes) (hit (record { consumed = k + x .consumed; matched = x .matched; columns = moved k (x .columns) })) miss
 
-sized-longer : (n : ℕ) (b : Bodies) → sized 0 n (movedBodies 1 b) ≡ oneLonger (sized 0 n b)
-sized-longer n unfit = refl
-sized-longer n (laid cs end) =
-    let e : 1 + end - 0 ≡ suc end = omega arith in
+sized-longer : (k n : ℕ) (b : Bodies) → sized 0 n (movedBodies k b) ≡ longer k (sized 0 n b)
+sized-longer k n unfit = refl
+sized-longer k n (laid cs end) =
+    let e : k + end - 0 ≡ k + end = omega arith in
     let e′ : end - 0 ≡ end = omega arith in
     rw (e, e′)
-    (by-order end mostBytes
-    (λ lt. simp (le-leb (suc end) mostBytes lt, le-leb end mostBytes (omega arith)))
-    (λ ge. simp (lt-leb (suc end) mostBytes (omega arith)) (over (leb end mostBytes) ge)))
+    (by-order mostBytes (k + end) (λ over. simp (lt-leb (k + end) mostBytes over) (long over (leb end mostBytes)))
+    (λ fits. simp (le-leb (k + end) mostBytes fits, le-leb end mostBytes (omega arith))))
   where
-    over : (b : Bool) → mostBytes ≤ end → miss ≡ oneLonger (cond b (hit (record { consumed = end; matched = n; columns = cs })) miss)
-    over true ge = simp (le-ltb end mostBytes ge)
-    over false ge = refl
+    long : mostBytes < k + end → (b : Bool) → miss ≡ longer k (cond b (hit (record { consumed = end; matched = n; columns = cs })) miss)
+    long over true = simp (lt-leb (k + end) mostBytes over)
+    long over false = refl
 
-judged-longer : (len : ℕ) (hints : List ℕ) (h : ℕ) (ts : List ℕ) → judged (1 + len) hints 0 (suc h) ts ≡ oneLonger (judged len hints 0 h ts)
+judged-longer : (k len : ℕ) (hints : List ℕ) (h : ℕ) (ts : List ℕ) → judged (k + len) hints 0 (k + h) ts ≡ longer k (judged len hints 0 h ts)
 unfolding judged
-judged-longer len hints h ts =
-    let e : 0 + suc h ≡ 1 + (0 + h) = omega arith in
-    rw (e, bodies-moved 1 len (0 + h) ts, sized-longer (suited hints ts) (bodiesFrom len (0 + h) ts))
+judged-longer k len hints h ts =
+    let e : 0 + (k + h) ≡ k + (0 + h) = omega arith in
+    rw (e, bodies-moved k len (0 + h) ts, sized-longer k (suited hints ts) (bodiesFrom len (0 + h) ts))
     (go (eqb (length ts) (length hints) && ltb 0 (suited hints ts)))
   where
-    go : (b : Bool) → cond b (oneLonger (sized 0 (suited hints ts) (bodiesFrom len (0 + h) ts))) miss
-        ≡ oneLonger (cond b (sized 0 (suited hints ts) (bodiesFrom len (0 + h) ts)) miss)
+    go : (b : Bool) → cond b (longer k (sized 0 (suited hints ts) (bodiesFrom len (0 + h) ts))) miss
+        ≡ longer k (cond b (sized 0 (suited hints ts) (bodiesFrom len (0 + h) ts)) miss)
     go true = refl
     go false = refl
 
-module _ (l hints : List ℕ) (h : ℕ) (some : 1 ≤ h) (few : h ≤ 126) where
-  made-byte : varintAt (suc h ∷ l) 0 ≡ Value (suc h) (record { at = 0 + 1 })
-  made-byte = varint-low (suc h ∷ l) 0 (omega arith) (omega arith)
+-- what stands behind other bytes
+part-behind : (own l : List ℕ) → PartOf (length own) l (own ++ l)
+part-behind own l = record { ends = omega (arith, length-append own l); same = λ i lt. getD-append-add own l i 0 }
 
-  -- THE LAW: an attempt on the made-up byte and what stands behind it finds what the header makes, and one byte more
-  pub made-up : h ≤ length l → attemptAt (suc h ∷ l) hints 0 ≡ oneLonger (given l hints 0 h)
+module _ (own l hints : List ℕ) (h : ℕ) (read : varintAt (own ++ l) 0 ≡ Value (length own + h) (record { at = length own }))
+    (low : 2 ≤ length own + h) (high : length own + h ≤ mostHeader) where
+  -- THE LAW: an attempt on the made-up bytes and what stands behind them finds what the header makes, and so many bytes more
+  pub made-up : h ≤ length l → attemptAt (own ++ l) hints 0 ≡ longer (length own) (given l hints 0 h)
   made-up in′ =
-      let fit = fits (length (suc h ∷ l)) 0 (suc h) (omega arith) (omega arith) (omega arith) in
-      let from : 0 + 1 ≡ 1 + 0 = refl in
-      let stop : 0 + suc h ≡ 1 + (0 + h) = omega arith in
-      let long : suc (length l) ≡ 1 + length l = omega arith in
-      let a = types-moved (part-behind (suc h) l) (sym long) (suc h) h 0 (0 + h) (omega arith) (omega arith) in
-      attempt-is (suc h ∷ l) hints 0 (suc h) (record { at = 0 + 1 }) made-byte fit
-      ∙ rw (from, stop, a .whole, a .kinds-are, long, judged-longer (length l) hints h (kinds (headerTypes l 0 h 0))) (go (isWhole (headerTypes l 0 h 0)))
+      let k = length own in
+      let long : length (own ++ l) ≡ k + length l = length-append own l in
+      let fit = fits (length (own ++ l)) 0 (k + h) low high (omega arith) in
+      let stop : 0 + (k + h) ≡ k + (0 + h) = omega arith in
+      let a = rw (add-zero k) at (types-moved (part-behind own l) (sym long) (k + h) h 0 (0 + h) (omega arith) (omega arith)) in
+      attempt-is (own ++ l) hints 0 (k + h) (record { at = k }) read fit
+      ∙ rw (stop, a .whole, a .kinds-are, long, judged-longer k (length l) hints h (kinds (headerTypes l 0 h 0))) (go (isWhole (headerTypes l 0 h 0)))
     where
-      go : (b : Bool) → cond b (oneLonger (judged (length l) hints 0 h (kinds (headerTypes l 0 h 0)))) miss
-          ≡ oneLonger (cond b (judged (length l) hints 0 h (kinds (headerTypes l 0 h 0))) miss)
+      go : (b : Bool) → cond b (longer (length own) (judged (length l) hints 0 h (kinds (headerTypes l 0 h 0)))) miss
+          ≡ longer (length own) (cond b (judged (length l) hints 0 h (kinds (headerTypes l 0 h 0))) miss)
       go true = refl
       go false = refl
 
   -- and none where the header does not fit
-  pub made-up-cut : length l < h → attemptAt (suc h ∷ l) hints 0 ≡ miss
-  made-up-cut out = attempt-bad (suc h ∷ l) hints 0 (suc h) (record { at = 0 + 1 }) made-byte (fits-not (length (suc h ∷ l)) 0 (suc h) (λ p q r. omega arith)) .misses
+  pub made-up-cut : length l < h → attemptAt (own ++ l) hints 0 ≡ miss
+  made-up-cut out =
+      attempt-bad (own ++ l) hints 0 (length own + h) (record { at = length own }) read
+      (fits-not (length (own ++ l)) 0 (length own + h) (λ p q r. omega (arith, length-append own l))) .misses

@@ -4,15 +4,15 @@ use Prim.Native.Nat.{ℕ, suc, _+_, _-_, _*_, _≤_, _<_}
 use mathlib.Core.Path.{_≡_, refl, ap, _∙_}
 use mathlib.Core.Bool.{Bool, false}
 use mathlib.Core.List.{List, [], _∷_, _++_}
-use native.Mathlib.Nat.{add-assoc}
 use native.Mathlib.Omega.{arith}
 use lib.ListN.{length, take, drop, length-drop}
 use lib.Seq.{sets, take-all, length-sets}
 use Rattle.attempt.proofs.Laws.{columns-at-length}
+use Rattle.attempt.proofs.Shifts.{moved-at}
 use Rattle.attempt.specs.Attempt.{Tried, kinds}
-use Rattle.attempt.specs.Inner.{bodySize, columnsAt, findTypes, foundAt, HitIs}
+use Rattle.attempt.specs.Inner.{columnsAt, findTypes, foundAt, HitIs}
 use Rattle.attempt.specs.declared.inner.Find.{Find}
-use Rattle.hit.specs.Hit.{moved, hitOf}
+use Rattle.hit.specs.Hit.{hitOf}
 use Rattle.hit.specs.Inner.{kindsAt, hitThere, Laid, Fitting, Space, Ready}
 use Rattle.hit.specs.declared.inner.Head.{Head}
 use Rattle.hit.specs.declared.inner.Lent.{Lent}
@@ -31,11 +31,6 @@ pub part-is : (l : List ℕ) (v : ℕ) → take (length l - v) (drop v l) ≡ dr
 part-is l v = take-all (length l - v) (drop v l) (rw length-drop (omega arith))
 
 -- ---- columns
-
--- THE LAW: columns of a part are those of the slice, laid from further on
-pub moved-at : (by at : ℕ) (ts : List ℕ) → moved by (columnsAt at ts) ≡ columnsAt (by + at) ts
-moved-at by at [] = refl
-moved-at by at (t ∷ ts) = rw (moved-at by (at + bodySize t) ts, ← add-assoc by at (bodySize t))
 
 -- the columns, and behind them what pads the group
 pub group-is : (cols : List ℕ) (group width columns : ℕ) (h : Hit) → length (h .columns) ≡ columns

@@ -35,7 +35,7 @@ foundFrom d v x = record { consumed = x .consumed; matched = x .matched; columns
 
 -- with its made-up bytes it takes no more than a row may
 abbrev pub shortBy : ℕ → Verdict → Rebuilt
-shortBy own (Hit x) = cond (leb (x .consumed + own) mostBytes) (Row x) Nothing
+shortBy own (Hit x) = cond (leb (own + x .consumed) mostBytes) (Row x) Nothing
 shortBy own (Miss read) = Nothing
 
 -- the types that begin at v make a row

@@ -96,6 +96,12 @@ pub varint-low : (s : List ℕ) (at : ℕ) → at < length s → getD s at 0 < 1
 unfolding varintAt
 varint-low s at h low = at-last s at 0 7 h low ∙ rw (zero-mul, zero-add)
 
+-- THE LAW: and behind one from 128 up it is the second, and last
+pub varint-two : (s : List ℕ) (at : ℕ) → at + 1 < length s → 128 ≤ getD s at 0 → getD s (at + 1) 0 < 128
+    → varintAt s at ≡ Value (getD s at 0 % 128 * 128 + getD s (at + 1) 0) (record { at = at + 1 + 1 })
+unfolding varintAt
+varint-two s at h high low = at-more s at 0 7 (omega arith) high ∙ (at-last s (at + 1) (grown s at 0) 6 h low ∙ rw (zero-mul, zero-add))
+
 -- THE LAW: and none goes on behind one
 pub varint-ends : (s : List ℕ) (p : ℕ) → p < length s → getD s p 0 < 128 → (at : ℕ) → at ≤ p → stopOf s (varintAt s at) ≤ p + 1
 unfolding varintAt

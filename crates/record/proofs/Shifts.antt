@@ -32,10 +32,6 @@ part-taken s by len h =
 pub part-rest : (s : List ℕ) (by : ℕ) → by ≤ length s → PartOf by (drop by s) s
 part-rest s by h = record { ends = rw length-drop (omega arith); same = λ i lt. sym (getD-drop by s i 0) }
 
--- what stands behind a byte
-pub part-behind : (b : ℕ) (l : List ℕ) → PartOf 1 l (b ∷ l)
-part-behind b l = record { ends = omega arith; same = λ i lt. sym (getD-drop 1 (b ∷ l) i 0) }
-
 -- a part of a part
 pub part-within : {a b : ℕ} {q p s : List ℕ} → PartOf a q p → PartOf b p s → PartOf (b + a) q s
 part-within {a} {b} {q} {p} {s} x y =

@@ -1,76 +1,90 @@
+-- `rebuild::exact::walk_columns` meets its contract: what the loop has read, with what is to come, are all types (`Reading`).
+-- Assumes nothing.
+use Prim.Native.Nat.{_+_, _-_, _≤_, _<_}
+use mathlib.Core.Path.{_≡_, sym, _∙_}
+use native.Mathlib.Omega.{arith}
+use denote.Ref.{now}
+use lib.ListN.{length}
+use Rattle.attempt.specs.Inner.{tooLong}
+use Rattle.rebuild.proofs.Reading.{Reading, reading-start, reading-step, reading-cut, reading-over, reading-end}
+use Rattle.record.proofs.Laws.{varint-lies}
+use Rattle.record.specs.Varint.{varintAt}
+use Rattle.record.specs.declared.varint.Varint.the-variants.{Value}
+use borrow.Author.Needs.{needs}
 use Rattle.rebuild.proofs.exact.walk_columns.Statement.{statement}
 use Rattle.rebuild.proofs.exact.walk_columns.Tie as tie
-use Rattle.rebuild.proofs.exact.walk_columns.Reads as reads
-use Rattle.rebuild.proofs.exact.walk_columns.Lts as lts
-use Rattle.attempt.proofs.inner.add_body.Reads as add-body-reads
-use Rattle.attempt.proofs.inner.suits_at.Reads as suits-at-reads
-use Rattle.record.proofs.varint.Cursor.serial_type.Reads as serial-type-reads
 
 abbrev Inv-loop : tie.InvT-loop
-Inv-loop payload hints v last at₀ count₀ matched₀ total₀ at count matched total = ?
+Inv-loop payload hints v last at₀ count₀ matched₀ total₀ at count matched total =
+    (v + count ≤ at) × (at ≤ length payload) × (matched ≤ count) × (total ≤ tooLong) × Reading payload hints v at count matched total
 
 abbrev μ-loop : tie.MeasureT-loop
-μ-loop payload hints v last at₀ count₀ matched₀ total₀ at count matched total = ?
+μ-loop payload hints v last at₀ count₀ matched₀ total₀ at count matched total = length hints - count
 
--- src/exact.rt:30:16
+-- the type that was read, and where it ends
+read : (c : tie.After-known-told Inv-loop μ-loop) →
+    let l = c .before .before .before .before .before .before .loop in
+    varintAt (now (c .before .before .before .before .before .before .before .before .before .args .payload)) (l .at) ≡ Value (c .before .kind .given .0 .0) (c .before .kind .given .0 .1 .0)
+read c = sym (c .before .before .before .serial-type .ensures) ∙ c .before .kind .given .1
+
 add-last : tie.Need-add-last Inv-loop μ-loop
-add-last c = ?
+add-last c = search needs
 
--- src/exact.rt:35:5
 loop-holds : tie.Need-loop-holds Inv-loop μ-loop
-loop-holds c = ?
+loop-holds c = (omega arith, c .before .before .pre .0 .0, omega arith, omega arith, reading-start _ _ _)
 
--- src/exact.rt:37:13
 returns : tie.Need-returns Inv-loop μ-loop
-returns c = ?
+returns c = reading-over _ _ _ _ _ _ _ (c .before .before .loop .inv .4) (c .if1 .taken)
 
--- src/exact.rt:40:41
 serial-type-requires : tie.Need-serial-type-requires Inv-loop μ-loop
-serial-type-requires c κs = ?
+serial-type-requires c κs = search needs
 
--- src/exact.rt:40:27
 enum-known-kind : tie.Need-enum-known-kind Inv-loop μ-loop
-enum-known-kind c = ?
+enum-known-kind c = search needs
 
--- src/exact.rt:41:13
 enum-told : tie.Need-enum-told Inv-loop μ-loop
-enum-told c = ?
+enum-told c = search needs
 
--- src/exact.rt:41:13
 returns-2 : tie.Need-returns-2 Inv-loop μ-loop
-returns-2 c = ?
+returns-2 c =
+    let l = c .before .before .before .before .before .loop in
+    reading-cut _ _ _ _ _ _ _ (l .inv .4) (c .before .before .before .before .loop-test .taken) (c .before .before .before .if1 .left) (sym (c .before .before .serial-type .ensures) ∙ c .enum-told .given .1)
 
--- src/exact.rt:43:29
 suits-at-requires : tie.Need-suits-at-requires Inv-loop μ-loop
-suits-at-requires c κs = ?
+suits-at-requires c κs = search needs
 
--- src/exact.rt:43:19
 add-matched : tie.Need-add-matched Inv-loop μ-loop
-add-matched c = ?
+add-matched c =
+    omega (arith, c .suits-at .ensures .1, c .before .before .before .before .before .before .before .loop .inv, c .before .before .before .before .before .before .loop-test .taken, c .before .before .before .before .before .before .before .before .before .before .pre .1 .1)
 
--- src/exact.rt:44:9
 add-body-requires : tie.Need-add-body-requires Inv-loop μ-loop
-add-body-requires c κs = ?
+add-body-requires c κs = search needs
 
--- src/exact.rt:45:17
 add-count : tie.Need-add-count Inv-loop μ-loop
-add-count c = ?
+add-count c = search needs
 
--- src/exact.rt:35:5
 loop-less : tie.Need-loop-less Inv-loop μ-loop
-loop-less c = ?
+loop-less c = search needs
 
--- src/exact.rt:35:5
 loop-again : tie.Need-loop-again Inv-loop μ-loop
-loop-again c = ?
+loop-again c =
+    let o = c .before .before in
+    let l = o .before .before .before .before .before .before .loop in
+    let z = varint-lies _ _ _ _ (read o) in (
+      omega (arith, z .past, l .inv .0),
+      z .inside,
+      omega (arith, c .before .suits-at .ensures .1, l .inv .2),
+      omega (arith, c .add-body .ensures),
+      rw (c .before .suits-at .ensures .0, c .add-body .ensures) (reading-step _ _ _ _ _ _ _ (l .inv .4) _ _ (o .before .before .before .before .before .loop-test .taken) (o .before .before .before .before .if1 .left) (read o)),
+    )
 
--- src/exact.rt:49:9
 returns-3 : tie.Need-returns-3 Inv-loop μ-loop
-returns-3 c = ?
+returns-3 c = reading-over _ _ _ _ _ _ _ (c .before .before .loop .inv .4) (c .if2 .taken)
 
--- src/exact.rt:25:1
 returns-4 : tie.Need-returns-4 Inv-loop μ-loop
-returns-4 c = ?
+returns-4 c =
+    let l = c .before .before .loop in
+    reading-end _ _ _ _ _ _ _ (l .inv .4) (c .before .loop-test .left) (c .before .before .before .before .before .pre .1 .0) (l .inv .0) (c .if2 .left)
 
 pub walk-columns-spec : {M : Type 1} → statement M
 walk-columns-spec =

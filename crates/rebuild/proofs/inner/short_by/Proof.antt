@@ -1,32 +1,30 @@
+-- `rebuild::inner::short_by` meets its contract: the test is the definition's, with nothing added.
+-- Assumes nothing.
+use Prim.Native.Nat.{_+_}
+use native.Mathlib.Omega.{arith}
 use borrow.Author.Needs.{needs}
+use borrow.Author.Tests.{le-leb, lt-leb}
+use Rattle.attempt.specs.Attempt.{mostBytes}
 use Rattle.rebuild.proofs.inner.short_by.Statement.{statement}
 use Rattle.rebuild.proofs.inner.short_by.Tie as tie
-use Rattle.rebuild.proofs.inner.short_by.Reads as reads
-use Rattle.rebuild.proofs.inner.short_by.Lts as lts
 
--- src/inner.rt:38:22
 enum-known-verdict : tie.Need-enum-known-verdict
 enum-known-verdict c = search needs
 
--- src/inner.rt:39:9
 enum-told : tie.Need-enum-told
 enum-told c = search needs
 
--- src/inner.rt:39:9
 returns : tie.Need-returns
 returns c = search needs
 
--- src/inner.rt:41:24
 sub-if1 : tie.Need-sub-if1
 sub-if1 c = search needs
 
--- src/inner.rt:42:9
 returns-2 : tie.Need-returns-2
-returns-2 c = ?
+returns-2 c = rw (c .before .before .before .verdict .given .1) (simp (lt-leb (c .before .before .before .before .before .args .own + c .before .before .before .verdict .given .0 .0 .consumed) mostBytes (omega (arith, c .if1 .taken))))
 
--- src/inner.rt:34:1
 returns-3 : tie.Need-returns-3
-returns-3 c = ?
+returns-3 c = rw (c .before .before .before .verdict .given .1) (simp (le-leb (c .before .before .before .before .before .args .own + c .before .before .before .verdict .given .0 .0 .consumed) mostBytes (omega (arith, c .if1 .left))))
 
 pub short-by-spec : {M : Type 1} → statement M
 short-by-spec =

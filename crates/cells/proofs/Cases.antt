@@ -8,8 +8,10 @@ use lib.Ieee.{ofBits, ofInt, div, mul, round, toBits, toUnsigned}
 use lib.ListN.{length, replicate}
 use Rattle.attempt.specs.Attempt.{headerFits, typesFrom, bodiesFrom, judged, attemptAt}
 use Rattle.attempt.specs.Hints.{isInteger, isReal, isText, isBlob, suits}
-use Rattle.cells.specs.Cells.{cellAt, cellsFrom, cellsOf, oneByte, rebuiltFrom, payloadHits}
+use Rattle.cells.specs.Cells.{cellAt, cellsFrom, cellsOf, rebuiltFrom, payloadHits}
 use Rattle.hit.specs.declared.inner.Spot.{Spot}
+use Rattle.rebuild.specs.Header.{guessed, rebuilt}
+use Rattle.rebuild.specs.declared.rebuilding.Rebuilding.the-variants.{OneByte}
 use Rattle.record.specs.Value.{bodyLength}
 use Rattle.record.specs.Varint.{varintFrom, varintAt}
 use Rattle.sheet.specs.Columns.{columnWords, unusedWords}
@@ -50,7 +52,7 @@ data Case : Type 0 where
 
 computed : Case → Outcome
 computed (in-payload d spot out) =
-    let hits = payloadHits oneByte spot 12 d (0 ∷ 2 ∷ []) in
+    let hits = payloadHits OneByte spot 12 d (0 ∷ 2 ∷ []) in
     record { rows = rowsWords (rowsOf hits); cols = groupsWords 2 hits }
 
 expected : Case → Outcome
@@ -87,5 +89,5 @@ cases =
     ∷ []
 
 table : map computed cases ≡ map expected cases
-unfolding cases computed expected spot types cell cellRow bothSuit oneSuits pair payloadHits cellsOf cellsFrom cellAt rebuiltFrom oneByte attemptAt judged bodiesFrom typesFrom headerFits suits isInteger isReal isText isBlob varintAt varintFrom bodyLength columnWords unusedWords share rebuiltShare percentOf rowWords ofBits ofInt div mul round toBits toUnsigned
+unfolding cases computed expected spot types cell cellRow bothSuit oneSuits pair payloadHits cellsOf cellsFrom cellAt rebuiltFrom rebuilt guessed attemptAt judged bodiesFrom typesFrom headerFits suits isInteger isReal isText isBlob varintAt varintFrom bodyLength columnWords unusedWords share rebuiltShare percentOf rowWords ofBits ofInt div mul round toBits toUnsigned
 table = refl

@@ -9,16 +9,16 @@ use Rattle.attempt.proofs.Judging.{judge-never}
 use Rattle.attempt.proofs.Types.{types-step, types-cut, types-none, types-end}
 use Rattle.attempt.specs.Attempt.{miss, kinds, typesFrom}
 use Rattle.attempt.specs.Inner.{Headed}
-use Rattle.cells.specs.Cells.{oneByte}
 use Rattle.cells.specs.Inner.{BehindHigh, NoneFrom}
-use Rattle.cells.proofs.Rebuilding.{one-byte-cut, rebuilt-miss}
+use Rattle.rebuild.proofs.Laws.{rebuilt-cut, rebuilt-miss, one-byte-guess}
+use Rattle.rebuild.specs.Header.{oneByteTypes, rebuilt}
+use Rattle.rebuild.specs.declared.rebuilding.Rebuilding.the-variants.{OneByte}
 use Rattle.record.proofs.Laws.{varint-lies, varint-through}
 use Rattle.record.proofs.Numbers.{by-order}
 use Rattle.record.specs.Places.{stopOf}
 use Rattle.record.specs.Varint.{varintAt}
 use Rattle.record.specs.declared.varint.Varint.{Varint}
 use Rattle.record.specs.declared.varint.Varint.the-variants.{Value, Short}
-use Rattle.sheet.specs.Limits.{mostColumns}
 
 module _ (s : List ℕ) where
   -- a byte from 128 up is no varint of its own
@@ -68,16 +68,18 @@ module _ (s : List ℕ) where
           go Short v rest = rw (types-cut f s at stop (omega arith) v) (omega arith)
 
 -- THE LAW: so it dismisses each start from which it is among the bytes before the last
-pub high-miss : (d hints : List ℕ) (v p : ℕ) → 1 ≤ length hints → length hints ≤ mostColumns → v ≤ p → p + 1 < v + length hints → p < length d → 128 ≤ getD d p 0 → oneByte d hints v ≡ miss
+pub high-miss : (d hints : List ℕ) (v p : ℕ) → 1 ≤ length hints → length hints ≤ oneByteTypes → v ≤ p → p + 1 < v + length hints → p < length d → 128 ≤ getD d p 0
+    → rebuilt OneByte d hints v ≡ miss
 high-miss d hints v p some few le lt in′ high =
-    by-order (length d - v) (length hints) (λ short. one-byte-cut d hints v (omega arith) some few short)
+    let guess = one-byte-guess d (length hints) v in
+    by-order (length d - v) (length hints) (λ short. rebuilt-cut d hints v (omega arith) (length hints) some (omega arith) OneByte guess short)
     (λ fits.
     let head : Headed d v (length hints) v = record { low = some; high = omega arith; inside = omega arith; past = omega arith; near = omega arith; within = omega arith } in
     let less = fewer d (v + length hints) p lt (omega arith) high (length hints) v le in
-    rebuilt-miss d hints v (omega arith) some few fits (judge-never d hints v (length hints) v head (λ _ e. omega arith) .misses))
+    rebuilt-miss d hints v (omega arith) (length hints) some (omega arith) OneByte guess fits (judge-never d hints v (length hints) v head (λ _ e. omega arith) .misses))
 
-pub none-on : (d hints : List ℕ) (v at next : ℕ) → 1 ≤ length hints → length hints ≤ mostColumns → at + (length hints - 1) ≤ length d → at < next
-    → BehindHigh d at (at + (length hints - 1)) next → NoneFrom d hints v at → NoneFrom d hints v next
+pub none-on : (d hints : List ℕ) (v at next : ℕ) → 1 ≤ length hints → length hints ≤ oneByteTypes → at + (length hints - 1) ≤ length d → at < next
+    → BehindHigh d at (at + (length hints - 1)) next → NoneFrom OneByte d hints v at → NoneFrom OneByte d hints v next
 none-on d hints v at next some few in′ past b none u le lt =
     by-order u at (λ before. none u le before)
     (λ on. high-miss d hints u (next - 1) some few (omega arith) (omega (arith, b .near)) (omega (arith, b .near)) (b .high past))

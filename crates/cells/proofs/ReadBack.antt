@@ -2,32 +2,31 @@
 -- Assumes nothing.
 use Prim.Native.Nat.{ℕ, zero, suc, _+_, _-_, _≤_}
 use mathlib.Core.Path.{_≡_, refl, sym, ap, _∙_}
-use mathlib.Core.Bool.{Bool, true, false, cond}
+use mathlib.Core.Bool.{Bool, true, false}
 use mathlib.Core.List.{List, [], _∷_, _++_, map}
 use native.Mathlib.Nat.{add-assoc, add-zero}
 use native.Mathlib.Omega.{arith}
-use lib.Dec.{ltb}
 use lib.ListN.{length, take, drop, length-drop}
 use Rattle.attempt.proofs.Laws.{made-from}
 use Rattle.attempt.proofs.ReadBack.{values-moved, laid-reads, part-reads}
-use Rattle.attempt.proofs.Shifts.{back-moved, given, oneLonger, types-moved, made-up}
-use Rattle.attempt.specs.Attempt.{Found, Tried, miss, hit, kinds, mostBytes}
+use Rattle.attempt.proofs.Shifts.{types-moved}
+use Rattle.attempt.specs.Attempt.{Found, Tried, miss, hit, kinds}
 use Rattle.attempt.specs.Inner.{headerTypes}
-use Rattle.attempt.specs.Moved.{moved}
 use Rattle.attempt.specs.Values.{valuesFrom, rowValues}
-use Rattle.cells.specs.Cells.{CellRow, Looked, noCell, cell, cellAt, cellsFrom, cellsOf, withoutByte, oneByte, startsOf, rebuiltStarts, cellHit, cellHits, rebuiltHit, startHits, rebuiltFrom, payloadHits}
+use Rattle.cells.specs.Cells.{CellRow, Looked, noCell, cell, cellAt, cellsFrom, cellsOf, startsOf, rebuiltStarts, cellHit, cellHits, rebuiltHit, startHits, rebuiltFrom, payloadHits}
 use Rattle.cells.specs.Inner.{cellsThere, nextPlace}
-use Rattle.cells.specs.Values.{cellValues, cellsValues, rebuiltValues, startValues, rebuiltValuesFrom, payloadValues, inSlice}
+use Rattle.cells.specs.Values.{cellValues, cellsValues, valuesBehind, rebuiltValues, startValues, rebuiltValuesFrom, payloadValues, inSlice}
 use Rattle.cells.proofs.Looking.{cell-from, cells-none, cells-end, cells-on}
-use Rattle.cells.proofs.Rebuilding.{one-byte-cut}
 use Rattle.hit.proofs.ReadBack.{HitReads, AllRead, read-append, map-again, moved-length, found-reads}
 use Rattle.hit.specs.declared.inner.Spot.{Spot}
 use Rattle.page.specs.Page.{among}
+use Rattle.rebuild.proofs.From.{rebuilt-from}
+use Rattle.rebuild.specs.Header.{mostBy, takes, rebuilt}
+use Rattle.rebuild.specs.declared.rebuilding.Rebuilding.{Rebuilding}
 use Rattle.record.proofs.Numbers.{by-order}
 use Rattle.record.proofs.Shifts.{PartOf, part-taken, part-rest, part-within}
 use Rattle.record.specs.Value.{movedValue}
 use Rattle.record.specs.declared.record.Value.{Value}
-use Rattle.sheet.specs.Limits.{mostColumns}
 use Rattle.walk.specs.Carve.{Hit}
 
 -- ---- values of the payload, said of the slice
@@ -59,66 +58,47 @@ module _ (s : List ℕ) (spot : Spot) (o : ℕ) (d hints : List ℕ) (part : Par
       go noCell e rest = rest (suc pos)
       go (cell c) e rest = (cell-reads pos c e, rest (c .end))
 
-  module _ (some : 1 ≤ length hints) (few : length hints ≤ mostColumns) where
+  module _ (how : Rebuilding) (some : 1 ≤ length hints) (few : length hints ≤ mostBy how) where
     abbrev h : ℕ
     h = length hints
 
-    columns-of : {a b : Found} → hit a ≡ hit b → a .columns ≡ b .columns
-    columns-of {a} {b} e = let z : a ≡ b = cc in ap (λ (q : Found). q .columns) z
+    -- THE LAW: a rebuilt row reads as the types in the bytes that its header takes from v on, with their bodies behind these bytes
+    pub rebuilt-reads : (v : ℕ) (x : Found) → v ≤ length d → rebuilt how d hints v ≡ hit x
+        → HitReads s h (rebuiltHit spot h (o + v) x) (map (movedValue (spot .start + o)) (rebuiltValues how d h v))
+    rebuilt-reads v x start e =
+        let f = rebuilt-from how d hints v x start some few e in
+        let t = f .types in
+        let rest = part-rest d v start in
+        let long : length (drop v d) ≡ length d - v = length-drop v d in
+        let ts = kinds (headerTypes (drop v d) 0 t 0) in
+        let m = made-from (length (drop v d)) hints 0 t (f .found) (omega (arith, f .fits)) (headerTypes (drop v d) 0 t 0) (f .made) in
+        let kinds-are = types-moved rest (omega arith) t t 0 (0 + t) (omega arith) (omega arith) .kinds-are in
+        let place : v + (0 + t) ≡ v + t = omega arith in
+        let values : valuesBehind d v (takes t) ≡ map (movedValue v) (valuesFrom (drop v d) (0 + t) ts) =
+        rw (rw (add-zero v, place) at kinds-are, ← place) (values-moved rest (0 + t) ts (f .found .columns) (0 + f .found .consumed) (m .bodies)) in
+        rw (← add-assoc (spot .start) o v, ← (f .same), f .guess, values, map-again (spot .start + o) v (valuesFrom (drop v d) (0 + t) ts))
+        (record {
+          counts = moved-length (spot .start + o + v) (f .found .columns) ∙ (laid-reads (drop v d) (0 + t) ts (f .found .columns) (0 + f .found .consumed) (m .bodies) .counts ∙ m .counts);
+          as-values = part-reads (part-within rest part) (0 + t) ts (f .found .columns) (0 + f .found .consumed) (m .bodies);
+        })
 
-    never : {C : Type 0} {x : Found} → miss ≡ hit x → C
-    never e = let z : _≡_ {A = ℕ} 0 1 = cc in absurd (omega arith)
-
-    -- behind the made-up byte stands what the header makes of the bytes from v on
-    behind : (x : Found) (t : Tried) → withoutByte (oneLonger t) ≡ hit x → (y : Found) × (t ≡ hit y) × (y .columns ≡ x .columns)
-    behind x miss e = never e
-    behind x (hit y) e = go (ltb (y .consumed) mostBytes) e
-      where
-        go : (b : Bool) → withoutByte (cond b (hit (record { consumed = suc (y .consumed); matched = y .matched; columns = moved 1 (y .columns) })) miss) ≡ hit x
-            → (z : Found) × (hit y ≡ hit z) × (z .columns ≡ x .columns)
-        go false e = never e
-        go true e = (y, refl, sym (back-moved 1 (y .columns)) ∙ columns-of e)
-
-    -- THE LAW: a rebuilt row reads as the types in the bytes from v on, as many as columns, with their bodies behind these bytes
-    pub rebuilt-reads : (v : ℕ) (x : Found) → v ≤ length d → oneByte d hints v ≡ hit x
-        → HitReads s h (rebuiltHit spot h (o + v) x) (map (movedValue (spot .start + o)) (rebuiltValues d h v))
-    unfolding oneByte
-    rebuilt-reads v x start e = by-order (length d - v) h (λ out. never (sym (one-byte-cut d hints v start some few out) ∙ e)) fits
-      where
-        fits : h ≤ length d - v → HitReads s h (rebuiltHit spot h (o + v) x) (map (movedValue (spot .start + o)) (rebuiltValues d h v))
-        fits in′ =
-            let rest = part-rest d v start in
-            let long : length (drop v d) ≡ length d - v = length-drop v d in
-            let ts = kinds (headerTypes (drop v d) 0 h 0) in
-            let b = behind x (given (drop v d) hints 0 h) (sym (ap withoutByte (made-up (drop v d) hints h some few (omega arith))) ∙ e) in
-            let m = made-from (length (drop v d)) hints 0 h (b .0) (omega arith) (headerTypes (drop v d) 0 h 0) (b .1) in
-            let kinds-are = types-moved rest (omega arith) h h 0 (0 + h) (omega arith) (omega arith) .kinds-are in
-            let place : v + (0 + h) ≡ v + h = omega arith in
-            let values : rebuiltValues d h v ≡ map (movedValue v) (valuesFrom (drop v d) (0 + h) ts) =
-            rw (rw (add-zero v, place) at kinds-are, ← place) (values-moved rest (0 + h) ts (b .0 .columns) (0 + b .0 .consumed) (m .bodies)) in
-            rw (← add-assoc (spot .start) o v, ← (b .2), values, map-again (spot .start + o) v (valuesFrom (drop v d) (0 + h) ts))
-            (record {
-              counts = moved-length (spot .start + o + v) (b .0 .columns) ∙ (laid-reads (drop v d) (0 + h) ts (b .0 .columns) (0 + b .0 .consumed) (m .bodies) .counts ∙ m .counts);
-              as-values = part-reads (part-within rest part) (0 + h) ts (b .0 .columns) (0 + b .0 .consumed) (m .bodies);
-            })
-
-    starts-read : (S : List ℕ) (k v : ℕ) → v + k ≤ suc (length d) → AllRead s (length hints) (rebuiltFrom k oneByte spot o S d hints v) (inSlice (spot .start + o) (rebuiltValuesFrom k oneByte S d hints v))
+    starts-read : (S : List ℕ) (k v : ℕ) → v + k ≤ suc (length d) → AllRead s (length hints) (rebuiltFrom k how spot o S d hints v) (inSlice (spot .start + o) (rebuiltValuesFrom k how S d hints v))
     unfolding rebuiltFrom rebuiltValuesFrom
     starts-read S zero v q = tt
     starts-read S (suc k) v q =
-        rw (slice-append (spot .start + o) (startValues d h v (among v S) (oneByte d hints v)) (rebuiltValuesFrom k oneByte S d hints (suc v)))
-        (read-append s (length hints) (startHits spot h o v (among v S) (oneByte d hints v)) (rebuiltFrom k oneByte spot o S d hints (suc v)) _ _ (one (among v S) (oneByte d hints v) refl) (starts-read S k (suc v) (omega arith)))
+        rw (slice-append (spot .start + o) (startValues how d h v (among v S) (rebuilt how d hints v)) (rebuiltValuesFrom k how S d hints (suc v)))
+        (read-append s (length hints) (startHits spot h o v (among v S) (rebuilt how d hints v)) (rebuiltFrom k how spot o S d hints (suc v)) _ _ (one (among v S) (rebuilt how d hints v) refl) (starts-read S k (suc v) (omega arith)))
       where
-        one : (b : Bool) (t : Tried) → oneByte d hints v ≡ t → AllRead s (length hints) (startHits spot h o v b t) (inSlice (spot .start + o) (startValues d h v b t))
+        one : (b : Bool) (t : Tried) → rebuilt how d hints v ≡ t → AllRead s (length hints) (startHits spot h o v b t) (inSlice (spot .start + o) (startValues how d h v b t))
         one true t e = tt
         one false miss e = tt
         one false (hit x) e = (rebuilt-reads v x (omega arith) e, tt)
 
     -- THE LAW: all rows of the payload
-    pub payload-reads : AllRead s (length hints) (payloadHits oneByte spot o d hints) (inSlice (spot .start + o) (payloadValues oneByte d hints))
+    pub payload-reads : AllRead s (length hints) (payloadHits how spot o d hints) (inSlice (spot .start + o) (payloadValues how d hints))
     unfolding payloadHits payloadValues cellsOf
     payload-reads =
         let cs = cellsFrom (length d) d hints 0 in
-        rw (slice-append (spot .start + o) (cellsValues d cs) (rebuiltValuesFrom (rebuiltStarts (length d) h) oneByte (startsOf cs) d hints 0))
-        (read-append s (length hints) (cellHits spot h o cs) (rebuiltFrom (rebuiltStarts (length d) h) oneByte spot o (startsOf cs) d hints 0) _ _ (cells-read (length d) 0)
+        rw (slice-append (spot .start + o) (cellsValues d cs) (rebuiltValuesFrom (rebuiltStarts (length d) h) how (startsOf cs) d hints 0))
+        (read-append s (length hints) (cellHits spot h o cs) (rebuiltFrom (rebuiltStarts (length d) h) how spot o (startsOf cs) d hints 0) _ _ (cells-read (length d) 0)
         (starts-read (startsOf cs) (rebuiltStarts (length d) h) 0 (omega arith)))

@@ -69,24 +69,29 @@ module _ (d hints : List ℕ) (v : ℕ) (start : v ≤ length d) (t : ℕ) (some
   sizes : (2 ≤ length (lengthBytes t) + t) × (length (lengthBytes t) + t ≤ mostHeader)
   sizes = rw (own-length t) (by-order oneByteTypes t (λ gt. rw (lt-leb t oneByteTypes gt) (omega arith, omega arith)) (λ le. rw (le-leb t oneByteTypes le) (omega arith, omega arith)))
 
-  -- THE LAW: an attempt on the bytes of a header's length is what a header of t bytes makes at v, said of the bytes from v on; but those bytes
-  -- count among the most that a row may take
-  pub behind-is : t ≤ length d - v → rebuiltWith d hints v (takes t) ≡ shortOnly (ownBytes t) (seenFrom v (given d hints v t))
+  -- THE LAW: an attempt on the bytes of a header's length is what a header of t bytes makes of the bytes from v on, and those bytes more
+  pub behind-made : t ≤ length d - v → rebuiltWith d hints v (takes t) ≡ without (ownBytes t) (longer (ownBytes t) (given (drop v d) hints 0 t))
+  behind-made h =
+      let l : length (drop v d) ≡ length d - v = length-drop v d in
+      let made = made-up (lengthBytes t) (drop v d) hints t (own-read t (drop v d) few) (sizes .0) (sizes .1) (omega arith) in
+      ap (λ (r : Tried). without (ownBytes t) r) (rw (own-length t) at made)
+
+  -- which is what it makes at v, but the bytes of its length count among the most that a row may take
+  behind-is : t ≤ length d - v → rebuiltWith d hints v (takes t) ≡ shortOnly (ownBytes t) (seenFrom v (given d hints v t))
   behind-is h =
       let l : length (drop v d) ≡ length d - v = length-drop v d in
       let moves = given-moved (part-rest d v start) (omega arith) hints 0 t in
-      let made = made-up (lengthBytes t) (drop v d) hints t (own-read t (drop v d) few) (sizes .0) (sizes .1) (omega arith) in
-      ap (λ (r : Tried). without (ownBytes t) r) (rw (own-length t) at made)
+      behind-made h
       ∙ (both (ownBytes t) v (given (drop v d) hints 0 t) ∙ ap (λ (r : Tried). shortOnly (ownBytes t) (seenFrom v r)) (sym (rw (add-zero v) at moves)))
 
   -- and where so many bytes are not left it finds nothing
-  pub behind-cut : length d - v < t → rebuiltWith d hints v (takes t) ≡ miss
+  behind-cut : length d - v < t → rebuiltWith d hints v (takes t) ≡ miss
   behind-cut h =
       let l : length (drop v d) ≡ length d - v = length-drop v d in
       rw (made-up-cut (lengthBytes t) (drop v d) hints t (own-read t (drop v d) few) (sizes .0) (sizes .1) (omega arith))
 
   module _ (how : Rebuilding) (guess : guessed how d (length hints) v ≡ takes t) where
-    rebuilt-with : rebuilt how d hints v ≡ rebuiltWith d hints v (takes t)
+    pub rebuilt-with : rebuilt how d hints v ≡ rebuiltWith d hints v (takes t)
     unfolding rebuilt
     rebuilt-with = rw guess
 

@@ -1,2 +1,3 @@
-mod Reading
+pub mod From
 pub mod Laws
+mod Reading

@@ -7,9 +7,10 @@ use native.Mathlib.Nat.{le-trans}
 use native.Mathlib.Omega.{arith}
 use denote.Ref.{now}
 use lib.ListN.{length}
-use Rattle.cells.specs.Inner.{RebuiltFound, isCell}
+use Rattle.cells.specs.Inner.{isCell}
 use Rattle.cells.proofs.Rebuilding.{start-passed, start-next, start-none, start-laid, start-one}
 use Rattle.cells.proofs.Skipping.{rows-fit, cell-below}
+use Rattle.rebuild.specs.Inner.{RebuiltFound}
 use borrow.Author.Needs.{needs}
 use Rattle.cells.proofs.rebuilt.carve_start.Statement.{statement}
 use Rattle.cells.proofs.rebuilt.carve_start.Tie as tie
@@ -29,14 +30,14 @@ is-cell-requires c κs =
 passed : (c : tie.Then1) → let a = c .before .before .before .before .before .before .before .before .args in isCell (now (a .rows)) (a .k) (a .cells) (a .spot .base + (a .o + a .v)) ≡ true
 passed c = sym (c .before .is-cell .ensures) ∙ c .if1 .taken
 
-add-t20 : tie.Need-add-t20
-add-t20 c = omega (arith, cell-below _ _ _ _ (passed c))
+add-t21 : tie.Need-add-t21
+add-t21 c = omega (arith, cell-below _ _ _ _ (passed c))
 
 same-length : tie.Need-same-length
 same-length c = search needs
 
 returns : tie.Need-returns
-returns c = let s = c .before .before .before .before .before .before .before .before in start-passed (now (s .args .payload)) (now (s .args .hints)) _ _ _ _ _ _ _ _ _ (s .pre .1) (passed c)
+returns c = let s = c .before .before .before .before .before .before .before .before in start-passed (s .args .how) (now (s .args .payload)) (now (s .args .hints)) _ _ _ _ _ _ _ _ _ (s .pre .1) (passed c)
 
 -- or is not
 clear : (c : tie.Else1) → let a = c .before .before .before .before .before .before .before .before .args in isCell (now (a .rows)) (a .k) (a .cells) (a .spot .base + (a .o + a .v)) ≡ false
@@ -58,18 +59,18 @@ returns-2 : tie.Need-returns-2
 returns-2 c =
     let s = c .before .before .before .before .before .before .before .before .before .before .before in
     let e = clear (c .before .before .before) in (
-      start-none _ _ _ _ _ _ _ _ _ _ _ (s .pre .1) e (rw (c .enum-told .given .1) at (c .before .before .rebuild .ensures)),
+      start-none _ _ _ _ _ _ _ _ _ _ _ _ (s .pre .1) e (rw (c .enum-told .given .1) at (c .before .before .rebuild .ensures)),
       start-next _ _ e,
     )
 
 -- a row was rebuilt
-found : (c : tie.After-known-told) → let a = c .before .before .before .before .before .before .before .before .before .before .before .before .args in RebuiltFound (now (a .payload)) (now (a .hints)) (a .v) (c .before .find .given .0 .0)
+found : (c : tie.After-known-told) → let a = c .before .before .before .before .before .before .before .before .before .before .before .before .args in RebuiltFound (a .how) (now (a .payload)) (now (a .hints)) (a .v) (c .before .find .given .0 .0)
 found c = rw (c .before .find .given .1) at (c .before .before .before .rebuild .ensures)
 
 add-rebuilt-requires : tie.Need-add-rebuilt-requires
 add-rebuilt-requires c κs =
     let s = c .before .before .before .before .before .before .before .before .before .before .before .before .before .before in
-    (s .pre .0 .0, (start-laid _ _ _ _ _ _ (s .args .k) (s .args .cells) _ (now (s .args .rows)) (now (s .args .cols)) (s .pre .1) (clear (c .before .before .before .before .before .before)) _ (found (c .before .before)), s .pre .1))
+    (s .pre .0 .0, (start-laid _ _ _ _ _ _ _ (s .args .k) (s .args .cells) _ (now (s .args .rows)) (now (s .args .cols)) (s .pre .1) (clear (c .before .before .before .before .before .before)) _ (found (c .before .before)), s .pre .1))
 
 enum-known-m : tie.Need-enum-known-m
 enum-known-m c = search needs
@@ -86,7 +87,7 @@ same-length-4 c = search needs
 returns-3 : tie.Need-returns-3
 returns-3 c =
     let x = rw (c .enum-told2 .given .1) at (c .before .before .before .before .before .before .add-rebuilt .ensures) in
-    (start-one _ _ _ _ _ _ _ _ _ _ _ (c .before .before .before .before .before .before .before .before .before .before .before .before .before .before .before .before .before .before .before .before .before .pre .1) (clear (c .before .before .before .before .before .before .before .before .before .before .before .before .before)) _ (found (c .before .before .before .before .before .before .before .before .before)) _ _ _ x, tt)
+    (start-one _ _ _ _ _ _ _ _ _ _ _ _ (c .before .before .before .before .before .before .before .before .before .before .before .before .before .before .before .before .before .before .before .before .before .pre .1) (clear (c .before .before .before .before .before .before .before .before .before .before .before .before .before)) _ (found (c .before .before .before .before .before .before .before .before .before)) _ _ _ x, tt)
 
 same-length-5 : tie.Need-same-length-5
 same-length-5 c = search needs
@@ -99,7 +100,7 @@ returns-4 c =
     let s = c .before .before .before .before .before .before .before .before .before .before .before .before .before .before .before .before .before .before .before .before .before .before in
     let e = clear (c .before .before .before .before .before .before .before .before .before .before .before .before .before .before) in
     let x = rw (c .before .m .given .1) at (c .before .before .before .before .before .before .before .add-rebuilt .ensures) in (
-      start-one _ _ _ _ _ _ _ _ _ _ _ (s .pre .1) e _ (found (c .before .before .before .before .before .before .before .before .before .before)) _ _ _ x,
+      start-one _ _ _ _ _ _ _ _ _ _ _ _ (s .pre .1) e _ (found (c .before .before .before .before .before .before .before .before .before .before)) _ _ _ x,
       start-next _ _ e,
     )
 
@@ -110,7 +111,7 @@ carve-start-spec =
     add-place
     add-is-cell
     is-cell-requires
-    add-t20
+    add-t21
     same-length
     returns
     rebuild-requires

@@ -5,11 +5,12 @@ use native.Mathlib.Omega.{arith}
 use borrow.Author.Needs.{needs}
 use Rattle.cells.specs.Inner.{NoneFrom}
 use Rattle.cells.proofs.HighBytes.{none-on}
+use Rattle.rebuild.specs.declared.rebuilding.Rebuilding.the-variants.{OneByte}
 use Rattle.cells.proofs.starts.pass_high.Statement.{statement}
 use Rattle.cells.proofs.starts.pass_high.Tie as tie
 
 abbrev Inv-loop : tie.InvT-loop
-Inv-loop payload hints v end others at₀ at = (v ≤ at) × NoneFrom payload hints v at
+Inv-loop payload hints v end others at₀ at = (v ≤ at) × NoneFrom OneByte payload hints v at
 
 abbrev μ-loop : tie.MeasureT-loop
 μ-loop payload hints v end others at₀ at = end - at

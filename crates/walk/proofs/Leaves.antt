@@ -13,10 +13,11 @@ use lib.Seq.{length-take-le}
 use Rattle.page.specs.Page.{wholePages}
 use Rattle.sheet.proofs.Laws.{count-fits}
 use Rattle.sheet.specs.Columns.{roomOf}
-use Rattle.sheet.specs.Limits.{mostColumns, countFits}
-use Rattle.sheet.specs.Refusal.{firstHeld, afterOr0, afterOrKept}
+use Rattle.sheet.specs.Limits.{countFits}
+use Rattle.sheet.specs.Refusal.{afterOr0, afterOrKept}
 use Rattle.sheet.specs.Sheet.{overlay}
-use Rattle.walk.specs.Carve.{groupsWords, Table, tablesOf, sumOf, widest, countsFit, tableChecks, Carver, hitsFrom, tablesHits, tablesWritten, carvedCols, carvedWritten}
+use Rattle.sheet.specs.declared.refusal.Checked.{Checked}
+use Rattle.walk.specs.Carve.{groupsWords, Table, tablesOf, sumOf, widest, countsFit, Carver, hitsFrom, tablesHits, tablesWritten, carvedCols, carvedWritten}
 use Rattle.walk.specs.Collect.{ifFlagged}
 use Rattle.walk.specs.Walk.{Popped, leafThen, onward, overflow, marked, popped, Walk, through, stackFull, leaf, goOn, walkFrom, walk}
 use Rattle.walk.proofs.Popping.{leaf-there}
@@ -51,10 +52,10 @@ module _ (db : List ℕ) (size depth : ℕ) where
       go true = from-there (length db / size * (depth + 1) + 1) (replicate (length db / size) 0) (root ∷ [])
       go false = tt
 
--- ---- each table has some columns, no more than it may, and no more than the width
+-- ---- each table has some columns, and no more than the width
 abbrev pub AllNarrow : ℕ → List Table → Type 0
 AllNarrow width [] = Unit
-AllNarrow width (b ∷ bs) = (1 ≤ length (b .hints)) × (length (b .hints) ≤ mostColumns) × (length (b .hints) ≤ width) × AllNarrow width bs
+AllNarrow width (b ∷ bs) = (1 ≤ length (b .hints)) × (length (b .hints) ≤ width) × AllNarrow width bs
 
 -- THE LAW: counts that fit, and hints enough for them, make such tables
 pub tables-narrow : (roots counts hints : List ℕ) (width : ℕ) → countsFit counts ≡ true → sumOf counts ≤ length hints → widest counts ≤ width
@@ -68,7 +69,6 @@ tables-narrow (r ∷ rs) (c ∷ cs) hints width fit sums wide =
     let n = length-take-le c hints (omega arith) in
     let own = le-trans (le-max-left c (widest cs)) wide in (
       omega (arith, k .0),
-      omega (arith, k .1),
       omega arith,
       tables-narrow rs cs (drop c hints) width (f .1) (omega (arith, length-drop c hints)) (le-trans (le-max-right c (widest cs)) wide),
     )
@@ -81,17 +81,17 @@ module _ (carve : Carver) (db : List ℕ) (size : ℕ) (roots counts hints : Lis
   hits-in-turn depth = refl
 
   -- THE LAW: the column list, and how many rows are written, behind the checks
-  pub cols-behind : (flags depth : ℕ) (rows cols : List ℕ)
-      → carvedCols carve db size roots counts hints flags depth rows cols
-      ≡ afterOrKept (firstHeld (tableChecks (length db) size roots counts hints))
+  pub cols-behind : (c : Checked) (flags depth : ℕ) (rows cols : List ℕ)
+      → carvedCols c carve db size roots counts hints flags depth rows cols
+      ≡ afterOrKept c
       (overlay (groupsWords (widest counts) (tablesWritten carve db size roots counts hints flags depth (length rows) (length cols))) cols)
       cols
   unfolding carvedCols
-  cols-behind flags depth rows cols = refl
+  cols-behind c flags depth rows cols = refl
 
-  pub written-behind : (flags depth rows cols : ℕ)
-      → carvedWritten carve db size roots counts hints flags depth rows cols
-      ≡ afterOr0 (firstHeld (tableChecks (length db) size roots counts hints))
+  pub written-behind : (c : Checked) (flags depth rows cols : ℕ)
+      → carvedWritten c carve db size roots counts hints flags depth rows cols
+      ≡ afterOr0 c
       (ifFlagged (wholePages (length db) size) flags (min (roomOf rows cols (widest counts)) (length (tablesHits carve db size roots counts hints depth))) 0)
   unfolding carvedWritten
-  written-behind flags depth rows cols = refl
+  written-behind c flags depth rows cols = refl

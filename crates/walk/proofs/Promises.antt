@@ -63,38 +63,36 @@ table-fits len size roots counts hints t f h =
     (k .0, k .1, widest-least counts t below)
 
 -- ---- the two ways out
-module _ (carve : Carver) (db : List ℕ) (size : ℕ) (roots counts hints flags stack rows cols : List ℕ) where
-  -- the clauses of such a call
+module _ (c : Checked) (carve : Carver) (db : List ℕ) (size : ℕ) (roots counts hints flags stack rows cols : List ℕ) where
+  -- the clauses of such a call, whatever its checks came to
   abbrev TablesPromise : Walked → List ℕ → List ℕ → List ℕ → List ℕ → Type 0
   TablesPromise r rows′ cols′ flags′ stack′ =
-      let c = firstHeld (tableChecks (length db) size roots counts hints) in
-      (r ≡ carvedAnswer carve db size roots counts hints (length flags) (length stack) (length rows) (length cols))
-      × ((rows′ ≡ carvedRows carve db size roots counts hints (length flags) (length stack) rows cols)
-      × ((cols′ ≡ carvedCols carve db size roots counts hints (length flags) (length stack) rows cols)
+      (r ≡ carvedAnswer c carve db size roots counts hints (length flags) (length stack) (length rows) (length cols))
+      × ((rows′ ≡ carvedRows c carve db size roots counts hints (length flags) (length stack) rows cols)
+      × ((cols′ ≡ carvedCols c carve db size roots counts hints (length flags) (length stack) rows cols)
       × ((flags′ ≡ clearedUnless c flags)
       × ((stack′ ≡ clearedUnless c stack)
-      × ((walkedNumber r ≡ carvedNumber carve db size roots counts hints (length flags) (length stack) (length rows) (length cols))
-      × (walkedWritten r ≡ carvedWritten carve db size roots counts hints (length flags) (length stack) (length rows) (length cols)))))))
+      × ((walkedNumber r ≡ carvedNumber c carve db size roots counts hints (length flags) (length stack) (length rows) (length cols))
+      × (walkedWritten r ≡ carvedWritten c carve db size roots counts hints (length flags) (length stack) (length rows) (length cols)))))))
 
-  promised : (r : Walked) (rows′ cols′ flags′ stack′ : List ℕ) → r ≡ carvedAnswer carve db size roots counts hints (length flags) (length stack) (length rows) (length cols)
-      → rows′ ≡ carvedRows carve db size roots counts hints (length flags) (length stack) rows cols
-      → cols′ ≡ carvedCols carve db size roots counts hints (length flags) (length stack) rows cols
-      → flags′ ≡ clearedUnless (firstHeld (tableChecks (length db) size roots counts hints)) flags
-      → stack′ ≡ clearedUnless (firstHeld (tableChecks (length db) size roots counts hints)) stack → TablesPromise r rows′ cols′ flags′ stack′
+  promised : (r : Walked) (rows′ cols′ flags′ stack′ : List ℕ) → r ≡ carvedAnswer c carve db size roots counts hints (length flags) (length stack) (length rows) (length cols)
+      → rows′ ≡ carvedRows c carve db size roots counts hints (length flags) (length stack) rows cols
+      → cols′ ≡ carvedCols c carve db size roots counts hints (length flags) (length stack) rows cols
+      → flags′ ≡ clearedUnless c flags
+      → stack′ ≡ clearedUnless c stack → TablesPromise r rows′ cols′ flags′ stack′
   unfolding carvedAnswer carvedNumber carvedWritten
   promised r rows′ cols′ flags′ stack′ a er ec ef es =
-      let c = firstHeld (tableChecks (length db) size roots counts hints) in
       let pages = wholePages (length db) size in
       let room = roomOf (length rows) (length cols) (widest counts) in
       let n = length (tablesHits carve db size roots counts hints (length stack)) in
       let full = tablesOverflow db size roots counts hints (length stack) in
       (a, (er, (ec, (ef, (es, (ap walkedNumber a ∙ number-is pages (length flags) room n c full, ap walkedWritten a ∙ written-is pages (length flags) room n c full))))))
 
-  pub tables-refused : (r : Refusal) → firstHeld (tableChecks (length db) size roots counts hints) ≡ Held r → TablesPromise (Refused r) rows cols flags stack
+  pub tables-refused : (r : Refusal) → c ≡ Held r → TablesPromise (Refused r) rows cols flags stack
   unfolding carvedAnswer carvedRows carvedCols
   tables-refused r e = promised (Refused r) rows cols flags stack (rw e) (rw e) (rw e) (rw e) (rw e)
 
-  pub tables-passed : (r : Walked) (rows′ cols′ : List ℕ) → firstHeld (tableChecks (length db) size roots counts hints) ≡ Passed
+  pub tables-passed : (r : Walked) (rows′ cols′ : List ℕ) → c ≡ Passed
       → Tabled carve db size roots counts hints (length flags) (length stack) rows cols r rows′ cols′
       → TablesPromise r rows′ cols′ (replicate (length flags) 0) (replicate (length stack) 0)
   unfolding carvedAnswer carvedRows carvedCols

@@ -9,7 +9,7 @@ use Rattle.page.specs.Page.{sizeFits, wholePages}
 use Rattle.sheet.specs.Columns.{unusedWords, roomOf}
 use Rattle.sheet.specs.Filled.{filledBy}
 use Rattle.sheet.specs.Limits.{largestRegion, countFits, hintsKnown}
-use Rattle.sheet.specs.Refusal.{Check, firstHeld, refusalNumber, after, afterOr0, afterOrKept}
+use Rattle.sheet.specs.Refusal.{Check, refusalNumber, after, afterOr0, afterOrKept}
 use Rattle.sheet.specs.Sheet.{overlay, rowsWords, columnsWords}
 use Rattle.sheet.specs.declared.columns.Column.{Column}
 use Rattle.sheet.specs.declared.filled.Filled.{Filled}
@@ -101,7 +101,7 @@ tablesHits carve db size roots counts hints depth = hitsFrom (λ root. walk db s
 unfoldable pub tablesOverflow : List ℕ → ℕ → List ℕ → List ℕ → List ℕ → ℕ → Bool
 tablesOverflow db size roots counts hints depth = overflowFrom (λ root. walk db size depth root) (tablesOf roots counts hints)
 
--- ---- Rule 9.14: a call over tables; of its lists the answer needs only how many words there are
+-- ---- Rule 9.14: a call over tables, behind its checks; of its lists the answer needs only how many words there are
 abbrev pub tablesAnswer : Carver → List ℕ → ℕ → List ℕ → List ℕ → List ℕ → ℕ → ℕ → ℕ → ℕ → Walked
 tablesAnswer carve db size roots counts hints flags depth rows cols =
     ifFlagged (wholePages (length db) size) flags
@@ -113,31 +113,32 @@ abbrev pub tablesWritten : Carver → List ℕ → ℕ → List ℕ → List ℕ
 tablesWritten carve db size roots counts hints flags depth rows cols =
     ifFlagged (wholePages (length db) size) flags (take (roomOf rows cols (widest counts)) (tablesHits carve db size roots counts hints depth)) []
 
-unfoldable pub carvedAnswer : Carver → List ℕ → ℕ → List ℕ → List ℕ → List ℕ → ℕ → ℕ → ℕ → ℕ → Walked
-carvedAnswer carve db size roots counts hints flags depth rows cols =
-    after Refused (firstHeld (tableChecks (length db) size roots counts hints)) (tablesAnswer carve db size roots counts hints flags depth rows cols)
+-- its checks came to c: a way of carving may have more of them than those above
+unfoldable pub carvedAnswer : Checked → Carver → List ℕ → ℕ → List ℕ → List ℕ → List ℕ → ℕ → ℕ → ℕ → ℕ → Walked
+carvedAnswer c carve db size roots counts hints flags depth rows cols =
+    after Refused c (tablesAnswer carve db size roots counts hints flags depth rows cols)
 
-unfoldable pub carvedRows : Carver → List ℕ → ℕ → List ℕ → List ℕ → List ℕ → ℕ → ℕ → List ℕ → List ℕ → List ℕ
-carvedRows carve db size roots counts hints flags depth rows cols =
-    afterOrKept (firstHeld (tableChecks (length db) size roots counts hints))
+unfoldable pub carvedRows : Checked → Carver → List ℕ → ℕ → List ℕ → List ℕ → List ℕ → ℕ → ℕ → List ℕ → List ℕ → List ℕ
+carvedRows c carve db size roots counts hints flags depth rows cols =
+    afterOrKept c
     (overlay (rowsWords (rowsOf (tablesWritten carve db size roots counts hints flags depth (length rows) (length cols)))) rows)
     rows
 
-unfoldable pub carvedCols : Carver → List ℕ → ℕ → List ℕ → List ℕ → List ℕ → ℕ → ℕ → List ℕ → List ℕ → List ℕ
-carvedCols carve db size roots counts hints flags depth rows cols =
-    afterOrKept (firstHeld (tableChecks (length db) size roots counts hints))
+unfoldable pub carvedCols : Checked → Carver → List ℕ → ℕ → List ℕ → List ℕ → List ℕ → ℕ → ℕ → List ℕ → List ℕ → List ℕ
+carvedCols c carve db size roots counts hints flags depth rows cols =
+    afterOrKept c
     (overlay (groupsWords (widest counts) (tablesWritten carve db size roots counts hints flags depth (length rows) (length cols))) cols)
     cols
 
 -- the paper's number, and how many rows are written
-unfoldable pub carvedNumber : Carver → List ℕ → ℕ → List ℕ → List ℕ → List ℕ → ℕ → ℕ → ℕ → ℕ → ℕ
-carvedNumber carve db size roots counts hints flags depth rows cols =
-    walkNumber (firstHeld (tableChecks (length db) size roots counts hints)) (wholePages (length db) size) flags (roomOf rows cols (widest counts))
+unfoldable pub carvedNumber : Checked → Carver → List ℕ → ℕ → List ℕ → List ℕ → List ℕ → ℕ → ℕ → ℕ → ℕ → ℕ
+carvedNumber c carve db size roots counts hints flags depth rows cols =
+    walkNumber c (wholePages (length db) size) flags (roomOf rows cols (widest counts))
     (length (tablesHits carve db size roots counts hints depth)) (tablesOverflow db size roots counts hints depth)
 
-unfoldable pub carvedWritten : Carver → List ℕ → ℕ → List ℕ → List ℕ → List ℕ → ℕ → ℕ → ℕ → ℕ → ℕ
-carvedWritten carve db size roots counts hints flags depth rows cols =
-    walkWritten (firstHeld (tableChecks (length db) size roots counts hints)) (wholePages (length db) size) flags (roomOf rows cols (widest counts))
+unfoldable pub carvedWritten : Checked → Carver → List ℕ → ℕ → List ℕ → List ℕ → List ℕ → ℕ → ℕ → ℕ → ℕ → ℕ
+carvedWritten c carve db size roots counts hints flags depth rows cols =
+    walkWritten c (wholePages (length db) size) flags (roomOf rows cols (widest counts))
     (length (tablesHits carve db size roots counts hints depth))
 
 -- ---- a call on one page: its checks came to c, and a group is as wide as the hints are many

@@ -16,7 +16,7 @@ ghost use Rattle.walk.specs.Carve.{sumOf, widest as widestOf, countsFit,
 
 const MOST_TABLES: usize = 1024;
 
-fn counts_fit(counts: &[u64]) -> bool
+pub fn counts_fit(counts: &[u64]) -> bool
     ensures { λ r. ⌜ r ≡ countsFit (now (counts .entry)) ⌝ }
 {
     let mut i = 0;

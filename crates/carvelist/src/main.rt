@@ -1,4 +1,4 @@
-// Lists the rows of a region on standard input: one byte says how many hints there are, then come their codes, then the region.
+// Lists the rows of a region on standard input: two bytes say how many hints there are, then come their codes, then the region.
 use libc::STDERR_FILENO;
 use libc::STDIN_FILENO;
 use listing::input::COUNT_BYTES;
@@ -122,7 +122,7 @@ fn say_answer(out: Output, input: &[u8]) -> Output {
 fn say_usage() {
     write_whole(
         STDERR_FILENO,
-        b"carvelist: takes no words, and reads from standard input: how many columns, a hint code for each, and the region\n",
+        b"carvelist: takes no words, and reads from standard input: how many columns, in two bytes, high byte first; a hint code for each; and the region\n",
     );
 }
 

@@ -1,10 +1,11 @@
 -- The input of carvelist: a count, as many hint codes, and the region; and what is refused.
 -- Assumes nothing.
 use Prim.Native.Nat.{ℕ, _+_, _-_, _≤_}
-use mathlib.Core.Bool.{not}
+use mathlib.Core.Bool.{cond, not}
 use mathlib.Core.List.{List, [], _∷_}
 use lib.Dec.{ltb}
-use lib.ListN.{length, getD, take, drop}
+use lib.ListN.{length, take, drop}
+use Rattle.record.specs.Value.{bigEndian}
 use Rattle.sheet.specs.Limits.{mostColumns, countFits, hintsKnown}
 use Rattle.sheet.specs.Refusal.{Check}
 use Rattle.sheet.specs.declared.refusal.Refusal.the-variants.{ColumnCount, Malformed, TooLarge}
@@ -13,13 +14,15 @@ use Rattle.sheet.specs.declared.refusal.Refusal.the-variants.{ColumnCount, Malf
 abbrev pub largestInput : ℕ
 largestInput = 65536
 
--- Rule 8.1: the bytes of the count; the count; its hints, and the rest
+-- Rule 8.1: the count has two bytes,
 abbrev pub countBytes : ℕ
-countBytes = 1
+countBytes = 2
 
-abbrev pub countOf : List ℕ → ℕ
-countOf s = getD s 0 0
+-- the high one first; it is 0 where they are not there
+unfoldable pub countOf : List ℕ → ℕ
+countOf s = cond (ltb (length s) countBytes) 0 (bigEndian s 0 countBytes)
 
+-- its hints, and the rest
 abbrev pub hintsOf : List ℕ → List ℕ
 hintsOf s = take (countOf s) (drop countBytes s)
 

@@ -1,4 +1,5 @@
 // The input: a count, as many hint codes, and the region.
+use record::inner::big_endian;
 use sheet::hint::hint_count_fits;
 use sheet::hint::hints_known;
 use sheet::refusal::Checked;
@@ -10,7 +11,7 @@ ghost use Rattle.sheet.specs.Refusal.{firstHeld};
 // In bytes.
 pub const LARGEST_INPUT: usize = 65_536;
 // The bytes of the count.
-pub const COUNT_BYTES: usize = 1;
+pub const COUNT_BYTES: usize = 2;
 
 // How many hints there should be; 0 where the count is missing.
 pub fn count_of(input: &[u8]) -> usize
@@ -19,7 +20,7 @@ pub fn count_of(input: &[u8]) -> usize
     if input.len() < COUNT_BYTES {
         return 0;
     }
-    input[0] as usize
+    big_endian(input, 0, COUNT_BYTES) as usize
 }
 
 // Whether the input can be scanned.

@@ -1,7 +1,7 @@
 -- The columns of the rows in a payload, read back over the slice in which it lies: the values of each row, every one at the place that its rule names.
 -- Assumes nothing.
 use Prim.Native.Nat.{ℕ, zero, suc, _+_, _-_, _≤_}
-use mathlib.Core.Path.{_≡_, refl, sym, ap, _∙_}
+use mathlib.Core.Path.{_≡_, refl, _∙_}
 use mathlib.Core.Bool.{Bool, true, false}
 use mathlib.Core.List.{List, [], _∷_, _++_, map}
 use native.Mathlib.Nat.{add-assoc, add-zero}
@@ -27,7 +27,6 @@ use Rattle.record.proofs.Numbers.{by-order}
 use Rattle.record.proofs.Shifts.{PartOf, part-taken, part-rest, part-within}
 use Rattle.record.specs.Value.{movedValue}
 use Rattle.record.specs.declared.record.Value.{Value}
-use Rattle.walk.specs.Carve.{Hit}
 
 -- ---- values of the payload, said of the slice
 slice-append : (by : ℕ) (x y : List (List Value)) → inSlice by (x ++ y) ≡ inSlice by x ++ inSlice by y

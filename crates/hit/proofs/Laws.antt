@@ -1,16 +1,16 @@
 -- What other crates rest on: they cite these laws and unfold no definition of this one.
 -- Assumes nothing.
-use Prim.Native.Nat.{ℕ, suc, _+_, _-_, _*_, _≤_, _<_}
-use mathlib.Core.Path.{_≡_, refl, ap, _∙_}
+use Prim.Native.Nat.{ℕ, _+_, _-_, _*_, _≤_, _<_}
+use mathlib.Core.Path.{_≡_, ap, _∙_}
 use mathlib.Core.Bool.{Bool, false}
-use mathlib.Core.List.{List, [], _∷_, _++_}
+use mathlib.Core.List.{List, [], _∷_}
 use native.Mathlib.Omega.{arith}
 use lib.ListN.{length, take, drop, length-drop}
 use lib.Seq.{sets, take-all, length-sets}
 use Rattle.attempt.proofs.Laws.{columns-at-length}
 use Rattle.attempt.proofs.Shifts.{moved-at}
 use Rattle.attempt.specs.Attempt.{Tried, kinds}
-use Rattle.attempt.specs.Inner.{columnsAt, findTypes, foundAt, HitIs}
+use Rattle.attempt.specs.Inner.{findTypes, foundAt, HitIs}
 use Rattle.attempt.specs.declared.inner.Find.{Find}
 use Rattle.hit.specs.Hit.{hitOf}
 use Rattle.hit.specs.Inner.{kindsAt, hitThere, Laid, Fitting, Space, Ready}

@@ -1,6 +1,6 @@
 -- A row that was rebuilt: the header that it comes from.
 -- Assumes nothing.
-use Prim.Native.Nat.{ℕ, zero, suc, _+_, _-_, _≤_, _<_}
+use Prim.Native.Nat.{ℕ, zero, suc, _+_, _-_, _≤_}
 use mathlib.Core.Path.{_≡_, refl, sym, ap, _∙_}
 use mathlib.Core.Bool.{Bool, true, false, cond}
 use mathlib.Core.List.{List}
@@ -13,16 +13,15 @@ use Rattle.attempt.proofs.Types.{types-step, types-cut, stops}
 use Rattle.attempt.specs.Attempt.{Types, ended, cut, kind, isWhole, typesFrom, Found, Tried, miss, hit, mostBytes}
 use Rattle.attempt.specs.Inner.{reach}
 use Rattle.attempt.specs.Moved.{moved}
-use Rattle.rebuild.specs.Header.{oneByteTypes, mostTypeBytes, ownBytes, mostBy, Guess, noHeader, takes, exactTypes, takenFrom, guessed, without, rebuilt}
+use Rattle.rebuild.specs.Header.{mostTypeBytes, ownBytes, mostBy, Guess, noHeader, takes, exactTypes, takenFrom, guessed, without, rebuilt}
 use Rattle.rebuild.specs.declared.rebuilding.Rebuilding.{Rebuilding}
 use Rattle.rebuild.specs.declared.rebuilding.Rebuilding.the-variants.{OneByte, Exact}
-use Rattle.rebuild.proofs.Laws.{behind-made, rebuilt-with, rebuilt-cut, rebuilt-none, one-byte-guess}
+use Rattle.rebuild.proofs.Laws.{behind-made, rebuilt-with, rebuilt-cut, rebuilt-none}
 use Rattle.record.proofs.Laws.{varint-lies}
 use Rattle.record.proofs.Numbers.{by-order}
 use Rattle.record.specs.Varint.{varintAt}
 use Rattle.record.specs.declared.varint.Varint.{Varint}
 use Rattle.record.specs.declared.varint.Varint.the-variants.{Value, Short}
-use Rattle.sheet.specs.Limits.{mostColumns}
 
 -- ---- the bytes of its types
 bytes-of : {a b : ℕ} → takes a ≡ takes b → a ≡ b
@@ -32,7 +31,7 @@ none-taken : {C : Type 0} {t : ℕ} → noHeader ≡ takes t → C
 none-taken e = let z : _≡_ {A = ℕ} 0 1 = cc in absurd (omega arith)
 
 -- those of types that are read are all up to where reading stops, and no more than 510
-taken-from : (s : List ℕ) (v : ℕ) (ts : Types) (t : ℕ) → takenFrom v ts ≡ takes t → (isWhole ts ≡ true) × (reach s ts - v ≡ t) × (t ≤ mostTypeBytes)
+pub taken-from : (s : List ℕ) (v : ℕ) (ts : Types) (t : ℕ) → takenFrom v ts ≡ takes t → (isWhole ts ≡ true) × (reach s ts - v ≡ t) × (t ≤ mostTypeBytes)
 taken-from s v cut t e = none-taken e
 taken-from s v (kind k rest) t e = taken-from s v rest t e
 taken-from s v (ended at) t e = go (leb (at - v) mostTypeBytes) refl e

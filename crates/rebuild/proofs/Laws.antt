@@ -47,12 +47,12 @@ own-read t l few = by-order oneByteTypes t two one
         rw (lt-leb t oneByteTypes gt) (varint-two ((128 + (t + 2) / 128) ∷ (t + 2) % 128 ∷ l) 0 (omega arith) (omega arith) (omega arith) ∙ rw e)
 
 -- ---- what was found at v, said of the bytes from v on
-abbrev seenFrom : ℕ → Tried → Tried
+abbrev pub seenFrom : ℕ → Tried → Tried
 seenFrom v miss = miss
 seenFrom v (hit x) = hit (record { consumed = x .consumed; matched = x .matched; columns = back v (x .columns) })
 
 -- with k bytes more it takes too many, or not
-abbrev shortOnly : ℕ → Tried → Tried
+abbrev pub shortOnly : ℕ → Tried → Tried
 shortOnly k miss = miss
 shortOnly k (hit x) = cond (leb (k + x .consumed) mostBytes) (hit x) miss
 
@@ -77,7 +77,7 @@ module _ (d hints : List ℕ) (v : ℕ) (start : v ≤ length d) (t : ℕ) (some
       ap (λ (r : Tried). without (ownBytes t) r) (rw (own-length t) at made)
 
   -- which is what it makes at v, but the bytes of its length count among the most that a row may take
-  behind-is : t ≤ length d - v → rebuiltWith d hints v (takes t) ≡ shortOnly (ownBytes t) (seenFrom v (given d hints v t))
+  pub behind-is : t ≤ length d - v → rebuiltWith d hints v (takes t) ≡ shortOnly (ownBytes t) (seenFrom v (given d hints v t))
   behind-is h =
       let l : length (drop v d) ≡ length d - v = length-drop v d in
       let moves = given-moved (part-rest d v start) (omega arith) hints 0 t in

@@ -1,3 +1,6 @@
+mod Cases
 pub mod From
 pub mod Laws
+pub mod Modes
 mod Reading
+pub mod Unique

@@ -1,6 +1,6 @@
 -- `rebuild::exact::walk_columns` meets its contract: what the loop has read, with what is to come, are all types (`Reading`).
 -- Assumes nothing.
-use Prim.Native.Nat.{_+_, _-_, _≤_, _<_}
+use Prim.Native.Nat.{_+_, _-_, _≤_}
 use mathlib.Core.Path.{_≡_, sym, _∙_}
 use native.Mathlib.Omega.{arith}
 use denote.Ref.{now}

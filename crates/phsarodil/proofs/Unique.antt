@@ -178,55 +178,55 @@ recover-slice-freeblocks-cols k a x y s t p q = p .1 .1 .1 ∙ sym (q .1 .1 .1)
 pub scan-page-gaps-number : Fixes scan-page-gaps.Post
 scan-page-gaps-number k a x y s t p q = p .0 ∙ sym (q .0)
 
-pub scan-page-gaps-words : FixesSeen scan-page-gaps.Post (λ k r s. now (s .1 .1 .1 .1 .1 .1 .1 .1 .1 .0))
+pub scan-page-gaps-words : FixesSeen scan-page-gaps.Post (λ k r s. now (s .1 .1 .1 .1 .1 .1 .1 .1 .1 .1 .0))
 scan-page-gaps-words k a x y s t p q = p .1 .0 ∙ sym (q .1 .0)
 
-pub scan-page-gaps-rows : FixesSeen scan-page-gaps.Post (λ k r s. now (s .1 .1 .1 .1 .1 .1 .1 .0))
+pub scan-page-gaps-rows : FixesSeen scan-page-gaps.Post (λ k r s. now (s .1 .1 .1 .1 .1 .1 .1 .1 .0))
 scan-page-gaps-rows k a x y s t p q = p .1 .1 .0 ∙ sym (q .1 .1 .0)
 
-pub scan-page-gaps-cols : FixesSeen scan-page-gaps.Post (λ k r s. now (s .1 .1 .1 .1 .1 .1 .1 .1 .0))
+pub scan-page-gaps-cols : FixesSeen scan-page-gaps.Post (λ k r s. now (s .1 .1 .1 .1 .1 .1 .1 .1 .1 .0))
 scan-page-gaps-cols k a x y s t p q = p .1 .1 .1 .0 ∙ sym (q .1 .1 .1 .0)
 
-pub scan-page-gaps-flags : FixesSeen scan-page-gaps.Post (λ k r s. now (s .1 .1 .1 .1 .1 .0))
+pub scan-page-gaps-flags : FixesSeen scan-page-gaps.Post (λ k r s. now (s .1 .1 .1 .1 .1 .1 .0))
 scan-page-gaps-flags k a x y s t p q = p .1 .1 .1 .1 .0 ∙ sym (q .1 .1 .1 .1 .0)
 
-pub scan-page-gaps-stack : FixesSeen scan-page-gaps.Post (λ k r s. now (s .1 .1 .1 .1 .1 .1 .0))
+pub scan-page-gaps-stack : FixesSeen scan-page-gaps.Post (λ k r s. now (s .1 .1 .1 .1 .1 .1 .1 .0))
 scan-page-gaps-stack k a x y s t p q = p .1 .1 .1 .1 .1 ∙ sym (q .1 .1 .1 .1 .1)
 
 pub scan-page-gap-number : Fixes scan-page-gap.Post
 scan-page-gap-number k a x y s t p q = p .0 ∙ sym (q .0)
 
-pub scan-page-gap-words : FixesSeen scan-page-gap.Post (λ k r s. now (s .1 .1 .1 .1 .1 .1 .0))
+pub scan-page-gap-words : FixesSeen scan-page-gap.Post (λ k r s. now (s .1 .1 .1 .1 .1 .1 .1 .0))
 scan-page-gap-words k a x y s t p q = p .1 .0 ∙ sym (q .1 .0)
 
-pub scan-page-gap-rows : FixesSeen scan-page-gap.Post (λ k r s. now (s .1 .1 .1 .1 .0))
+pub scan-page-gap-rows : FixesSeen scan-page-gap.Post (λ k r s. now (s .1 .1 .1 .1 .1 .0))
 scan-page-gap-rows k a x y s t p q = p .1 .1 .0 ∙ sym (q .1 .1 .0)
 
-pub scan-page-gap-cols : FixesSeen scan-page-gap.Post (λ k r s. now (s .1 .1 .1 .1 .1 .0))
+pub scan-page-gap-cols : FixesSeen scan-page-gap.Post (λ k r s. now (s .1 .1 .1 .1 .1 .1 .0))
 scan-page-gap-cols k a x y s t p q = p .1 .1 .1 ∙ sym (q .1 .1 .1)
 
 pub scan-single-page-gap-number : Fixes scan-single-page-gap.Post
 scan-single-page-gap-number k a x y s t p q = p .0 ∙ sym (q .0)
 
-pub scan-single-page-gap-words : FixesSeen scan-single-page-gap.Post (λ k r s. now (s .1 .1 .1 .1 .1 .1 .0))
+pub scan-single-page-gap-words : FixesSeen scan-single-page-gap.Post (λ k r s. now (s .1 .1 .1 .1 .1 .1 .1 .0))
 scan-single-page-gap-words k a x y s t p q = p .1 .0 ∙ sym (q .1 .0)
 
-pub scan-single-page-gap-rows : FixesSeen scan-single-page-gap.Post (λ k r s. now (s .1 .1 .1 .1 .0))
+pub scan-single-page-gap-rows : FixesSeen scan-single-page-gap.Post (λ k r s. now (s .1 .1 .1 .1 .1 .0))
 scan-single-page-gap-rows k a x y s t p q = p .1 .1 .0 ∙ sym (q .1 .1 .0)
 
-pub scan-single-page-gap-cols : FixesSeen scan-single-page-gap.Post (λ k r s. now (s .1 .1 .1 .1 .1 .0))
+pub scan-single-page-gap-cols : FixesSeen scan-single-page-gap.Post (λ k r s. now (s .1 .1 .1 .1 .1 .1 .0))
 scan-single-page-gap-cols k a x y s t p q = p .1 .1 .1 ∙ sym (q .1 .1 .1)
 
 pub parse-cells-from-freeblock-number : Fixes parse-cells-from-freeblock.Post
 parse-cells-from-freeblock-number k a x y s t p q = p .0 ∙ sym (q .0)
 
-pub parse-cells-from-freeblock-words : FixesSeen parse-cells-from-freeblock.Post (λ k r s. now (s .1 .1 .1 .1 .1 .0))
+pub parse-cells-from-freeblock-words : FixesSeen parse-cells-from-freeblock.Post (λ k r s. now (s .1 .1 .1 .1 .1 .1 .0))
 parse-cells-from-freeblock-words k a x y s t p q = p .1 .0 ∙ sym (q .1 .0)
 
-pub parse-cells-from-freeblock-rows : FixesSeen parse-cells-from-freeblock.Post (λ k r s. now (s .1 .1 .1 .0))
+pub parse-cells-from-freeblock-rows : FixesSeen parse-cells-from-freeblock.Post (λ k r s. now (s .1 .1 .1 .1 .0))
 parse-cells-from-freeblock-rows k a x y s t p q = p .1 .1 .0 ∙ sym (q .1 .1 .0)
 
-pub parse-cells-from-freeblock-cols : FixesSeen parse-cells-from-freeblock.Post (λ k r s. now (s .1 .1 .1 .1 .0))
+pub parse-cells-from-freeblock-cols : FixesSeen parse-cells-from-freeblock.Post (λ k r s. now (s .1 .1 .1 .1 .1 .0))
 parse-cells-from-freeblock-cols k a x y s t p q = p .1 .1 .1 ∙ sym (q .1 .1 .1)
 
 -- ---- the three modes, and learned hints

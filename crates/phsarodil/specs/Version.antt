@@ -4,4 +4,4 @@
 use Prim.Native.Nat.{ℕ}
 
 abbrev pub doorVersion : ℕ
-doorVersion = 1
+doorVersion = 2

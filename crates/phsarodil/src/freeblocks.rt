@@ -5,11 +5,8 @@ use carving::freeblocks::recover_slice_freeblocks;
 ghost use mathlib.Core.Path.{_≡_};
 ghost use mathlib.Core.List.{[], _∷_};
 ghost use lib.ListN.{length};
-ghost use Rattle.carving.specs.Calls.{leafHits, sliceRows, sliceCols, sliceNumber, sliceWritten, numberedRows, numberedCols, numberedNumber, numberedWritten};
+ghost use Rattle.carving.specs.Calls.{sliceRows, sliceCols, sliceNumber, sliceWritten, numberedRows, numberedCols, numberedNumber, numberedWritten, tabledRows, tabledCols, tabledCleared, tabledNumber, tabledWritten};
 ghost use Rattle.carving.specs.declared.inner.Carving.the-variants.{Freeblocks};
-ghost use Rattle.sheet.specs.Refusal.{firstHeld};
-ghost use Rattle.walk.specs.Carve.{tableChecks, carvedRows, carvedCols, carvedNumber, carvedWritten};
-ghost use Rattle.walk.specs.Collect.{clearedUnless};
 
 #[no_mangle]
 pub extern "C" fn phs_recover_freeblocks(
@@ -24,12 +21,12 @@ pub extern "C" fn phs_recover_freeblocks(
     cols: &mut [u64],
     out: &mut [u64; 1],
 ) -> u64
-    ensures number { λ r. ⌜ r ≡ carvedNumber (leafHits Freeblocks (now (db .entry)) size) (now (db .entry)) size (now (roots .entry)) (now (counts .entry)) (now (hints .entry)) (length (now (flags .entry))) (length (now (stack .entry))) (length (now (rows .entry))) (length (now (cols .entry))) ⌝ }
-    ensures out { λ _. ⌜ now (out .exit) ≡ carvedWritten (leafHits Freeblocks (now (db .entry)) size) (now (db .entry)) size (now (roots .entry)) (now (counts .entry)) (now (hints .entry)) (length (now (flags .entry))) (length (now (stack .entry))) (length (now (rows .entry))) (length (now (cols .entry))) ∷ [] ⌝ }
-    ensures rows { λ _. ⌜ now (rows .exit) ≡ carvedRows (leafHits Freeblocks (now (db .entry)) size) (now (db .entry)) size (now (roots .entry)) (now (counts .entry)) (now (hints .entry)) (length (now (flags .entry))) (length (now (stack .entry))) (now (rows .entry)) (now (cols .entry)) ⌝ }
-    ensures cols { λ _. ⌜ now (cols .exit) ≡ carvedCols (leafHits Freeblocks (now (db .entry)) size) (now (db .entry)) size (now (roots .entry)) (now (counts .entry)) (now (hints .entry)) (length (now (flags .entry))) (length (now (stack .entry))) (now (rows .entry)) (now (cols .entry)) ⌝ }
-    ensures flags { λ _. ⌜ now (flags .exit) ≡ clearedUnless (firstHeld (tableChecks (length (now (db .entry))) size (now (roots .entry)) (now (counts .entry)) (now (hints .entry)))) (now (flags .entry)) ⌝ }
-    ensures stack { λ _. ⌜ now (stack .exit) ≡ clearedUnless (firstHeld (tableChecks (length (now (db .entry))) size (now (roots .entry)) (now (counts .entry)) (now (hints .entry)))) (now (stack .entry)) ⌝ }
+    ensures number { λ r. ⌜ r ≡ tabledNumber Freeblocks (now (db .entry)) size (now (roots .entry)) (now (counts .entry)) (now (hints .entry)) (length (now (flags .entry))) (length (now (stack .entry))) (length (now (rows .entry))) (length (now (cols .entry))) ⌝ }
+    ensures out { λ _. ⌜ now (out .exit) ≡ tabledWritten Freeblocks (now (db .entry)) size (now (roots .entry)) (now (counts .entry)) (now (hints .entry)) (length (now (flags .entry))) (length (now (stack .entry))) (length (now (rows .entry))) (length (now (cols .entry))) ∷ [] ⌝ }
+    ensures rows { λ _. ⌜ now (rows .exit) ≡ tabledRows Freeblocks (now (db .entry)) size (now (roots .entry)) (now (counts .entry)) (now (hints .entry)) (length (now (flags .entry))) (length (now (stack .entry))) (now (rows .entry)) (now (cols .entry)) ⌝ }
+    ensures cols { λ _. ⌜ now (cols .exit) ≡ tabledCols Freeblocks (now (db .entry)) size (now (roots .entry)) (now (counts .entry)) (now (hints .entry)) (length (now (flags .entry))) (length (now (stack .entry))) (now (rows .entry)) (now (cols .entry)) ⌝ }
+    ensures flags { λ _. ⌜ now (flags .exit) ≡ tabledCleared Freeblocks (length (now (db .entry))) size (now (roots .entry)) (now (counts .entry)) (now (hints .entry)) (now (flags .entry)) ⌝ }
+    ensures stack { λ _. ⌜ now (stack .exit) ≡ tabledCleared Freeblocks (length (now (db .entry))) size (now (roots .entry)) (now (counts .entry)) (now (hints .entry)) (now (stack .entry)) ⌝ }
 {
     let walked = recover_freeblocks(db, size, roots, counts, hints, flags, stack, rows, cols);
     *out = [walked.written()];

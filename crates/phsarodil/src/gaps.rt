@@ -1,19 +1,26 @@
-// Rows in the free space of pages: of tables, of a page by its number, of a page slice, and of the payload of one freed block.
+// Rows in the free space of pages: of tables, of a page by its number, of a page slice, and of the payload of one freed block. Each takes the code of
+// the way in which lost headers are rebuilt.
+use crate::rebuildings::Way;
+use crate::rebuildings::named;
+use crate::rebuildings::unnamed;
 use carving::gaps::parse_cells_from_freeblock;
 use carving::gaps::scan_page_gap;
 use carving::gaps::scan_page_gaps;
 use carving::gaps::scan_single_page_gap;
+use sheet::refusal::hint_count_fits;
+use walk::inner::tables::counts_fit;
 ghost use mathlib.Core.Path.{_≡_};
 ghost use mathlib.Core.List.{[], _∷_};
 ghost use lib.ListN.{length};
-ghost use Rattle.carving.specs.Calls.{leafHits, sliceRows, sliceCols, sliceNumber, sliceWritten, numberedRows, numberedCols, numberedNumber, numberedWritten};
+ghost use Rattle.carving.specs.Calls.{sliceRows, sliceCols, sliceNumber, sliceWritten, numberedRows, numberedCols, numberedNumber, numberedWritten, tabledRows, tabledCols, tabledCleared, tabledNumber, tabledWritten};
 ghost use Rattle.carving.specs.declared.inner.Carving.the-variants.{Gaps, Payload};
-ghost use Rattle.sheet.specs.Refusal.{firstHeld};
-ghost use Rattle.walk.specs.Carve.{tableChecks, carvedRows, carvedCols, carvedNumber, carvedWritten};
-ghost use Rattle.walk.specs.Collect.{clearedUnless};
+ghost use Rattle.phsarodil.specs.Rebuildings.{named as wayNamed, byName, unnamedNumber};
+ghost use Rattle.sheet.specs.Limits.{countFits};
+ghost use Rattle.walk.specs.Carve.{countsFit};
 
 #[no_mangle]
 pub extern "C" fn phs_scan_page_gaps(
+    rebuilding: u64,
     db: &[u8],
     size: u64,
     roots: &[u64],
@@ -25,20 +32,36 @@ pub extern "C" fn phs_scan_page_gaps(
     cols: &mut [u64],
     out: &mut [u64; 1],
 ) -> u64
-    ensures number { λ r. ⌜ r ≡ carvedNumber (leafHits Gaps (now (db .entry)) size) (now (db .entry)) size (now (roots .entry)) (now (counts .entry)) (now (hints .entry)) (length (now (flags .entry))) (length (now (stack .entry))) (length (now (rows .entry))) (length (now (cols .entry))) ⌝ }
-    ensures out { λ _. ⌜ now (out .exit) ≡ carvedWritten (leafHits Gaps (now (db .entry)) size) (now (db .entry)) size (now (roots .entry)) (now (counts .entry)) (now (hints .entry)) (length (now (flags .entry))) (length (now (stack .entry))) (length (now (rows .entry))) (length (now (cols .entry))) ∷ [] ⌝ }
-    ensures rows { λ _. ⌜ now (rows .exit) ≡ carvedRows (leafHits Gaps (now (db .entry)) size) (now (db .entry)) size (now (roots .entry)) (now (counts .entry)) (now (hints .entry)) (length (now (flags .entry))) (length (now (stack .entry))) (now (rows .entry)) (now (cols .entry)) ⌝ }
-    ensures cols { λ _. ⌜ now (cols .exit) ≡ carvedCols (leafHits Gaps (now (db .entry)) size) (now (db .entry)) size (now (roots .entry)) (now (counts .entry)) (now (hints .entry)) (length (now (flags .entry))) (length (now (stack .entry))) (now (rows .entry)) (now (cols .entry)) ⌝ }
-    ensures flags { λ _. ⌜ now (flags .exit) ≡ clearedUnless (firstHeld (tableChecks (length (now (db .entry))) size (now (roots .entry)) (now (counts .entry)) (now (hints .entry)))) (now (flags .entry)) ⌝ }
-    ensures stack { λ _. ⌜ now (stack .exit) ≡ clearedUnless (firstHeld (tableChecks (length (now (db .entry))) size (now (roots .entry)) (now (counts .entry)) (now (hints .entry)))) (now (stack .entry)) ⌝ }
+    ensures number { λ r. ⌜ r ≡ byName (wayNamed rebuilding) (λ how. tabledNumber (Gaps how) (now (db .entry)) size (now (roots .entry)) (now (counts .entry)) (now (hints .entry)) (length (now (flags .entry))) (length (now (stack .entry))) (length (now (rows .entry))) (length (now (cols .entry)))) (unnamedNumber (countsFit (now (counts .entry)))) ⌝ }
+    ensures out { λ _. ⌜ now (out .exit) ≡ byName (wayNamed rebuilding) (λ how. tabledWritten (Gaps how) (now (db .entry)) size (now (roots .entry)) (now (counts .entry)) (now (hints .entry)) (length (now (flags .entry))) (length (now (stack .entry))) (length (now (rows .entry))) (length (now (cols .entry)))) 0 ∷ [] ⌝ }
+    ensures rows { λ _. ⌜ now (rows .exit) ≡ byName (wayNamed rebuilding) (λ how. tabledRows (Gaps how) (now (db .entry)) size (now (roots .entry)) (now (counts .entry)) (now (hints .entry)) (length (now (flags .entry))) (length (now (stack .entry))) (now (rows .entry)) (now (cols .entry))) (now (rows .entry)) ⌝ }
+    ensures cols { λ _. ⌜ now (cols .exit) ≡ byName (wayNamed rebuilding) (λ how. tabledCols (Gaps how) (now (db .entry)) size (now (roots .entry)) (now (counts .entry)) (now (hints .entry)) (length (now (flags .entry))) (length (now (stack .entry))) (now (rows .entry)) (now (cols .entry))) (now (cols .entry)) ⌝ }
+    ensures flags { λ _. ⌜ now (flags .exit) ≡ byName (wayNamed rebuilding) (λ how. tabledCleared (Gaps how) (length (now (db .entry))) size (now (roots .entry)) (now (counts .entry)) (now (hints .entry)) (now (flags .entry))) (now (flags .entry)) ⌝ }
+    ensures stack { λ _. ⌜ now (stack .exit) ≡ byName (wayNamed rebuilding) (λ how. tabledCleared (Gaps how) (length (now (db .entry))) size (now (roots .entry)) (now (counts .entry)) (now (hints .entry)) (now (stack .entry))) (now (stack .entry)) ⌝ }
 {
-    let walked = scan_page_gaps(db, size, roots, counts, hints, flags, stack, rows, cols);
+    let Way::By(how) = named(rebuilding) else {
+        *out = [0];
+        return unnamed(counts_fit(counts));
+    };
+    let walked = scan_page_gaps(
+        how,
+        db,
+        size,
+        roots,
+        counts,
+        hints,
+        flags,
+        stack,
+        rows,
+        cols,
+    );
     *out = [walked.written()];
     walked.number()
 }
 
 #[no_mangle]
 pub extern "C" fn phs_scan_page_gap(
+    rebuilding: u64,
     db: &[u8],
     size: u64,
     page: u64,
@@ -47,18 +70,23 @@ pub extern "C" fn phs_scan_page_gap(
     cols: &mut [u64],
     out: &mut [u64; 1],
 ) -> u64
-    ensures number { λ r. ⌜ r ≡ numberedNumber Gaps (now (db .entry)) size page (now (hints .entry)) (length (now (rows .entry))) (length (now (cols .entry))) ⌝ }
-    ensures out { λ _. ⌜ now (out .exit) ≡ numberedWritten Gaps (now (db .entry)) size page (now (hints .entry)) (length (now (rows .entry))) (length (now (cols .entry))) ∷ [] ⌝ }
-    ensures rows { λ _. ⌜ now (rows .exit) ≡ numberedRows Gaps (now (db .entry)) size page (now (hints .entry)) (now (rows .entry)) (now (cols .entry)) ⌝ }
-    ensures cols { λ _. ⌜ now (cols .exit) ≡ numberedCols Gaps (now (db .entry)) size page (now (hints .entry)) (now (rows .entry)) (now (cols .entry)) ⌝ }
+    ensures number { λ r. ⌜ r ≡ byName (wayNamed rebuilding) (λ how. numberedNumber (Gaps how) (now (db .entry)) size page (now (hints .entry)) (length (now (rows .entry))) (length (now (cols .entry)))) (unnamedNumber (countFits (length (now (hints .entry))))) ⌝ }
+    ensures out { λ _. ⌜ now (out .exit) ≡ byName (wayNamed rebuilding) (λ how. numberedWritten (Gaps how) (now (db .entry)) size page (now (hints .entry)) (length (now (rows .entry))) (length (now (cols .entry)))) 0 ∷ [] ⌝ }
+    ensures rows { λ _. ⌜ now (rows .exit) ≡ byName (wayNamed rebuilding) (λ how. numberedRows (Gaps how) (now (db .entry)) size page (now (hints .entry)) (now (rows .entry)) (now (cols .entry))) (now (rows .entry)) ⌝ }
+    ensures cols { λ _. ⌜ now (cols .exit) ≡ byName (wayNamed rebuilding) (λ how. numberedCols (Gaps how) (now (db .entry)) size page (now (hints .entry)) (now (rows .entry)) (now (cols .entry))) (now (cols .entry)) ⌝ }
 {
-    let filled = scan_page_gap(db, size, page, hints, rows, cols);
+    let Way::By(how) = named(rebuilding) else {
+        *out = [0];
+        return unnamed(hint_count_fits(hints.len()));
+    };
+    let filled = scan_page_gap(how, db, size, page, hints, rows, cols);
     *out = [filled.written()];
     filled.number()
 }
 
 #[no_mangle]
 pub extern "C" fn phs_scan_single_page_gap(
+    rebuilding: u64,
     page: &[u8],
     head: usize,
     base: u64,
@@ -67,18 +95,23 @@ pub extern "C" fn phs_scan_single_page_gap(
     cols: &mut [u64],
     out: &mut [u64; 1],
 ) -> u64
-    ensures number { λ r. ⌜ r ≡ sliceNumber Gaps (now (page .entry)) head base (now (hints .entry)) (length (now (rows .entry))) (length (now (cols .entry))) ⌝ }
-    ensures out { λ _. ⌜ now (out .exit) ≡ sliceWritten Gaps (now (page .entry)) head base (now (hints .entry)) (length (now (rows .entry))) (length (now (cols .entry))) ∷ [] ⌝ }
-    ensures rows { λ _. ⌜ now (rows .exit) ≡ sliceRows Gaps (now (page .entry)) head base (now (hints .entry)) (now (rows .entry)) (now (cols .entry)) ⌝ }
-    ensures cols { λ _. ⌜ now (cols .exit) ≡ sliceCols Gaps (now (page .entry)) head base (now (hints .entry)) (now (rows .entry)) (now (cols .entry)) ⌝ }
+    ensures number { λ r. ⌜ r ≡ byName (wayNamed rebuilding) (λ how. sliceNumber (Gaps how) (now (page .entry)) head base (now (hints .entry)) (length (now (rows .entry))) (length (now (cols .entry)))) (unnamedNumber (countFits (length (now (hints .entry))))) ⌝ }
+    ensures out { λ _. ⌜ now (out .exit) ≡ byName (wayNamed rebuilding) (λ how. sliceWritten (Gaps how) (now (page .entry)) head base (now (hints .entry)) (length (now (rows .entry))) (length (now (cols .entry)))) 0 ∷ [] ⌝ }
+    ensures rows { λ _. ⌜ now (rows .exit) ≡ byName (wayNamed rebuilding) (λ how. sliceRows (Gaps how) (now (page .entry)) head base (now (hints .entry)) (now (rows .entry)) (now (cols .entry))) (now (rows .entry)) ⌝ }
+    ensures cols { λ _. ⌜ now (cols .exit) ≡ byName (wayNamed rebuilding) (λ how. sliceCols (Gaps how) (now (page .entry)) head base (now (hints .entry)) (now (rows .entry)) (now (cols .entry))) (now (cols .entry)) ⌝ }
 {
-    let filled = scan_single_page_gap(page, head, base, hints, rows, cols);
+    let Way::By(how) = named(rebuilding) else {
+        *out = [0];
+        return unnamed(hint_count_fits(hints.len()));
+    };
+    let filled = scan_single_page_gap(how, page, head, base, hints, rows, cols);
     *out = [filled.written()];
     filled.number()
 }
 
 #[no_mangle]
 pub extern "C" fn phs_parse_cells_from_freeblock(
+    rebuilding: u64,
     payload: &[u8],
     base: u64,
     hints: &[u8],
@@ -86,12 +119,16 @@ pub extern "C" fn phs_parse_cells_from_freeblock(
     cols: &mut [u64],
     out: &mut [u64; 1],
 ) -> u64
-    ensures number { λ r. ⌜ r ≡ sliceNumber Payload (now (payload .entry)) 0 base (now (hints .entry)) (length (now (rows .entry))) (length (now (cols .entry))) ⌝ }
-    ensures out { λ _. ⌜ now (out .exit) ≡ sliceWritten Payload (now (payload .entry)) 0 base (now (hints .entry)) (length (now (rows .entry))) (length (now (cols .entry))) ∷ [] ⌝ }
-    ensures rows { λ _. ⌜ now (rows .exit) ≡ sliceRows Payload (now (payload .entry)) 0 base (now (hints .entry)) (now (rows .entry)) (now (cols .entry)) ⌝ }
-    ensures cols { λ _. ⌜ now (cols .exit) ≡ sliceCols Payload (now (payload .entry)) 0 base (now (hints .entry)) (now (rows .entry)) (now (cols .entry)) ⌝ }
+    ensures number { λ r. ⌜ r ≡ byName (wayNamed rebuilding) (λ how. sliceNumber (Payload how) (now (payload .entry)) 0 base (now (hints .entry)) (length (now (rows .entry))) (length (now (cols .entry)))) (unnamedNumber (countFits (length (now (hints .entry))))) ⌝ }
+    ensures out { λ _. ⌜ now (out .exit) ≡ byName (wayNamed rebuilding) (λ how. sliceWritten (Payload how) (now (payload .entry)) 0 base (now (hints .entry)) (length (now (rows .entry))) (length (now (cols .entry)))) 0 ∷ [] ⌝ }
+    ensures rows { λ _. ⌜ now (rows .exit) ≡ byName (wayNamed rebuilding) (λ how. sliceRows (Payload how) (now (payload .entry)) 0 base (now (hints .entry)) (now (rows .entry)) (now (cols .entry))) (now (rows .entry)) ⌝ }
+    ensures cols { λ _. ⌜ now (cols .exit) ≡ byName (wayNamed rebuilding) (λ how. sliceCols (Payload how) (now (payload .entry)) 0 base (now (hints .entry)) (now (rows .entry)) (now (cols .entry))) (now (cols .entry)) ⌝ }
 {
-    let filled = parse_cells_from_freeblock(payload, base, hints, rows, cols);
+    let Way::By(how) = named(rebuilding) else {
+        *out = [0];
+        return unnamed(hint_count_fits(hints.len()));
+    };
+    let filled = parse_cells_from_freeblock(how, payload, base, hints, rows, cols);
     *out = [filled.written()];
     filled.number()
 }

@@ -1,8 +1,29 @@
--- `phs_scan_page_gaps` meets its contract: number, word and lists are those of the tables.
+-- `phs_scan_page_gaps` meets its contract: a code that names no way changes nothing, and otherwise number, word and lists are those of the tables.
 -- Assumes nothing.
+use mathlib.Core.Path.{refl, sym, _∙_}
 use borrow.Author.Needs.{needs}
 use Rattle.phsarodil.proofs.gaps.phs_scan_page_gaps.Statement.{statement}
 use Rattle.phsarodil.proofs.gaps.phs_scan_page_gaps.Tie as tie
+
+named-requires : tie.Need-named-requires
+named-requires c κs = search needs
+
+enum-known-how : tie.Need-enum-known-how
+enum-known-how c = search needs
+
+enum-told : tie.Need-enum-told
+enum-told c = search needs
+
+counts-fit-requires : tie.Need-counts-fit-requires
+counts-fit-requires c κs = search needs
+
+unnamed-requires : tie.Need-unnamed-requires
+unnamed-requires c κs = search needs
+
+returns : tie.Need-returns
+returns c =
+    rw (sym (c .before .before .before .before .before .named .ensures) ∙ c .before .before .before .enum-told .given .1)
+    (rw (c .before .counts-fit .ensures) at (c .unnamed .ensures), (refl, (refl, (refl, (refl, refl)))))
 
 scan-page-gaps-requires : tie.Need-scan-page-gaps-requires
 scan-page-gaps-requires c κs = search needs
@@ -25,16 +46,24 @@ same-length-3 c = search needs
 same-length-4 : tie.Need-same-length-4
 same-length-4 c = search needs
 
-returns : tie.Need-returns
-returns c =
-    let s = c .before .before .before .before .before .before .before .before .before .before .before .scan-page-gaps .ensures .1 in
+returns-2 : tie.Need-returns-2
+returns-2 c =
+    let at = c .before .before .before .before .before .before .before .before .before .before .before in
+    let s = at .scan-page-gaps .ensures .1 in
     let n = s .1 .1 .1 .1 in
+    rw (sym (at .before .before .before .before .before .before .before .before .named .ensures) ∙ at .before .before .before .before .before .before .how .given .1)
     (rw (← n .0) (c .number .ensures), (rw (c .before .before .written .ensures, n .1), (s .0, (s .1 .0, (s .1 .1 .0, s .1 .1 .1 .0)))))
 
 pub phs-scan-page-gaps-spec : {M : Type 1} → statement M
 phs-scan-page-gaps-spec =
     tie.close
     (tie.spec
+    named-requires
+    enum-known-how
+    enum-told
+    counts-fit-requires
+    unnamed-requires
+    returns
     scan-page-gaps-requires
     written-requires
     number-requires
@@ -42,4 +71,4 @@ phs-scan-page-gaps-spec =
     same-length-2
     same-length-3
     same-length-4
-    returns)
+    returns-2)

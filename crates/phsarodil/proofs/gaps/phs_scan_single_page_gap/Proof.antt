@@ -1,8 +1,29 @@
--- `phs_scan_single_page_gap` meets its contract: number, word and lists are those of the page slice.
+-- `phs_scan_single_page_gap` meets its contract: a code that names no way changes nothing, and otherwise number, word and lists are those of the page slice.
 -- Assumes nothing.
+use mathlib.Core.Path.{refl, sym, _∙_}
 use borrow.Author.Needs.{needs}
 use Rattle.phsarodil.proofs.gaps.phs_scan_single_page_gap.Statement.{statement}
 use Rattle.phsarodil.proofs.gaps.phs_scan_single_page_gap.Tie as tie
+
+named-requires : tie.Need-named-requires
+named-requires c κs = search needs
+
+enum-known-how : tie.Need-enum-known-how
+enum-known-how c = search needs
+
+enum-told : tie.Need-enum-told
+enum-told c = search needs
+
+hint-count-fits-requires : tie.Need-hint-count-fits-requires
+hint-count-fits-requires c κs = search needs
+
+unnamed-requires : tie.Need-unnamed-requires
+unnamed-requires c κs = search needs
+
+returns : tie.Need-returns
+returns c =
+    rw (sym (c .before .before .before .before .before .named .ensures) ∙ c .before .before .before .enum-told .given .1)
+    (rw (c .before .hint-count-fits .ensures) at (c .unnamed .ensures), (refl, (refl, refl)))
 
 scan-single-page-gap-requires : tie.Need-scan-single-page-gap-requires
 scan-single-page-gap-requires c κs = search needs
@@ -19,19 +40,27 @@ same-length c = search needs
 same-length-2 : tie.Need-same-length-2
 same-length-2 c = search needs
 
-returns : tie.Need-returns
-returns c =
-    let s = c .before .before .before .before .before .before .before .scan-single-page-gap .ensures .1 in
+returns-2 : tie.Need-returns-2
+returns-2 c =
+    let at = c .before .before .before .before .before .before .before in
+    let s = at .scan-single-page-gap .ensures .1 in
     let n = s .1 .1 in
+    rw (sym (at .before .before .before .before .before .before .named .ensures) ∙ at .before .before .before .before .how .given .1)
     (rw (← n .0) (c .number .ensures), (rw (c .before .before .written .ensures, n .1), (s .0, s .1 .0)))
 
 pub phs-scan-single-page-gap-spec : {M : Type 1} → statement M
 phs-scan-single-page-gap-spec =
     tie.close
     (tie.spec
+    named-requires
+    enum-known-how
+    enum-told
+    hint-count-fits-requires
+    unnamed-requires
+    returns
     scan-single-page-gap-requires
     written-requires
     number-requires
     same-length
     same-length-2
-    returns)
+    returns-2)

@@ -1,0 +1,24 @@
+-- The codes of the ways in which a header is rebuilt, and what a call comes to by its code.
+-- Assumes nothing.
+use Prim.Native.Nat.{ℕ}
+use mathlib.Core.Bool.{Bool, cond}
+use lib.Dec.{eqb}
+use Rattle.phsarodil.specs.declared.rebuildings.Way.{Way}
+use Rattle.phsarodil.specs.declared.rebuildings.Way.the-variants.{By, Unnamed}
+use Rattle.rebuild.specs.declared.rebuilding.Rebuilding.{Rebuilding}
+use Rattle.rebuild.specs.declared.rebuilding.Rebuilding.the-variants.{OneByte, Exact}
+use Rattle.sheet.specs.Refusal.{refusalNumber}
+use Rattle.sheet.specs.declared.refusal.Refusal.the-variants.{ColumnCount, Malformed}
+
+-- 0 is left free for a way that rebuilds nothing
+abbrev pub named : ℕ → Way
+named code = cond (eqb code 1) (By OneByte) (cond (eqb code 2) (By Exact) Unnamed)
+
+-- what a call comes to in the way that is named, and what it comes to where none is
+abbrev pub byName : {A : Type 0} → Way → (Rebuilding → A) → A → A
+byName (By how) call none = call how
+byName Unnamed call none = none
+
+-- Rule 1.1: refusal 2 in rising order, so behind 1 for a count of columns that no table has
+abbrev pub unnamedNumber : Bool → ℕ
+unnamedNumber fits = cond fits (refusalNumber Malformed) (refusalNumber ColumnCount)

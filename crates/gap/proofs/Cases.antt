@@ -8,10 +8,13 @@ use lib.Ieee.{ofBits, ofInt, div, mul, round, toBits, toUnsigned}
 use lib.ListN.{length, replicate}
 use Rattle.attempt.specs.Attempt.{headerFits, typesFrom, bodiesFrom, judged, attemptAt}
 use Rattle.attempt.specs.Hints.{isInteger, isReal, isText, isBlob, suits}
-use Rattle.cells.specs.Cells.{oneByte, cellAt, cellsFrom, cellsOf, rebuiltFrom, payloadHits}
+use Rattle.cells.specs.Cells.{cellAt, cellsFrom, cellsOf, rebuiltFrom, payloadHits}
 use Rattle.gap.specs.Gap.{gapTo, hasGap, allZero, regionHits, gapHits, chainEnds, chainFrom, chain, pageHits}
 use Rattle.hit.specs.declared.inner.Spot.{Spot}
 use Rattle.page.specs.Page.{Block}
+use Rattle.rebuild.specs.Header.{guessed, rebuilt}
+use Rattle.rebuild.specs.declared.rebuilding.Rebuilding.{Rebuilding}
+use Rattle.rebuild.specs.declared.rebuilding.Rebuilding.the-variants.{OneByte, Exact}
 use Rattle.record.specs.Value.{bodyLength, bigEndian}
 use Rattle.record.specs.Varint.{varintFrom, varintAt}
 use Rattle.scan.specs.Scan.{scanFrom}
@@ -47,6 +50,10 @@ record9 = 0x03 ∷ 0x01 ∷ 0x17 ∷ 0x2a ∷ 0x68 ∷ 0x69 ∷ 0x70 ∷ 0x69 �
 rowsIn : List ℕ
 rowsIn = header 20 0 20 ++ (0 ∷ []) ++ record9 ++ (0 ∷ 0 ∷ []) ++ begins 0 15 ++ (9 ∷ 7 ∷ []) ++ record9
 
+-- a block whose bytes are the types of that record, the second of them padded to two bytes, and its bodies
+padded : List ℕ
+padded = header 8 0 0 ++ begins 0 13 ++ (0x01 ∷ 0x80 ∷ 0x17 ∷ 0x2a ∷ 0x68 ∷ 0x69 ∷ 0x70 ∷ 0x69 ∷ 0x6b ∷ [])
+
 -- ---- cases: whether there is a gap, and where it ends; so many steps of a chain; the blocks of a page; the words of its rows, and of their groups
 record Outcome : Type 0 where
   rows : List ℕ
@@ -56,7 +63,7 @@ data Case : Type 0 where
   gap : List ℕ → ℕ → Bool → ℕ → Case
   steps : ℕ → List ℕ → List Block → Case
   blocks : List ℕ → List Block → Case
-  onPage : List ℕ → ℕ → Spot → Outcome → Case
+  onPage : Rebuilding → List ℕ → ℕ → Spot → Outcome → Case
 
 data Answer : Type 0 where
   gapped : Bool → ℕ → Answer
@@ -70,15 +77,15 @@ computed : Case → Answer
 computed (gap page head is to) = gapped (hasGap page head) (gapTo page head)
 computed (steps k page bs) = places (chainFrom k page 8)
 computed (blocks page bs) = places (chain page 0)
-computed (onPage page head spot o) =
-    let hits = pageHits gapHits oneByte page head hints spot in
+computed (onPage how page head spot o) =
+    let hits = pageHits gapHits how page head hints spot in
     carved (record { rows = rowsWords (rowsOf hits); cols = groupsWords (length hints) hits })
 
 expected : Case → Answer
 expected (gap page head is to) = gapped is to
 expected (steps k page bs) = places bs
 expected (blocks page bs) = places bs
-expected (onPage page head spot o) = carved o
+expected (onPage how page head spot o) = carved o
 
 block : ℕ → ℕ → Block
 block at size = record { at = at; size = size }
@@ -111,9 +118,9 @@ cases =
     ∷ steps 3 chained (block 24 8 ∷ [])
     ∷ blocks chained (block 24 8 ∷ block 32 4 ∷ [])
     ∷ blocks inHeader (block 4 4 ∷ [])
-    ∷ onPage (header 0 0 16 ++ replicate 8 0) 0 (spot 0 0 0) none
-    ∷ onPage rowsIn 28 (spot 0 0 0) none
-    ∷ onPage rowsIn 0 (spot 1000 512 3)
+    ∷ onPage OneByte (header 0 0 16 ++ replicate 8 0) 0 (spot 0 0 0) none
+    ∷ onPage OneByte rowsIn 28 (spot 0 0 0) none
+    ∷ onPage OneByte rowsIn 0 (spot 1000 512 3)
     (record {
       rows =
           row 1009 9 (0 ∷ 0 ∷ []) 100 0x3f800000 12
@@ -122,8 +129,10 @@ cases =
           ++ row 1027 8 (0 ∷ 0 ∷ []) 90 0x3f666666 12;
       cols = pair 524 ++ pair 541 ++ body 9 538 0 ++ body 7 538 8 ++ pair 541;
     })
+    ∷ onPage OneByte padded 0 (spot 0 0 0) (record { rows = row 12 8 (0 ∷ 0 ∷ []) 90 0x3f666666 0; cols = body 1 14 1 ++ body 23 15 5 })
+    ∷ onPage Exact padded 0 (spot 0 0 0) (record { rows = row 12 9 (0 ∷ 0 ∷ []) 90 0x3f666666 0; cols = pair 15 })
     ∷ []
 
 table : map computed cases ≡ map expected cases
-unfolding cases computed expected header begins chained inHeader record9 rowsIn hints block spot row body pair none hasGap allZero regionHits gapHits chainEnds chainFrom chain pageHits oneByte cellAt cellsFrom cellsOf rebuiltFrom payloadHits scanFrom attemptAt judged bodiesFrom typesFrom headerFits suits isInteger isReal isText isBlob varintAt varintFrom bodyLength bigEndian columnWords unusedWords share rebuiltShare percentOf rowWords ofBits ofInt div mul round toBits toUnsigned
+unfolding cases computed expected header begins chained inHeader record9 rowsIn padded hints block spot row body pair none hasGap allZero regionHits gapHits chainEnds chainFrom chain pageHits guessed rebuilt cellAt cellsFrom cellsOf rebuiltFrom payloadHits scanFrom attemptAt judged bodiesFrom typesFrom headerFits suits isInteger isReal isText isBlob varintAt varintFrom bodyLength bigEndian columnWords unusedWords share rebuiltShare percentOf rowWords ofBits ofInt div mul round toBits toUnsigned
 table = refl

@@ -9,11 +9,12 @@ use native.Mathlib.Omega.{arith}
 use borrow.Author.Tests.{eq-eqb, ne-eqb, le-ltb, lt-ltb, ltb-false}
 use lib.Dec.{leb, ltb, eqb}
 use lib.ListN.{length, take, drop}
-use Rattle.cells.specs.Cells.{oneByte, payloadHits}
+use Rattle.cells.specs.Cells.{payloadHits}
 use Rattle.gap.specs.Gap.{blockThen, chainEnds, chainFrom, chain, mostSteps, blocksHits}
 use Rattle.gap.specs.Inner.{larger}
 use Rattle.hit.specs.declared.inner.Spot.{Spot}
 use Rattle.page.specs.Page.{Block, payloadOf, firstFreeblock, blockNext, blockSize}
+use Rattle.rebuild.specs.declared.rebuilding.Rebuilding.{Rebuilding}
 use Rattle.walk.specs.Carve.{Hit}
 
 module _ (page : List ℕ) where
@@ -53,9 +54,9 @@ module _ (page : List ℕ) where
   chain-on k at e = simp e (ap (λ (rest : List Block). blockThen page at rest) (chain-next k at (blockNext page at)))
 
   -- ---- hits of blocks
-  module _ (hints : List ℕ) (spot : Spot) where
+  module _ (how : Rebuilding) (hints : List ℕ) (spot : Spot) where
     abbrev pub hitsOf : List Block → List Hit
-    hitsOf bs = blocksHits oneByte page hints spot bs
+    hitsOf bs = blocksHits how page hints spot bs
 
     then-hits : (at : ℕ) (rest : List Block) → hitsOf (blockThen page at rest) ≡ hitsOf (blockThen page at []) ++ hitsOf rest
     then-hits at rest = go (ltb (blockSize page at) 4 || ltb (length page) (at + blockSize page at))
@@ -65,7 +66,7 @@ module _ (page : List ℕ) where
 
         go : (bad : Bool) → hitsOf (cond bad rest (b ∷ rest)) ≡ hitsOf (cond bad [] (b ∷ [])) ++ hitsOf rest
         go true = refl
-        go false = rw (append-nil (payloadHits oneByte spot (at + 4) (payloadOf page b) hints))
+        go false = rw (append-nil (payloadHits how spot (at + 4) (payloadOf page b) hints))
 
     -- one block, of so many bytes
     module _ (at size : ℕ) (is : size ≡ blockSize page at) where
@@ -76,7 +77,7 @@ module _ (page : List ℕ) where
       block-past h p = rw (← is) (simp (le-ltb size 4 h, lt-ltb (length page) (at + size) p))
 
       pub block-hits : 4 ≤ size → at + size ≤ length page
-          → hitsOf (blockThen page at []) ≡ payloadHits oneByte spot (at + 4) (take (at + size - (at + 4)) (drop (at + 4) page)) hints
+          → hitsOf (blockThen page at []) ≡ payloadHits how spot (at + 4) (take (at + size - (at + 4)) (drop (at + 4) page)) hints
       block-hits h p =
           let e : at + size - (at + 4) ≡ size - 4 = omega arith in
           rw (← is) (simp (le-ltb size 4 h, le-ltb (length page) (at + size) p, e, append-nil))

@@ -9,10 +9,10 @@ use native.Mathlib.Omega.{arith}
 use borrow.Author.Tests.{ne-eqb, le-leb, lt-leb, le-ltb, lt-ltb}
 use lib.ListN.{length, take, drop, getD}
 use lib.Seq.{drop-cons, drop-length}
-use Rattle.cells.specs.Cells.{oneByte}
 use Rattle.gap.specs.Gap.{gapFrom, gapTo, hasGap, allZero, regionHits, gapHits, chain, blocksHits, pageHits}
 use Rattle.hit.specs.declared.inner.Lent.{Lent}
 use Rattle.hit.specs.declared.inner.Spot.{Spot}
+use Rattle.rebuild.specs.declared.rebuilding.Rebuilding.{Rebuilding}
 use Rattle.walk.proofs.Carving.{carves-more, carves-stop}
 use Rattle.walk.specs.Inner.{Told, on, over, Carves}
 
@@ -53,26 +53,26 @@ module _ (page : List ℕ) (head : ℕ) (hints : List ℕ) (spot : Spot) (from t
     gap-some z = rw (← begins, ← ends) (simp (lt-ltb from to h, le-leb to (length page) p, z))
 
 -- ---- a page
-module _ (page : List ℕ) (head : ℕ) (hints : List ℕ) (spot : Spot) where
-  pub page-short : length page < head + 8 → pageHits gapHits oneByte page head hints spot ≡ []
+module _ (how : Rebuilding) (page : List ℕ) (head : ℕ) (hints : List ℕ) (spot : Spot) where
+  pub page-short : length page < head + 8 → pageHits gapHits how page head hints spot ≡ []
   unfolding pageHits
   page-short h = simp (lt-ltb (length page) (head + 8) h)
 
   page-whole : head + 8 ≤ length page
-      → pageHits gapHits oneByte page head hints spot ≡ gapHits page head hints spot ++ blocksHits oneByte page hints spot (chain page head)
+      → pageHits gapHits how page head hints spot ≡ gapHits page head hints spot ++ blocksHits how page hints spot (chain page head)
   unfolding pageHits
   page-whole h = simp (le-ltb (length page) (head + 8) h)
 
   module _ (lent : Lent) (n : ℕ) (rows cols rows′ cols′ : List ℕ) (h : head + 8 ≤ length page) where
     pub page-full : Carves (lent .width) (lent .room) n (gapHits page head hints spot) false rows cols over rows′ cols′
-        → Carves (lent .width) (lent .room) n (pageHits gapHits oneByte page head hints spot) false rows cols over rows′ cols′
+        → Carves (lent .width) (lent .room) n (pageHits gapHits how page head hints spot) false rows cols over rows′ cols′
     page-full x =
         rw (page-whole h)
-        (carves-stop (lent .width) (lent .room) n (gapHits page head hints spot) (blocksHits oneByte page hints spot (chain page head)) rows cols rows′ cols′ false false x)
+        (carves-stop (lent .width) (lent .room) n (gapHits page head hints spot) (blocksHits how page hints spot (chain page head)) rows cols rows′ cols′ false false x)
 
     pub page-more : (m : ℕ) (r : Told) (rows″ cols″ : List ℕ) → Carves (lent .width) (lent .room) n (gapHits page head hints spot) false rows cols (on m) rows′ cols′
-        → Carves (lent .width) (lent .room) m (blocksHits oneByte page hints spot (chain page head)) false rows′ cols′ r rows″ cols″
-        → Carves (lent .width) (lent .room) n (pageHits gapHits oneByte page head hints spot) false rows cols r rows″ cols″
+        → Carves (lent .width) (lent .room) m (blocksHits how page hints spot (chain page head)) false rows′ cols′ r rows″ cols″
+        → Carves (lent .width) (lent .room) n (pageHits gapHits how page head hints spot) false rows cols r rows″ cols″
     page-more m r rows″ cols″ x y =
         rw (page-whole h)
-        (carves-more (lent .width) (lent .room) n (gapHits page head hints spot) (blocksHits oneByte page hints spot (chain page head)) rows cols rows′ cols′ m false r rows″ cols″ x y)
+        (carves-more (lent .width) (lent .room) n (gapHits page head hints spot) (blocksHits how page hints spot (chain page head)) rows cols rows′ cols′ m false r rows″ cols″ x y)

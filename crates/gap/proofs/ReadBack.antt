@@ -10,18 +10,19 @@ use lib.Dec.{ltb, leb}
 use lib.ListN.{length}
 use Rattle.attempt.specs.Attempt.{Tried, miss, hit, attemptAt}
 use Rattle.cells.proofs.ReadBack.{payload-reads}
-use Rattle.cells.specs.Cells.{oneByte, payloadHits}
+use Rattle.cells.specs.Cells.{payloadHits}
 use Rattle.cells.specs.Values.{payloadValues, inSlice}
 use Rattle.gap.specs.Gap.{gapFrom, gapTo, hasGap, gapOf, allZero, runHits, regionHits, gapHits, chainEnds, blockThen, chainFrom, chain, blocksHits, pageHits}
 use Rattle.gap.specs.Values.{rowsValues, regionValues, gapValues, blocksValues, pageValues}
 use Rattle.hit.proofs.ReadBack.{AllRead, read-append, found-reads}
 use Rattle.hit.specs.declared.inner.Spot.{Spot}
 use Rattle.page.specs.Page.{Block, payloadOf, blockNext, blockSize}
+use Rattle.rebuild.specs.Header.{mostBy}
+use Rattle.rebuild.specs.declared.rebuilding.Rebuilding.{Rebuilding}
 use Rattle.record.proofs.Numbers.{by-order}
 use Rattle.record.proofs.Shifts.{PartOf, part-taken, part-within}
 use Rattle.scan.proofs.Laws.{scan-none, scan-missed, scan-found, scan-full, scan-end}
 use Rattle.scan.specs.Scan.{scanFrom}
-use Rattle.sheet.specs.Limits.{mostColumns}
 
 -- ---- a region that begins at `from` in its page
 module _ (slice : List ℕ) (spot : Spot) (from : ℕ) (s hints : List ℕ) (part : PartOf (spot .start + from) s slice) where
@@ -49,11 +50,11 @@ module _ (slice : List ℕ) (spot : Spot) (from : ℕ) (s hints : List ℕ) (par
 -- ---- a page
 
 -- the rows of each of its blocks read over the slice
-abbrev pub BlocksRead : List ℕ → Spot → List ℕ → List ℕ → List Block → Type 0
-BlocksRead slice spot page hints [] = Unit
-BlocksRead slice spot page hints (b ∷ bs) =
-    AllRead slice (length hints) (payloadHits oneByte spot (b .at + 4) (payloadOf page b) hints) (inSlice (spot .start + (b .at + 4)) (payloadValues oneByte (payloadOf page b) hints))
-    × BlocksRead slice spot page hints bs
+abbrev pub BlocksRead : Rebuilding → List ℕ → Spot → List ℕ → List ℕ → List Block → Type 0
+BlocksRead how slice spot page hints [] = Unit
+BlocksRead how slice spot page hints (b ∷ bs) =
+    AllRead slice (length hints) (payloadHits how spot (b .at + 4) (payloadOf page b) hints) (inSlice (spot .start + (b .at + 4)) (payloadValues how (payloadOf page b) hints))
+    × BlocksRead how slice spot page hints bs
 
 module _ (slice : List ℕ) (spot : Spot) (page hints : List ℕ) (part : PartOf (spot .start) page slice) where
   -- THE LAW: the rows of its gap
@@ -72,50 +73,50 @@ module _ (slice : List ℕ) (spot : Spot) (page hints : List ℕ) (part : PartOf
       go true false c e f = tt
       go false b c e f = tt
 
-  module _ (some : 1 ≤ length hints) (few : length hints ≤ mostColumns) where
-    then-reads : (at : ℕ) (rest : List Block) → BlocksRead slice spot page hints rest → BlocksRead slice spot page hints (blockThen page at rest)
+  module _ (how : Rebuilding) (some : 1 ≤ length hints) (few : length hints ≤ mostBy how) where
+    then-reads : (at : ℕ) (rest : List Block) → BlocksRead how slice spot page hints rest → BlocksRead how slice spot page hints (blockThen page at rest)
     then-reads at rest r = go (ltb (blockSize page at) 4) (ltb (length page) (at + blockSize page at)) refl refl
       where
         go : (a b : Bool) → ltb (blockSize page at) 4 ≡ a → ltb (length page) (at + blockSize page at) ≡ b
-            → BlocksRead slice spot page hints (cond (a || b) rest (record { at = at; size = blockSize page at } ∷ rest))
+            → BlocksRead how slice spot page hints (cond (a || b) rest (record { at = at; size = blockSize page at } ∷ rest))
         go true b e f = r
         go false true e f = r
         go false false e f =
             let four = ltb-false (blockSize page at) 4 e in
             let inside = ltb-false (length page) (at + blockSize page at) f in
-            (payload-reads slice spot (at + 4) _ hints (part-within (part-taken page (at + 4) (blockSize page at - 4) (omega arith)) part) some few, r)
+            (payload-reads slice spot (at + 4) _ hints (part-within (part-taken page (at + 4) (blockSize page at - 4) (omega arith)) part) how some few, r)
 
-    steps-read : (k at : ℕ) → BlocksRead slice spot page hints (chainFrom k page at)
+    steps-read : (k at : ℕ) → BlocksRead how slice spot page hints (chainFrom k page at)
     unfolding chainFrom
     steps-read zero at = tt
     steps-read (suc k) at = go (chainEnds page at) (leb (blockNext page at) at) (steps-read k (blockNext page at))
       where
-        go : (a b : Bool) → BlocksRead slice spot page hints (chainFrom k page (blockNext page at)) → BlocksRead slice spot page hints (cond a [] (blockThen page at (cond b [] (chainFrom k page (blockNext page at)))))
+        go : (a b : Bool) → BlocksRead how slice spot page hints (chainFrom k page (blockNext page at)) → BlocksRead how slice spot page hints (cond a [] (blockThen page at (cond b [] (chainFrom k page (blockNext page at)))))
         go true b rest = tt
         go false true rest = then-reads at [] tt
         go false false rest = then-reads at (chainFrom k page (blockNext page at)) rest
 
     -- THE LAW: and those of the blocks of its chain
-    pub blocks-read : (head : ℕ) → BlocksRead slice spot page hints (chain page head)
+    pub blocks-read : (head : ℕ) → BlocksRead how slice spot page hints (chain page head)
     unfolding chain
     blocks-read head = steps-read _ _
 
-    all-blocks : (bs : List Block) → BlocksRead slice spot page hints bs → AllRead slice (length hints) (blocksHits oneByte page hints spot bs) (blocksValues (spot .start) page hints bs)
+    all-blocks : (bs : List Block) → BlocksRead how slice spot page hints bs → AllRead slice (length hints) (blocksHits how page hints spot bs) (blocksValues how (spot .start) page hints bs)
     all-blocks [] r = tt
     all-blocks (b ∷ bs) r =
-        read-append slice (length hints) (payloadHits oneByte spot (b .at + 4) (payloadOf page b) hints) (blocksHits oneByte page hints spot bs)
-        (inSlice (spot .start + (b .at + 4)) (payloadValues oneByte (payloadOf page b) hints)) (blocksValues (spot .start) page hints bs) (r .0) (all-blocks bs (r .1))
+        read-append slice (length hints) (payloadHits how spot (b .at + 4) (payloadOf page b) hints) (blocksHits how page hints spot bs)
+        (inSlice (spot .start + (b .at + 4)) (payloadValues how (payloadOf page b) hints)) (blocksValues how (spot .start) page hints bs) (r .0) (all-blocks bs (r .1))
 
     -- THE LAW: so all rows of the page
-    pub page-reads : (head : ℕ) → AllRead slice (length hints) (pageHits gapHits oneByte page head hints spot) (pageValues (spot .start) page head hints)
+    pub page-reads : (head : ℕ) → AllRead slice (length hints) (pageHits gapHits how page head hints spot) (pageValues how (spot .start) page head hints)
     unfolding pageHits pageValues
     page-reads head = go (ltb (length page) (head + 8))
       where
         go : (b : Bool)
-            → AllRead slice (length hints) (cond b [] (gapHits page head hints spot ++ blocksHits oneByte page hints spot (chain page head)))
-            (cond b [] (inSlice (spot .start + gapFrom page head) (gapValues page head hints) ++ blocksValues (spot .start) page hints (chain page head)))
+            → AllRead slice (length hints) (cond b [] (gapHits page head hints spot ++ blocksHits how page hints spot (chain page head)))
+            (cond b [] (inSlice (spot .start + gapFrom page head) (gapValues page head hints) ++ blocksValues how (spot .start) page hints (chain page head)))
         go true = tt
         go false =
-            read-append slice (length hints) (gapHits page head hints spot) (blocksHits oneByte page hints spot (chain page head))
-            (inSlice (spot .start + gapFrom page head) (gapValues page head hints)) (blocksValues (spot .start) page hints (chain page head)) (gap-reads head)
+            read-append slice (length hints) (gapHits page head hints spot) (blocksHits how page hints spot (chain page head))
+            (inSlice (spot .start + gapFrom page head) (gapValues page head hints)) (blocksValues how (spot .start) page hints (chain page head)) (gap-reads head)
             (all-blocks (chain page head) (blocks-read head))

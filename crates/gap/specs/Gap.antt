@@ -6,10 +6,11 @@ use mathlib.Core.List.{List, [], _∷_, _++_}
 use lib.Dec.{ltb, leb, eqb}
 use lib.ListN.{length, take, drop}
 use Rattle.attempt.specs.Attempt.{Found}
-use Rattle.cells.specs.Cells.{Rebuilder, payloadHits}
+use Rattle.cells.specs.Cells.{payloadHits}
 use Rattle.hit.specs.Hit.{rowAt, hitOf}
 use Rattle.hit.specs.declared.inner.Spot.{Spot}
 use Rattle.page.specs.Page.{Block, payloadOf, firstFreeblock, cellCount, contentStart, blockNext, blockSize}
+use Rattle.rebuild.specs.declared.rebuilding.Rebuilding.{Rebuilding}
 use Rattle.scan.specs.Scan.{Run, through, noRoom, missed, found, scanFrom}
 use Rattle.sheet.specs.Confidence.{share, percentOf}
 use Rattle.sheet.specs.declared.row.RowId.the-variants.{Absent}
@@ -82,11 +83,11 @@ unfoldable pub chain : List ℕ → ℕ → List Block
 chain page head = chainFrom mostSteps page (firstFreeblock page head)
 
 -- ---- the page
-abbrev pub blocksHits : Rebuilder → List ℕ → List ℕ → Spot → List Block → List Hit
-blocksHits rebuild page hints spot [] = []
-blocksHits rebuild page hints spot (b ∷ bs) = payloadHits rebuild spot (b .at + 4) (payloadOf page b) hints ++ blocksHits rebuild page hints spot bs
+abbrev pub blocksHits : Rebuilding → List ℕ → List ℕ → Spot → List Block → List Hit
+blocksHits how page hints spot [] = []
+blocksHits how page hints spot (b ∷ bs) = payloadHits how spot (b .at + 4) (payloadOf page b) hints ++ blocksHits how page hints spot bs
 
 -- Rule 11.8: a page that ends in its header has nothing
-unfoldable pub pageHits : Region → Rebuilder → List ℕ → ℕ → List ℕ → Spot → List Hit
-pageHits region rebuild page head hints spot =
-    cond (ltb (length page) (head + 8)) [] (region page head hints spot ++ blocksHits rebuild page hints spot (chain page head))
+unfoldable pub pageHits : Region → Rebuilding → List ℕ → ℕ → List ℕ → Spot → List Hit
+pageHits region how page head hints spot =
+    cond (ltb (length page) (head + 8)) [] (region page head hints spot ++ blocksHits how page hints spot (chain page head))

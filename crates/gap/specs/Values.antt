@@ -6,10 +6,10 @@ use mathlib.Core.List.{List, [], _∷_, _++_}
 use lib.Dec.{ltb}
 use lib.ListN.{length}
 use Rattle.attempt.specs.Values.{rowValues}
-use Rattle.cells.specs.Cells.{oneByte}
 use Rattle.cells.specs.Values.{payloadValues, inSlice}
 use Rattle.gap.specs.Gap.{gapFrom, hasGap, gapOf, allZero, chain}
 use Rattle.page.specs.Page.{Block, payloadOf}
+use Rattle.rebuild.specs.declared.rebuilding.Rebuilding.{Rebuilding}
 use Rattle.record.specs.declared.record.Value.{Value}
 use Rattle.scan.specs.Scan.{Run, through, noRoom, missed, found, scanFrom}
 
@@ -30,11 +30,11 @@ gapValues page head hints = cond (hasGap page head && not (allZero (gapOf page h
 -- ---- said of a slice in which the page begins at `start`
 
 -- block by block, as `blocksHits` has them
-abbrev pub blocksValues : ℕ → List ℕ → List ℕ → List Block → List (List Value)
-blocksValues start page hints [] = []
-blocksValues start page hints (b ∷ bs) = inSlice (start + (b .at + 4)) (payloadValues oneByte (payloadOf page b) hints) ++ blocksValues start page hints bs
+abbrev pub blocksValues : Rebuilding → ℕ → List ℕ → List ℕ → List Block → List (List Value)
+blocksValues how start page hints [] = []
+blocksValues how start page hints (b ∷ bs) = inSlice (start + (b .at + 4)) (payloadValues how (payloadOf page b) hints) ++ blocksValues how start page hints bs
 
 -- Rule 11.8: row by row, as `pageHits` has them
-unfoldable pub pageValues : ℕ → List ℕ → ℕ → List ℕ → List (List Value)
-pageValues start page head hints =
-    cond (ltb (length page) (head + 8)) [] (inSlice (start + gapFrom page head) (gapValues page head hints) ++ blocksValues start page hints (chain page head))
+unfoldable pub pageValues : Rebuilding → ℕ → List ℕ → ℕ → List ℕ → List (List Value)
+pageValues how start page head hints =
+    cond (ltb (length page) (head + 8)) [] (inSlice (start + gapFrom page head) (gapValues page head hints) ++ blocksValues how start page hints (chain page head))

@@ -5,17 +5,18 @@ use hit::inner::Spot;
 use page::inner::block_next;
 use page::inner::block_size;
 use page::inner::first_freeblock;
+use rebuild::rebuilding::Rebuilding;
 use walk::inner::Carved;
 ghost use mathlib.Core.Path.{_≡_};
 ghost use mathlib.Core.Bool.{false};
 ghost use mathlib.Core.List.{[]};
 ghost use Prim.Native.Nat.{_+_, _≤_, _<_};
 ghost use lib.ListN.{length};
-ghost use Rattle.cells.specs.Cells.{oneByte};
 ghost use Rattle.gap.specs.Gap.{blockThen, blocksHits, chain, chainEnds};
 ghost use Rattle.gap.specs.Inner.{larger};
 ghost use Rattle.hit.specs.Inner.{Ready};
 ghost use Rattle.page.specs.Page.{blockNext};
+ghost use Rattle.rebuild.specs.Header.{mostBy};
 ghost use Rattle.walk.specs.Inner.{carvedAs, Carves};
 
 // No more places than this are gone to.
@@ -44,6 +45,7 @@ fn next_place(page: &[u8], at: usize) -> usize
 
 // Carves the block at a place of a page, unless its size is bad.
 fn carve_block(
+    how: Rebuilding,
     page: &[u8],
     at: usize,
     hints: &[u8],
@@ -54,8 +56,9 @@ fn carve_block(
     cols: &mut [u64],
 ) -> Carved
     requires { ⌜ at + 4 ≤ length (now page) ⌝ }
+    requires { ⌜ length (now hints) ≤ mostBy how ⌝ }
     requires { ⌜ Ready (length (now page)) (length (now hints)) spot lent n (length (now rows)) (length (now cols)) ⌝ }
-    ensures { λ r. ⌜ Carves (lent .width) (lent .room) n (blocksHits oneByte (now (page .entry)) (now (hints .entry)) spot (blockThen (now (page .entry)) at [])) false (now (rows .entry)) (now (cols .entry)) (carvedAs r) (now (rows .exit)) (now (cols .exit)) ⌝ }
+    ensures { λ r. ⌜ Carves (lent .width) (lent .room) n (blocksHits how (now (page .entry)) (now (hints .entry)) spot (blockThen (now (page .entry)) at [])) false (now (rows .entry)) (now (cols .entry)) (carvedAs r) (now (rows .exit)) (now (cols .exit)) ⌝ }
 {
     let size = block_size(page, at);
     if size < 4 {
@@ -66,11 +69,22 @@ fn carve_block(
     if end > page.len() {
         return Carved::On(n);
     }
-    carve_payload(&page[from..end], hints, spot, from, lent, n, rows, cols)
+    carve_payload(
+        how,
+        &page[from..end],
+        hints,
+        spot,
+        from,
+        lent,
+        n,
+        rows,
+        cols,
+    )
 }
 
 // Carves the blocks of a page whose b-tree header stands at `head`.
 pub fn carve_blocks(
+    how: Rebuilding,
     page: &[u8],
     head: usize,
     hints: &[u8],
@@ -81,8 +95,9 @@ pub fn carve_blocks(
     cols: &mut [u64],
 ) -> Carved
     requires { ⌜ head + 8 ≤ length (now page) ⌝ }
+    requires { ⌜ length (now hints) ≤ mostBy how ⌝ }
     requires { ⌜ Ready (length (now page)) (length (now hints)) spot lent n (length (now rows)) (length (now cols)) ⌝ }
-    ensures { λ r. ⌜ Carves (lent .width) (lent .room) n (blocksHits oneByte (now (page .entry)) (now (hints .entry)) spot (chain (now (page .entry)) head)) false (now (rows .entry)) (now (cols .entry)) (carvedAs r) (now (rows .exit)) (now (cols .exit)) ⌝ }
+    ensures { λ r. ⌜ Carves (lent .width) (lent .room) n (blocksHits how (now (page .entry)) (now (hints .entry)) spot (chain (now (page .entry)) head)) false (now (rows .entry)) (now (cols .entry)) (carvedAs r) (now (rows .exit)) (now (cols .exit)) ⌝ }
 {
     let mut at = first_freeblock(page, head);
     let mut left = MOST_STEPS;
@@ -91,7 +106,7 @@ pub fn carve_blocks(
         if chain_ends(page, at) {
             return Carved::On(m);
         }
-        let Carved::On(next) = carve_block(page, at, hints, spot, lent, m, rows, cols) else {
+        let Carved::On(next) = carve_block(how, page, at, hints, spot, lent, m, rows, cols) else {
             return Carved::Full;
         };
         m = next;

@@ -3,16 +3,19 @@ use crate::chain::carve_blocks;
 use crate::region::carve_gap;
 use hit::inner::Lent;
 use hit::inner::Spot;
+use rebuild::rebuilding::Rebuilding;
 use walk::inner::Carved;
 ghost use mathlib.Core.Bool.{false};
+ghost use Prim.Native.Nat.{_≤_};
 ghost use lib.ListN.{length};
-ghost use Rattle.cells.specs.Cells.{oneByte};
 ghost use Rattle.gap.specs.Gap.{gapHits, pageHits};
 ghost use Rattle.hit.specs.Inner.{Ready};
+ghost use Rattle.rebuild.specs.Header.{mostBy};
 ghost use Rattle.walk.specs.Inner.{carvedAs, Carves};
 
 // Carves the gap and then the blocks of a page whose b-tree header stands at `head`.
 pub fn carve_page(
+    how: Rebuilding,
     page: &[u8],
     head: usize,
     hints: &[u8],
@@ -22,8 +25,9 @@ pub fn carve_page(
     rows: &mut [u64],
     cols: &mut [u64],
 ) -> Carved
+    requires { ⌜ length (now hints) ≤ mostBy how ⌝ }
     requires { ⌜ Ready (length (now page)) (length (now hints)) spot lent n (length (now rows)) (length (now cols)) ⌝ }
-    ensures { λ r. ⌜ Carves (lent .width) (lent .room) n (pageHits gapHits oneByte (now (page .entry)) head (now (hints .entry)) spot) false (now (rows .entry)) (now (cols .entry)) (carvedAs r) (now (rows .exit)) (now (cols .exit)) ⌝ }
+    ensures { λ r. ⌜ Carves (lent .width) (lent .room) n (pageHits gapHits how (now (page .entry)) head (now (hints .entry)) spot) false (now (rows .entry)) (now (cols .entry)) (carvedAs r) (now (rows .exit)) (now (cols .exit)) ⌝ }
 {
     // The header's place may be any number, so nothing is added to it here.
     if head > page.len() {
@@ -35,5 +39,5 @@ pub fn carve_page(
     let Carved::On(m) = carve_gap(page, head, hints, spot, lent, n, rows, cols) else {
         return Carved::Full;
     };
-    carve_blocks(page, head, hints, spot, lent, m, rows, cols)
+    carve_blocks(how, page, head, hints, spot, lent, m, rows, cols)
 }

@@ -14,8 +14,8 @@ block-size-requires c κs = search needs
 returns : tie.Need-returns
 returns c =
     let a = c .before .before .before .before .before .before .args in
-    rw (block-small (now (a .page)) (now (a .hints)) (a .spot) (a .at) _ (c .before .block-size .ensures .0) (omega (arith, c .if1 .taken)))
-    (carves-none _ _ _ _ _ (c .before .before .before .before .before .before .pre .1 .space .fits))
+    rw (block-small (now (a .page)) (a .how) (now (a .hints)) (a .spot) (a .at) _ (c .before .block-size .ensures .0) (omega (arith, c .if1 .taken)))
+    (carves-none _ _ _ _ _ (c .before .before .before .before .before .before .pre .1 .1 .space .fits))
 
 add-from : tie.Need-add-from
 add-from c = search needs
@@ -26,8 +26,8 @@ add-end c = search needs
 returns-2 : tie.Need-returns-2
 returns-2 c =
     let a = c .before .before .before .before .before .before .before .args in
-    rw (block-past (now (a .page)) (now (a .hints)) (a .spot) (a .at) _ (c .before .before .block-size .ensures .0) (omega (arith, c .before .if1 .left)) (omega (arith, c .if2 .taken)))
-    (carves-none _ _ _ _ _ (c .before .before .before .before .before .before .before .pre .1 .space .fits))
+    rw (block-past (now (a .page)) (a .how) (now (a .hints)) (a .spot) (a .at) _ (c .before .before .block-size .ensures .0) (omega (arith, c .before .if1 .left)) (omega (arith, c .if2 .taken)))
+    (carves-none _ _ _ _ _ (c .before .before .before .before .before .before .before .pre .1 .1 .space .fits))
 
 sub-carve-payload : tie.Need-sub-carve-payload
 sub-carve-payload c = search needs
@@ -51,7 +51,7 @@ returns-3 : tie.Need-returns-3
 returns-3 c =
     let a = c .before .before .before .before .before .before .before .before .before .before .before .before .before .before .before .args in
     let t = c .before .before .before .before .before .before .before .before in
-    rw (block-hits (now (a .page)) (now (a .hints)) (a .spot) (a .at) _ (t .before .before .block-size .ensures .0) (omega (arith, t .before .if1 .left)) (omega (arith, t .if2 .left)))
+    rw (block-hits (now (a .page)) (a .how) (now (a .hints)) (a .spot) (a .at) _ (t .before .before .block-size .ensures .0) (omega (arith, t .before .if1 .left)) (omega (arith, t .if2 .left)))
     (c .before .before .before .before .carve-payload .ensures)
 
 pub carve-block-spec : {M : Type 1} → statement M

@@ -16,11 +16,11 @@ use Rattle.gap.proofs.chain.carve_blocks.Tie as tie
 use Rattle.page.specs.Page.{blockNext}
 
 abbrev Inv-loop : tie.InvT-loop
-Inv-loop page head hints spot lent n rows₀ cols₀ at₀ left₀ m₀ rows cols at left m =
-    (at < 65536) × Along lent n (hitsOf page hints spot (chain page head)) rows₀ cols₀ (hitsOf page hints spot (chainFrom left page at)) rows cols m
+Inv-loop how page head hints spot lent n rows₀ cols₀ at₀ left₀ m₀ rows cols at left m =
+    (at < 65536) × Along lent n (hitsOf page how hints spot (chain page head)) rows₀ cols₀ (hitsOf page how hints spot (chainFrom left page at)) rows cols m
 
 abbrev μ-loop : tie.MeasureT-loop
-μ-loop page head hints spot lent n rows₀ cols₀ at₀ left₀ m₀ rows cols at left m = left
+μ-loop how page head hints spot lent n rows₀ cols₀ at₀ left₀ m₀ rows cols at left m = left
 
 -- a place at which the chain does not end
 on-chain : (c : tie.Else1 Inv-loop μ-loop) → chainEnds (now (c .before .before .before .before .before .before .before .before .before .args .page)) (c .before .before .before .loop .at) ≡ false
@@ -30,13 +30,13 @@ on-chain c = sym (c .before .chain-ends .ensures) ∙ c .if1 .left
 further : (c : tie.Else1 Inv-loop μ-loop) →
     let a = c .before .before .before .before .before .before .before .before .before .args in
     let l = c .before .before .before .loop in
-    let hits = hitsOf (now (a .page)) (now (a .hints)) (a .spot) in
+    let hits = hitsOf (now (a .page)) (a .how) (now (a .hints)) (a .spot) in
     Along (a .lent) (a .n) (hits (chain (now (a .page)) (a .head))) (now (a .rows)) (now (a .cols))
     (hits (blockThen (now (a .page)) (l .at) []) ++ hits (chainFrom (l .left - 1) (now (a .page)) (larger (l .at) (blockNext (now (a .page)) (l .at))))) (l .rows) (l .cols) (l .m)
 further c =
     let a = c .before .before .before .before .before .before .before .before .before .args in
     let l = c .before .before .before .loop in
-    rw (chain-step (now (a .page)) (now (a .hints)) (a .spot) (l .left) (l .at) (c .before .before .loop-test .taken) (on-chain c)) at (l .inv .1)
+    rw (chain-step (now (a .page)) (a .how) (now (a .hints)) (a .spot) (l .left) (l .at) (c .before .before .loop-test .taken) (on-chain c)) at (l .inv .1)
 
 first-freeblock-requires : tie.Need-first-freeblock-requires Inv-loop μ-loop
 first-freeblock-requires c κs = search needs
@@ -45,8 +45,8 @@ loop-holds : tie.Need-loop-holds Inv-loop μ-loop
 loop-holds c =
     let a = c .before .before .before .before .before .args in (
       c .first-freeblock .ensures .1,
-      rw (chain-start (now (a .page)) (now (a .hints)) (a .spot) (a .head) (c .first-freeblock .result) (c .first-freeblock .ensures .0))
-          (along-start _ _ _ _ _ (c .before .before .before .before .before .pre .1 .space .fits)),
+      rw (chain-start (now (a .page)) (a .how) (now (a .hints)) (a .spot) (a .head) (c .first-freeblock .result) (c .first-freeblock .ensures .0))
+          (along-start _ _ _ _ _ (c .before .before .before .before .before .pre .1 .1 .space .fits)),
     )
 
 chain-ends-requires : tie.Need-chain-ends-requires Inv-loop μ-loop
@@ -62,10 +62,10 @@ returns : tie.Need-returns Inv-loop μ-loop
 returns c =
     let a = c .before .before .before .before .before .before .before .before .before .args in
     let l = c .before .before .before .loop in
-    along-end _ _ _ _ _ _ _ _ (rw (chain-end (now (a .page)) (now (a .hints)) (a .spot) (l .left) (l .at) (sym (c .before .chain-ends .ensures) ∙ c .if1 .taken)) at (l .inv .1))
+    along-end _ _ _ _ _ _ _ _ (rw (chain-end (now (a .page)) (a .how) (now (a .hints)) (a .spot) (l .left) (l .at) (sym (c .before .chain-ends .ensures) ∙ c .if1 .taken)) at (l .inv .1))
 
 carve-block-requires : tie.Need-carve-block-requires Inv-loop μ-loop
-carve-block-requires c κs = (lies _ _ (on-chain (c .before .before)), along-ready _ _ _ _ _ _ _ _ _ _ _ _ (c .before .before .before .before .before .loop .inv .1) (c .before .before .before .before .before .before .before .before .before .before .before .pre .1))
+carve-block-requires c κs = (lies _ _ (on-chain (c .before .before)), (c .before .before .before .before .before .before .before .before .before .before .before .pre .1 .0, along-ready _ _ _ _ _ _ _ _ _ _ _ _ (c .before .before .before .before .before .loop .inv .1) (c .before .before .before .before .before .before .before .before .before .before .before .pre .1 .1)))
 
 enum-known-next : tie.Need-enum-known-next Inv-loop μ-loop
 enum-known-next c = search needs
@@ -74,10 +74,10 @@ enum-told : tie.Need-enum-told Inv-loop μ-loop
 enum-told c = search needs
 
 same-length-3 : tie.Need-same-length-3 Inv-loop μ-loop
-same-length-3 c = c .before .before .before .before .before .before .carve-block .kept .1 .1 .1 .1 .1 .1 .0 ∙ along-long _ _ _ _ _ _ _ _ _ (c .before .before .before .before .before .before .before .before .before .before .before .before .loop .inv .1) .0
+same-length-3 c = c .before .before .before .before .before .before .carve-block .kept .1 .1 .1 .1 .1 .1 .1 .0 ∙ along-long _ _ _ _ _ _ _ _ _ (c .before .before .before .before .before .before .before .before .before .before .before .before .loop .inv .1) .0
 
 same-length-4 : tie.Need-same-length-4 Inv-loop μ-loop
-same-length-4 c = c .before .before .before .before .before .before .carve-block .kept .1 .1 .1 .1 .1 .1 .1 .0 ∙ along-long _ _ _ _ _ _ _ _ _ (c .before .before .before .before .before .before .before .before .before .before .before .before .loop .inv .1) .1
+same-length-4 c = c .before .before .before .before .before .before .carve-block .kept .1 .1 .1 .1 .1 .1 .1 .1 .0 ∙ along-long _ _ _ _ _ _ _ _ _ (c .before .before .before .before .before .before .before .before .before .before .before .before .loop .inv .1) .1
 
 returns-2 : tie.Need-returns-2 Inv-loop μ-loop
 returns-2 c =
@@ -98,7 +98,7 @@ loop-again c =
     let e = c .next-place .ensures in (
       e .1,
       rw (e .0)
-          (along-on _ _ _ _ _ _ _ _ (hitsOf (now (a .page)) (now (a .hints)) (a .spot) (blockThen (now (a .page)) (c .before .before .before .before .before .before .before .before .before .before .before .before .before .before .loop .at) [])) _ (further (c .before .before .before .before .before .before .before .before .before .before .before)) _ _ _
+          (along-on _ _ _ _ _ _ _ _ (hitsOf (now (a .page)) (a .how) (now (a .hints)) (a .spot) (blockThen (now (a .page)) (c .before .before .before .before .before .before .before .before .before .before .before .before .before .before .loop .at) [])) _ (further (c .before .before .before .before .before .before .before .before .before .before .before)) _ _ _
           (rw (c .before .before .next .given .1) at (c .before .before .before .before .before .before .before .before .carve-block .ensures))),
     )
 
@@ -112,7 +112,7 @@ returns-3 : tie.Need-returns-3 Inv-loop μ-loop
 returns-3 c =
     let a = c .before .before .before .before .before .before .before .args in
     let l = c .before .loop in
-    along-end _ _ _ _ _ _ _ _ (rw (chain-out (now (a .page)) (now (a .hints)) (a .spot) (l .left) (l .at) (omega arith)) at (l .inv .1))
+    along-end _ _ _ _ _ _ _ _ (rw (chain-out (now (a .page)) (a .how) (now (a .hints)) (a .spot) (l .left) (l .at) (omega arith)) at (l .inv .1))
 
 pub carve-blocks-spec : {M : Type 1} → statement M
 carve-blocks-spec =

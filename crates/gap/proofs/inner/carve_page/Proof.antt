@@ -19,7 +19,7 @@ long c = omega (arith, c .before .if1 .left, c .if2 .left)
 returns : tie.Need-returns
 returns c =
     let a = c .before .before .before .before .before .args in
-    rw (page-short (now (a .page)) (a .head) (now (a .hints)) (a .spot) (omega (arith, c .if1 .taken))) (carves-none _ _ _ _ _ (c .before .before .before .before .before .pre .space .fits))
+    rw (page-short (a .how) (now (a .page)) (a .head) (now (a .hints)) (a .spot) (omega (arith, c .if1 .taken))) (carves-none _ _ _ _ _ (c .before .before .before .before .before .pre .1 .space .fits))
 
 sub-if2 : tie.Need-sub-if2
 sub-if2 c = search needs
@@ -27,8 +27,8 @@ sub-if2 c = search needs
 returns-2 : tie.Need-returns-2
 returns-2 c =
     let a = c .before .before .before .before .before .before .args in
-    rw (page-short (now (a .page)) (a .head) (now (a .hints)) (a .spot) (omega (arith, c .before .if1 .left, c .if2 .taken)))
-    (carves-none _ _ _ _ _ (c .before .before .before .before .before .before .pre .space .fits))
+    rw (page-short (a .how) (now (a .page)) (a .head) (now (a .hints)) (a .spot) (omega (arith, c .before .if1 .left, c .if2 .taken)))
+    (carves-none _ _ _ _ _ (c .before .before .before .before .before .before .pre .1 .space .fits))
 
 carve-gap-requires : tie.Need-carve-gap-requires
 carve-gap-requires c κs = search needs
@@ -46,13 +46,14 @@ same-length-2 : tie.Need-same-length-2
 same-length-2 c = search needs
 
 returns-3 : tie.Need-returns-3
-returns-3 c = page-full _ _ _ _ _ _ _ _ _ _ (long (c .before .before .before .before .before .before .before .before .before)) (rw (c .enum-told .given .1) at (c .before .before .before .before .before .before .carve-gap .ensures))
+returns-3 c = page-full _ _ _ _ _ _ _ _ _ _ _ (long (c .before .before .before .before .before .before .before .before .before)) (rw (c .enum-told .given .1) at (c .before .before .before .before .before .before .carve-gap .ensures))
 
 carve-blocks-requires : tie.Need-carve-blocks-requires
 carve-blocks-requires c κs =
     let a = c .before .before .before .before .before .before .before .before .before .before .before .before .before .before .before .before .before .before .args in
     let x = rw (c .before .before .before .m .given .1) at (c .before .before .before .before .before .before .before .before .before .carve-gap .ensures) in
-    (long (c .before .before .before .before .before .before .before .before .before .before .before .before), ready-next _ _ _ (gapHits (now (a .page)) (a .head) (now (a .hints)) (a .spot)) _ _ _ _ _ x _ _ (c .before .before .before .before .before .before .before .before .before .before .before .before .before .before .before .before .before .before .pre))
+    let p = c .before .before .before .before .before .before .before .before .before .before .before .before .before .before .before .before .before .before .pre in
+    (long (c .before .before .before .before .before .before .before .before .before .before .before .before), (p .0, ready-next _ _ _ (gapHits (now (a .page)) (a .head) (now (a .hints)) (a .spot)) _ _ _ _ _ x _ _ (p .1)))
 
 same-length-3 : tie.Need-same-length-3
 same-length-3 c = search needs
@@ -63,7 +64,7 @@ same-length-4 c = search needs
 returns-4 : tie.Need-returns-4
 returns-4 c =
     let x = rw (c .before .before .before .before .before .before .before .before .m .given .1) at (c .before .before .before .before .before .before .before .before .before .before .before .before .before .before .carve-gap .ensures) in
-    page-more _ _ _ _ _ _ _ _ _ _ (long (c .before .before .before .before .before .before .before .before .before .before .before .before .before .before .before .before .before)) _ _ _ _ x (c .before .before .before .before .carve-blocks .ensures)
+    page-more _ _ _ _ _ _ _ _ _ _ _ (long (c .before .before .before .before .before .before .before .before .before .before .before .before .before .before .before .before .before)) _ _ _ _ x (c .before .before .before .before .carve-blocks .ensures)
 
 pub carve-page-spec : {M : Type 1} → statement M
 carve-page-spec =

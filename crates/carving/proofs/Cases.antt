@@ -7,11 +7,15 @@ use lib.Ieee.{ofBits, ofInt, div, mul, round, toBits}
 use lib.ListN.{length, replicate}
 use Rattle.attempt.specs.Attempt.{headerFits, typesFrom, bodiesFrom, judged, attemptAt}
 use Rattle.attempt.specs.Hints.{isInteger, isReal, isText, isBlob, suits}
-use Rattle.carving.specs.Calls.{hitsBy, leafHits, sliceAnswer, sliceRows, sliceCols}
-use Rattle.carving.specs.declared.inner.Carving.the-variants.{Freeblocks}
+use Rattle.carving.specs.Calls.{hitsBy, leafHits, sliceAnswer, sliceRows, sliceCols, numberedAnswer, numberedRows, numberedCols, tabledAnswer, tabledRows, tabledCols}
+use Rattle.carving.specs.declared.inner.Carving.{Carving}
+use Rattle.carving.specs.declared.inner.Carving.the-variants.{Freeblocks, Gaps, Payload}
 use Rattle.freeblock.proofs.Cases.{page, row, pair}
 use Rattle.freeblock.specs.Freeblock.{chainEnds, blocksFrom, freeblocks, firstFrom, firstStart, blockHits, pageHits}
+use Rattle.gap.specs.Gap.{hasGap, gapHits, chainFrom, chain, chainEnds as gapChainEnds, pageHits as gapPageHits}
 use Rattle.page.specs.Page.{sizeFits, hasPage}
+use Rattle.rebuild.specs.declared.rebuilding.Rebuilding.{Rebuilding}
+use Rattle.rebuild.specs.declared.rebuilding.Rebuilding.the-variants.{OneByte, Exact}
 use Rattle.record.specs.Value.{bodyLength, bigEndian}
 use Rattle.record.specs.Varint.{varintFrom, varintAt}
 use Rattle.sheet.specs.Columns.{columnWords, unusedWords, roomOf}
@@ -32,52 +36,92 @@ record Outcome : Type 0 where
 out : ℕ → ℕ → List ℕ → List ℕ → Outcome
 out n k r c = record { number = n; written = k; rows = r; cols = c }
 
+-- so many words, as they were
+kept : ℕ → List ℕ
+kept words = replicate words 7
+
 -- ---- a slice, with the offset 100 of its first byte: hints, the header's place and the length of both lists
 data Case : Type 0 where
-  slice : List ℕ → ℕ → ℕ → Outcome → Case
+  slice : Carving → List ℕ → ℕ → ℕ → Outcome → Case
 
 computed : Case → Outcome
-computed (slice hints head words o) =
-    let answer = sliceAnswer Freeblocks page head 100 hints words words in
-    out (filledNumber answer) (filledWritten answer) (sliceRows Freeblocks page head 100 hints (replicate words 7) (replicate words 7)) (sliceCols Freeblocks page head 100 hints (replicate words 7) (replicate words 7))
+computed (slice how hints head words o) =
+    let answer = sliceAnswer how page head 100 hints words words in
+    out (filledNumber answer) (filledWritten answer) (sliceRows how page head 100 hints (kept words) (kept words)) (sliceCols how page head 100 hints (kept words) (kept words))
 
 expected : Case → Outcome
-expected (slice hints head words o) = o
+expected (slice how hints head words o) = o
 
--- with the header at 1 there is no chain
+-- with the header at 1 there is no chain, and at 100 no header
 cases : List Case
 cases =
-    slice (0 ∷ 2 ∷ []) 0 16 (out 0 2 (row 113 0 ++ row 128 0) (pair 13 ++ pair 28))
-    ∷ slice (0 ∷ 2 ∷ []) 0 15 (out 9 1 (row 113 0 ++ replicate 7 7) (pair 13 ++ replicate 7 7))
-    ∷ slice (0 ∷ 2 ∷ []) 0 7 (out 9 0 (replicate 7 7) (replicate 7 7))
-    ∷ slice (0 ∷ 2 ∷ []) 1 8 (out 0 0 (replicate 8 7) (replicate 8 7))
-    ∷ slice [] 0 8 (out 1 0 (replicate 8 7) (replicate 8 7))
-    ∷ slice (6 ∷ []) 0 8 (out 2 0 (replicate 8 7) (replicate 8 7))
+    slice Freeblocks (0 ∷ 2 ∷ []) 0 16 (out 0 2 (row 113 0 ++ row 128 0) (pair 13 ++ pair 28))
+    ∷ slice Freeblocks (0 ∷ 2 ∷ []) 0 15 (out 9 1 (row 113 0 ++ kept 7) (pair 13 ++ kept 7))
+    ∷ slice Freeblocks (0 ∷ 2 ∷ []) 0 7 (out 9 0 (kept 7) (kept 7))
+    ∷ slice Freeblocks (0 ∷ 2 ∷ []) 1 8 (out 0 0 (kept 8) (kept 8))
+    ∷ slice Freeblocks [] 0 8 (out 1 0 (kept 8) (kept 8))
+    ∷ slice Freeblocks (6 ∷ []) 0 8 (out 2 0 (kept 8) (kept 8))
+    ∷ slice Freeblocks (replicate 510 0) 1 8 (out 0 0 (kept 8) (kept 8))
+    ∷ slice (Gaps OneByte) (replicate 126 0) 100 8 (out 0 0 (kept 8) (kept 8))
+    ∷ slice (Gaps OneByte) (replicate 127 0) 100 8 (out 1 0 (kept 8) (kept 8))
+    ∷ slice (Payload OneByte) (replicate 127 0) 0 8 (out 1 0 (kept 8) (kept 8))
+    ∷ slice (Gaps Exact) (replicate 127 0) 100 8 (out 0 0 (kept 8) (kept 8))
+    ∷ slice (Gaps Exact) (replicate 510 0) 100 8 (out 0 0 (kept 8) (kept 8))
+    ∷ slice (Gaps Exact) (replicate 511 0) 100 8 (out 1 0 (kept 8) (kept 8))
     ∷ []
 
 table : map computed cases ≡ map expected cases
-unfolding cases computed expected out page row pair sliceAnswer sliceRows sliceCols hitsBy pageHits freeblocks blocksFrom chainEnds blockHits firstStart firstFrom attemptAt judged bodiesFrom typesFrom headerFits suits isInteger isReal isText isBlob varintAt varintFrom bodyLength bigEndian columnWords unusedWords roomOf share freedShare countFits hintsKnown rowWords ofBits ofInt div mul round toBits
+unfolding cases computed expected kept out page row pair sliceAnswer sliceRows sliceCols hitsBy gapPageHits pageHits freeblocks blocksFrom chainEnds blockHits firstStart firstFrom attemptAt judged bodiesFrom typesFrom headerFits suits isInteger isReal isText isBlob varintAt varintFrom bodyLength bigEndian columnWords unusedWords roomOf share freedShare countFits hintsKnown rowWords ofBits ofInt div mul round toBits
 table = refl
 
--- ---- a database whose second page this is, and two tables: page 0, and the second page; a group is three entries wide
+-- ---- a database whose second page this is
 db : List ℕ
 db = replicate 512 0 ++ page ++ replicate 475 0
+
+-- its first page, which is all zeros, by its number
+first : Carving → ℕ → Outcome
+first how columns =
+    let hints : List ℕ = replicate columns 0 in
+    let answer = numberedAnswer how db 512 1 hints 8 8 in
+    out (filledNumber answer) (filledWritten answer) (numberedRows how db 512 1 hints (kept 8) (kept 8)) (numberedCols how db 512 1 hints (kept 8) (kept 8))
+
+too-wide : first (Gaps OneByte) 127 ≡ out 1 0 (kept 8) (kept 8)
+unfolding first out kept db page numberedAnswer numberedRows numberedCols
+too-wide = refl
+
+wide-enough : first (Gaps Exact) 127 ≡ out 0 0 (kept 8) (kept 8)
+unfolding first out kept db page numberedAnswer numberedRows numberedCols leafHits hitsBy gapPageHits gapHits hasGap chain chainFrom gapChainEnds bigEndian sizeFits hasPage roomOf countFits hintsKnown
+wide-enough = refl
+
+-- tables; a group is as wide as the widest
+tables : Carving → List ℕ → List ℕ → List ℕ → ℕ → ℕ → ℕ → Outcome
+tables how roots counts hints flags depth words =
+    let answer = tabledAnswer how db 512 roots counts hints flags depth words words in
+    out (walkedNumber answer) (walkedWritten answer) (tabledRows how db 512 roots counts hints flags depth (kept words) (kept words)) (tabledCols how db 512 roots counts hints flags depth (kept words) (kept words))
 
 none : List ℕ
 none = 3 ∷ 0 ∷ 0 ∷ 0 ∷ []
 
-tables : ℕ → ℕ → ℕ → Outcome
-tables flags depth words =
-    let roots : List ℕ = 0 ∷ 2 ∷ [] in
-    let counts : List ℕ = 3 ∷ 2 ∷ [] in
-    let hints : List ℕ = 0 ∷ 0 ∷ 0 ∷ 0 ∷ 2 ∷ [] in
-    let answer = carvedAnswer (leafHits Freeblocks db 512) db 512 roots counts hints flags depth words words in
-    out (walkedNumber answer) (walkedWritten answer) (carvedRows (leafHits Freeblocks db 512) db 512 roots counts hints flags depth (replicate words 7) (replicate words 7)) (carvedCols (leafHits Freeblocks db 512) db 512 roots counts hints flags depth (replicate words 7) (replicate words 7))
+-- page 0, and the second page
+two : ℕ → ℕ → ℕ → Outcome
+two flags depth words = tables Freeblocks (0 ∷ 2 ∷ []) (3 ∷ 2 ∷ []) (0 ∷ 0 ∷ 0 ∷ 0 ∷ 2 ∷ []) flags depth words
 
-both : tables 2 1 24 ≡ out 0 2 (row 525 4 ++ row 540 4 ++ replicate 8 7) (pair 525 ++ none ++ pair 540 ++ none)
-unfolding tables out db none page row pair carvedAnswer carvedRows carvedCols tablesHits tablesOverflow walk walkFrom popped marked fresh pageDone pushAll kids cellsFrom childIn sizeFits hasPage leafHits hitsBy pageHits freeblocks blocksFrom chainEnds blockHits firstStart firstFrom attemptAt judged bodiesFrom typesFrom headerFits suits isInteger isReal isText isBlob varintAt varintFrom bodyLength bigEndian columnWords unusedWords roomOf share freedShare countFits hintsKnown rowWords ofBits ofInt div mul round toBits
+both : two 2 1 24 ≡ out 0 2 (row 525 4 ++ row 540 4 ++ kept 8) (pair 525 ++ none ++ pair 540 ++ none)
+unfolding two tables out kept db none page row pair tabledAnswer tabledRows tabledCols carvedAnswer carvedRows carvedCols tablesHits tablesOverflow walk walkFrom popped marked fresh pageDone pushAll kids cellsFrom childIn sizeFits hasPage leafHits hitsBy pageHits freeblocks blocksFrom chainEnds blockHits firstStart firstFrom attemptAt judged bodiesFrom typesFrom headerFits suits isInteger isReal isText isBlob varintAt varintFrom bodyLength bigEndian columnWords unusedWords roomOf share freedShare countFits hintsKnown rowWords ofBits ofInt div mul round toBits
 both = refl
 
-few-flags : tables 1 1 24 ≡ out 8 0 (replicate 24 7) (replicate 24 7)
-unfolding tables out db page carvedAnswer carvedRows carvedCols sizeFits countFits hintsKnown
+few-flags : two 1 1 24 ≡ out 8 0 (kept 24) (kept 24)
+unfolding two tables out kept db page tabledAnswer tabledRows tabledCols carvedAnswer carvedRows carvedCols sizeFits countFits hintsKnown
 few-flags = refl
+
+-- page 0, and the first page: one table of the two is wide
+mixed : Rebuilding → Outcome
+mixed how = tables (Gaps how) (0 ∷ 1 ∷ []) (3 ∷ 127 ∷ []) (replicate 130 0) 2 1 8
+
+one-too-wide : mixed OneByte ≡ out 1 0 (kept 8) (kept 8)
+unfolding mixed tables out kept db page tabledAnswer tabledRows tabledCols carvedAnswer carvedRows carvedCols
+one-too-wide = refl
+
+none-too-wide : mixed Exact ≡ out 0 0 (kept 8) (kept 8)
+unfolding mixed tables out kept db page tabledAnswer tabledRows tabledCols carvedAnswer carvedRows carvedCols tablesHits tablesOverflow walk walkFrom popped marked fresh pageDone pushAll kids cellsFrom childIn sizeFits hasPage bigEndian roomOf countFits hintsKnown
+none-too-wide = refl

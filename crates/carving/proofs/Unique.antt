@@ -69,15 +69,15 @@ pub recover-freeblocks-fixed : FixesSeen recover-freeblocks.Post
     (λ k r s. onTables r (now (s .1 .1 .1 .1 .1 .0)) (now (s .1 .1 .1 .1 .1 .1 .0)) (now (s .1 .1 .1 .1 .1 .1 .1 .0)) (now (s .1 .1 .1 .1 .1 .1 .1 .1 .0)))
 recover-freeblocks-fixed k a x y s t p q = carve-tables-fixed k (Freeblocks, a) x y (Freeblocks, s) (Freeblocks, t) p q
 
-pub scan-single-page-gap-fixed : FixesSeen scan-single-page-gap.Post (λ k r s. onPage r (now (s .1 .1 .1 .1 .0)) (now (s .1 .1 .1 .1 .1 .0)))
-scan-single-page-gap-fixed k a x y s t p q = carve-slice-fixed k (Gaps, a) x y (Gaps, s) (Gaps, t) p q
+pub scan-single-page-gap-fixed : FixesSeen scan-single-page-gap.Post (λ k r s. onPage r (now (s .1 .1 .1 .1 .1 .0)) (now (s .1 .1 .1 .1 .1 .1 .0)))
+scan-single-page-gap-fixed k a x y s t p q = carve-slice-fixed k (Gaps (a .0), a .1) x y (Gaps (s .0), s .1) (Gaps (t .0), t .1) p q
 
-pub scan-page-gap-fixed : FixesSeen scan-page-gap.Post (λ k r s. onPage r (now (s .1 .1 .1 .1 .0)) (now (s .1 .1 .1 .1 .1 .0)))
-scan-page-gap-fixed k a x y s t p q = carve-numbered-fixed k (Gaps, a) x y (Gaps, s) (Gaps, t) p q
+pub scan-page-gap-fixed : FixesSeen scan-page-gap.Post (λ k r s. onPage r (now (s .1 .1 .1 .1 .1 .0)) (now (s .1 .1 .1 .1 .1 .1 .0)))
+scan-page-gap-fixed k a x y s t p q = carve-numbered-fixed k (Gaps (a .0), a .1) x y (Gaps (s .0), s .1) (Gaps (t .0), t .1) p q
 
 pub scan-page-gaps-fixed : FixesSeen scan-page-gaps.Post
-    (λ k r s. onTables r (now (s .1 .1 .1 .1 .1 .0)) (now (s .1 .1 .1 .1 .1 .1 .0)) (now (s .1 .1 .1 .1 .1 .1 .1 .0)) (now (s .1 .1 .1 .1 .1 .1 .1 .1 .0)))
-scan-page-gaps-fixed k a x y s t p q = carve-tables-fixed k (Gaps, a) x y (Gaps, s) (Gaps, t) p q
+    (λ k r s. onTables r (now (s .1 .1 .1 .1 .1 .1 .0)) (now (s .1 .1 .1 .1 .1 .1 .1 .0)) (now (s .1 .1 .1 .1 .1 .1 .1 .1 .0)) (now (s .1 .1 .1 .1 .1 .1 .1 .1 .1 .0)))
+scan-page-gaps-fixed k a x y s t p q = carve-tables-fixed k (Gaps (a .0), a .1) x y (Gaps (s .0), s .1) (Gaps (t .0), t .1) p q
 
-pub parse-cells-from-freeblock-fixed : FixesSeen parse-cells-from-freeblock.Post (λ k r s. onPage r (now (s .1 .1 .1 .0)) (now (s .1 .1 .1 .1 .0)))
-parse-cells-from-freeblock-fixed k a x y s t p q = carve-slice-fixed k (Payload, (a .0, (0, a .1))) x y (Payload, (s .0, (0, s .1))) (Payload, (t .0, (0, t .1))) p q
+pub parse-cells-from-freeblock-fixed : FixesSeen parse-cells-from-freeblock.Post (λ k r s. onPage r (now (s .1 .1 .1 .1 .0)) (now (s .1 .1 .1 .1 .1 .0)))
+parse-cells-from-freeblock-fixed k a x y s t p q = carve-slice-fixed k (Payload (a .0), (a .1 .0, (0, a .1 .1))) x y (Payload (s .0), (s .1 .0, (0, s .1 .1))) (Payload (t .0), (t .1 .0, (0, t .1 .1))) p q

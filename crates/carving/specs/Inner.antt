@@ -1,23 +1,27 @@
 -- What the code carries between its own functions; nothing that a caller has to believe.
 -- Assumes nothing.
 use Prim.Native.Nat.{ℕ, _+_, _≤_}
+use Rattle.carving.specs.Calls.{widthBy}
+use Rattle.carving.specs.declared.inner.Carving.{Carving}
 use Rattle.hit.specs.Inner.{Space}
 use Rattle.hit.specs.declared.inner.Lent.{Lent}
 use Rattle.hit.specs.declared.inner.Spot.{Spot}
 use Rattle.sheet.specs.Limits.{mostColumns, largestRegion, largestBase}
 
--- a page of so many bytes that is carved by itself
-pub record Filling (len columns : ℕ) (spot : Spot) : Type 0 where
+-- a page of so many bytes that is carved by itself, in some way
+pub record Filling (how : Carving) (len columns : ℕ) (spot : Spot) : Type 0 where
   pub inside : spot .start + len ≤ largestRegion
   pub near : spot .base ≤ largestBase
   pub some : 1 ≤ columns
   pub few : columns ≤ mostColumns
+  pub narrow : columns ≤ widthBy how
 
--- a database of so many bytes, and a table of it with so many columns
-pub record TableReady (len size columns : ℕ) (lent : Lent) (n rows cols : ℕ) : Type 0 where
+-- a database of so many bytes, and a table of it with so many columns, which is carved in some way
+pub record TableReady (how : Carving) (len size columns : ℕ) (lent : Lent) (n rows cols : ℕ) : Type 0 where
   pub low : 512 ≤ size
   pub high : size ≤ 65536
   pub small : len ≤ largestRegion
   pub some : 1 ≤ columns
   pub few : columns ≤ mostColumns
+  pub narrow : columns ≤ widthBy how
   pub space : Space columns lent n rows cols

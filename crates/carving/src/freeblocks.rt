@@ -7,12 +7,10 @@ use sheet::filled::Filled;
 use walk::walk::Walked;
 ghost use mathlib.Core.Path.{_≡_};
 ghost use lib.ListN.{length};
-ghost use Rattle.carving.specs.Calls.{leafHits, sliceAnswer, sliceRows, sliceCols, sliceNumber, sliceWritten, numberedAnswer, numberedRows, numberedCols, numberedNumber, numberedWritten};
+ghost use Rattle.carving.specs.Calls.{sliceAnswer, sliceRows, sliceCols, sliceNumber, sliceWritten, numberedAnswer, numberedRows, numberedCols, numberedNumber, numberedWritten, tabledAnswer, tabledRows, tabledCols, tabledCleared, tabledNumber, tabledWritten};
 ghost use Rattle.carving.specs.declared.inner.Carving.the-variants.{Freeblocks};
 ghost use Rattle.sheet.specs.Filled.{filledNumber, filledWritten};
-ghost use Rattle.sheet.specs.Refusal.{firstHeld};
-ghost use Rattle.walk.specs.Carve.{tableChecks, carvedAnswer, carvedRows, carvedCols, carvedNumber, carvedWritten};
-ghost use Rattle.walk.specs.Collect.{walkedNumber, walkedWritten, clearedUnless};
+ghost use Rattle.walk.specs.Collect.{walkedNumber, walkedWritten};
 
 pub fn recover_slice_freeblocks(
     page: &[u8],
@@ -59,13 +57,13 @@ pub fn recover_freeblocks(
     rows: &mut [u64],
     cols: &mut [u64],
 ) -> Walked
-    ensures answer { λ r. ⌜ r ≡ carvedAnswer (leafHits Freeblocks (now (db .entry)) size) (now (db .entry)) size (now (roots .entry)) (now (counts .entry)) (now (hints .entry)) (length (now (flags .entry))) (length (now (stack .entry))) (length (now (rows .entry))) (length (now (cols .entry))) ⌝ }
-    ensures rows { λ _. ⌜ now (rows .exit) ≡ carvedRows (leafHits Freeblocks (now (db .entry)) size) (now (db .entry)) size (now (roots .entry)) (now (counts .entry)) (now (hints .entry)) (length (now (flags .entry))) (length (now (stack .entry))) (now (rows .entry)) (now (cols .entry)) ⌝ }
-    ensures cols { λ _. ⌜ now (cols .exit) ≡ carvedCols (leafHits Freeblocks (now (db .entry)) size) (now (db .entry)) size (now (roots .entry)) (now (counts .entry)) (now (hints .entry)) (length (now (flags .entry))) (length (now (stack .entry))) (now (rows .entry)) (now (cols .entry)) ⌝ }
-    ensures flags { λ _. ⌜ now (flags .exit) ≡ clearedUnless (firstHeld (tableChecks (length (now (db .entry))) size (now (roots .entry)) (now (counts .entry)) (now (hints .entry)))) (now (flags .entry)) ⌝ }
-    ensures stack { λ _. ⌜ now (stack .exit) ≡ clearedUnless (firstHeld (tableChecks (length (now (db .entry))) size (now (roots .entry)) (now (counts .entry)) (now (hints .entry)))) (now (stack .entry)) ⌝ }
-    ensures number { λ r. ⌜ walkedNumber r ≡ carvedNumber (leafHits Freeblocks (now (db .entry)) size) (now (db .entry)) size (now (roots .entry)) (now (counts .entry)) (now (hints .entry)) (length (now (flags .entry))) (length (now (stack .entry))) (length (now (rows .entry))) (length (now (cols .entry))) ⌝ }
-    ensures written { λ r. ⌜ walkedWritten r ≡ carvedWritten (leafHits Freeblocks (now (db .entry)) size) (now (db .entry)) size (now (roots .entry)) (now (counts .entry)) (now (hints .entry)) (length (now (flags .entry))) (length (now (stack .entry))) (length (now (rows .entry))) (length (now (cols .entry))) ⌝ }
+    ensures answer { λ r. ⌜ r ≡ tabledAnswer Freeblocks (now (db .entry)) size (now (roots .entry)) (now (counts .entry)) (now (hints .entry)) (length (now (flags .entry))) (length (now (stack .entry))) (length (now (rows .entry))) (length (now (cols .entry))) ⌝ }
+    ensures rows { λ _. ⌜ now (rows .exit) ≡ tabledRows Freeblocks (now (db .entry)) size (now (roots .entry)) (now (counts .entry)) (now (hints .entry)) (length (now (flags .entry))) (length (now (stack .entry))) (now (rows .entry)) (now (cols .entry)) ⌝ }
+    ensures cols { λ _. ⌜ now (cols .exit) ≡ tabledCols Freeblocks (now (db .entry)) size (now (roots .entry)) (now (counts .entry)) (now (hints .entry)) (length (now (flags .entry))) (length (now (stack .entry))) (now (rows .entry)) (now (cols .entry)) ⌝ }
+    ensures flags { λ _. ⌜ now (flags .exit) ≡ tabledCleared Freeblocks (length (now (db .entry))) size (now (roots .entry)) (now (counts .entry)) (now (hints .entry)) (now (flags .entry)) ⌝ }
+    ensures stack { λ _. ⌜ now (stack .exit) ≡ tabledCleared Freeblocks (length (now (db .entry))) size (now (roots .entry)) (now (counts .entry)) (now (hints .entry)) (now (stack .entry)) ⌝ }
+    ensures number { λ r. ⌜ walkedNumber r ≡ tabledNumber Freeblocks (now (db .entry)) size (now (roots .entry)) (now (counts .entry)) (now (hints .entry)) (length (now (flags .entry))) (length (now (stack .entry))) (length (now (rows .entry))) (length (now (cols .entry))) ⌝ }
+    ensures written { λ r. ⌜ walkedWritten r ≡ tabledWritten Freeblocks (now (db .entry)) size (now (roots .entry)) (now (counts .entry)) (now (hints .entry)) (length (now (flags .entry))) (length (now (stack .entry))) (length (now (rows .entry))) (length (now (cols .entry))) ⌝ }
 {
     carve_tables(
         Carving::Freeblocks,

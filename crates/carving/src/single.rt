@@ -30,7 +30,7 @@ fn fill(
     rows: &mut [u64],
     cols: &mut [u64],
 ) -> Filled
-    requires { ⌜ Filling (length (now page)) (length (now hints)) spot ⌝ }
+    requires { ⌜ Filling how (length (now page)) (length (now hints)) spot ⌝ }
     ensures { λ r. ⌜ FilledIs (hitsBy how (now (page .entry)) head (now (hints .entry)) spot) (length (now (hints .entry))) (now (rows .entry)) (now (cols .entry)) r (now (rows .exit)) (now (cols .exit)) ⌝ }
 {
     let width = hints.len();
@@ -58,6 +58,9 @@ pub fn carve_slice(
     ensures number { λ r. ⌜ filledNumber r ≡ sliceNumber how (now (page .entry)) head base (now (hints .entry)) (length (now (rows .entry))) (length (now (cols .entry))) ⌝ }
     ensures written { λ r. ⌜ filledWritten r ≡ sliceWritten how (now (page .entry)) head base (now (hints .entry)) (length (now (rows .entry))) (length (now (cols .entry))) ⌝ }
 {
+    if how.refuses(hints.len()) {
+        return Filled::Refused(Refusal::ColumnCount);
+    }
     match check_slice(page.len(), hints, base) {
         Checked::Refused(refusal) => Filled::Refused(refusal),
         Checked::Passed => {
@@ -86,6 +89,9 @@ pub fn carve_numbered(
     ensures number { λ r. ⌜ filledNumber r ≡ numberedNumber how (now (db .entry)) size page (now (hints .entry)) (length (now (rows .entry))) (length (now (cols .entry))) ⌝ }
     ensures written { λ r. ⌜ filledWritten r ≡ numberedWritten how (now (db .entry)) size page (now (hints .entry)) (length (now (rows .entry))) (length (now (cols .entry))) ⌝ }
 {
+    if how.refuses(hints.len()) {
+        return Filled::Refused(Refusal::ColumnCount);
+    }
     if !hint_count_fits(hints.len()) {
         return Filled::Refused(Refusal::ColumnCount);
     }

@@ -6,6 +6,7 @@ use hit::inner::Spot;
 use page::inner::head_of;
 use sheet::columns::room;
 use sheet::refusal::Checked;
+use sheet::refusal::Refusal;
 use walk::inner::Carved;
 use walk::inner::CarvedTable;
 use walk::inner::Next;
@@ -21,11 +22,10 @@ ghost use mathlib.Core.Path.{_≡_};
 ghost use mathlib.Core.Bool.{false};
 ghost use Prim.Native.Nat.{_/_, _≤_};
 ghost use lib.ListN.{length};
-ghost use Rattle.carving.specs.Calls.{leafHits};
+ghost use Rattle.carving.specs.Calls.{widthBy, leafHits, tabledAnswer, tabledRows, tabledCols, tabledCleared, tabledNumber, tabledWritten};
 ghost use Rattle.carving.specs.Inner.{TableReady};
-ghost use Rattle.sheet.specs.Refusal.{firstHeld};
-ghost use Rattle.walk.specs.Carve.{tableChecks, carvedAnswer, carvedRows, carvedCols, carvedNumber, carvedWritten};
-ghost use Rattle.walk.specs.Collect.{walkedNumber, walkedWritten, clearedUnless};
+ghost use Rattle.walk.specs.Carve.{widest as widestOf};
+ghost use Rattle.walk.specs.Collect.{walkedNumber, walkedWritten};
 ghost use Rattle.walk.specs.Inner.{carvedAs, tableAs, Carves, Tabled, TablesFit};
 ghost use Rattle.walk.specs.Walk.{walk as walkOf, hitsOf, overflows};
 
@@ -43,7 +43,7 @@ fn carve_leaf(
     cols: &mut [u64],
 ) -> Carved
     requires { ⌜ (1 ≤ p) × (p ≤ length (now db) / size) ⌝ }
-    requires { ⌜ TableReady (length (now db)) size (length (now hints)) lent n (length (now rows)) (length (now cols)) ⌝ }
+    requires { ⌜ TableReady how (length (now db)) size (length (now hints)) lent n (length (now rows)) (length (now cols)) ⌝ }
     ensures { λ r. ⌜ Carves (lent .width) (lent .room) n (leafHits how (now (db .entry)) size table (now (hints .entry)) p) false (now (rows .entry)) (now (cols .entry)) (carvedAs r) (now (rows .exit)) (now (cols .exit)) ⌝ }
 {
     let start = (p as usize - 1) * size;
@@ -73,7 +73,7 @@ fn carve_table(
     cols: &mut [u64],
 ) -> CarvedTable
     requires { ⌜ length (now db) / size ≤ length (now flags) ⌝ }
-    requires { ⌜ TableReady (length (now db)) size (length (now hints)) lent n (length (now rows)) (length (now cols)) ⌝ }
+    requires { ⌜ TableReady how (length (now db)) size (length (now hints)) lent n (length (now rows)) (length (now cols)) ⌝ }
     ensures { λ r. ⌜ Carves (lent .width) (lent .room) n (hitsOf (leafHits how (now (db .entry)) size table (now (hints .entry))) (walkOf (now (db .entry)) size (length (now (stack .entry))) root)) (overflows (walkOf (now (db .entry)) size (length (now (stack .entry))) root)) (now (rows .entry)) (now (cols .entry)) (tableAs r) (now (rows .exit)) (now (cols .exit)) ⌝ }
 {
     let Pushed::On(height) = begin(root, flags, stack) else {
@@ -124,6 +124,7 @@ fn carve_checked(
     rows: &mut [u64],
     cols: &mut [u64],
 ) -> Walked
+    requires { ⌜ widestOf (now counts) ≤ widthBy how ⌝ }
     requires { ⌜ TablesFit (length (now db)) size (now roots) (now counts) (now hints) ⌝ }
     ensures { λ r. ⌜ Tabled (leafHits how (now (db .entry)) size) (now (db .entry)) size (now (roots .entry)) (now (counts .entry)) (now (hints .entry)) (length (now (flags .entry))) (length (now (stack .entry))) (now (rows .entry)) (now (cols .entry)) r (now (rows .exit)) (now (cols .exit)) ⌝ }
 {
@@ -181,14 +182,17 @@ pub fn carve_tables(
     rows: &mut [u64],
     cols: &mut [u64],
 ) -> Walked
-    ensures answer { λ r. ⌜ r ≡ carvedAnswer (leafHits how (now (db .entry)) size) (now (db .entry)) size (now (roots .entry)) (now (counts .entry)) (now (hints .entry)) (length (now (flags .entry))) (length (now (stack .entry))) (length (now (rows .entry))) (length (now (cols .entry))) ⌝ }
-    ensures rows { λ _. ⌜ now (rows .exit) ≡ carvedRows (leafHits how (now (db .entry)) size) (now (db .entry)) size (now (roots .entry)) (now (counts .entry)) (now (hints .entry)) (length (now (flags .entry))) (length (now (stack .entry))) (now (rows .entry)) (now (cols .entry)) ⌝ }
-    ensures cols { λ _. ⌜ now (cols .exit) ≡ carvedCols (leafHits how (now (db .entry)) size) (now (db .entry)) size (now (roots .entry)) (now (counts .entry)) (now (hints .entry)) (length (now (flags .entry))) (length (now (stack .entry))) (now (rows .entry)) (now (cols .entry)) ⌝ }
-    ensures flags { λ _. ⌜ now (flags .exit) ≡ clearedUnless (firstHeld (tableChecks (length (now (db .entry))) size (now (roots .entry)) (now (counts .entry)) (now (hints .entry)))) (now (flags .entry)) ⌝ }
-    ensures stack { λ _. ⌜ now (stack .exit) ≡ clearedUnless (firstHeld (tableChecks (length (now (db .entry))) size (now (roots .entry)) (now (counts .entry)) (now (hints .entry)))) (now (stack .entry)) ⌝ }
-    ensures number { λ r. ⌜ walkedNumber r ≡ carvedNumber (leafHits how (now (db .entry)) size) (now (db .entry)) size (now (roots .entry)) (now (counts .entry)) (now (hints .entry)) (length (now (flags .entry))) (length (now (stack .entry))) (length (now (rows .entry))) (length (now (cols .entry))) ⌝ }
-    ensures written { λ r. ⌜ walkedWritten r ≡ carvedWritten (leafHits how (now (db .entry)) size) (now (db .entry)) size (now (roots .entry)) (now (counts .entry)) (now (hints .entry)) (length (now (flags .entry))) (length (now (stack .entry))) (length (now (rows .entry))) (length (now (cols .entry))) ⌝ }
+    ensures answer { λ r. ⌜ r ≡ tabledAnswer how (now (db .entry)) size (now (roots .entry)) (now (counts .entry)) (now (hints .entry)) (length (now (flags .entry))) (length (now (stack .entry))) (length (now (rows .entry))) (length (now (cols .entry))) ⌝ }
+    ensures rows { λ _. ⌜ now (rows .exit) ≡ tabledRows how (now (db .entry)) size (now (roots .entry)) (now (counts .entry)) (now (hints .entry)) (length (now (flags .entry))) (length (now (stack .entry))) (now (rows .entry)) (now (cols .entry)) ⌝ }
+    ensures cols { λ _. ⌜ now (cols .exit) ≡ tabledCols how (now (db .entry)) size (now (roots .entry)) (now (counts .entry)) (now (hints .entry)) (length (now (flags .entry))) (length (now (stack .entry))) (now (rows .entry)) (now (cols .entry)) ⌝ }
+    ensures flags { λ _. ⌜ now (flags .exit) ≡ tabledCleared how (length (now (db .entry))) size (now (roots .entry)) (now (counts .entry)) (now (hints .entry)) (now (flags .entry)) ⌝ }
+    ensures stack { λ _. ⌜ now (stack .exit) ≡ tabledCleared how (length (now (db .entry))) size (now (roots .entry)) (now (counts .entry)) (now (hints .entry)) (now (stack .entry)) ⌝ }
+    ensures number { λ r. ⌜ walkedNumber r ≡ tabledNumber how (now (db .entry)) size (now (roots .entry)) (now (counts .entry)) (now (hints .entry)) (length (now (flags .entry))) (length (now (stack .entry))) (length (now (rows .entry))) (length (now (cols .entry))) ⌝ }
+    ensures written { λ r. ⌜ walkedWritten r ≡ tabledWritten how (now (db .entry)) size (now (roots .entry)) (now (counts .entry)) (now (hints .entry)) (length (now (flags .entry))) (length (now (stack .entry))) (length (now (rows .entry))) (length (now (cols .entry))) ⌝ }
 {
+    if how.refuses(widest(counts)) {
+        return Walked::Refused(Refusal::ColumnCount);
+    }
     match check(db.len(), size, roots, counts, hints) {
         Checked::Refused(refusal) => Walked::Refused(refusal),
         Checked::Passed => {

@@ -1,6 +1,9 @@
 -- `carving::inner::carve_page` meets its contract: each way of carving is the function of its own crate.
 -- Assumes nothing.
+use native.Mathlib.Nat.{zero-add}
 use borrow.Author.Needs.{needs}
+use denote.Ref.{now}
+use lib.ListN.{length}
 use Rattle.carving.specs.Calls.{hitsBy}
 use Rattle.carving.proofs.inner.carve_page.Statement.{statement}
 use Rattle.carving.proofs.inner.carve_page.Tie as tie
@@ -11,17 +14,17 @@ enum-told c = search needs
 carve-page-requires : tie.Need-carve-page-requires
 carve-page-requires c κs = search needs
 
-enum-told-2 : tie.Need-enum-told-2
-enum-told-2 c = search needs
+enum-known-how : tie.Need-enum-known-how
+enum-known-how c = search needs
 
 carve-page-requires-2 : tie.Need-carve-page-requires-2
-carve-page-requires-2 c κs = search needs
+carve-page-requires-2 c κs = let p = c .before .before .before .before .before .before .before .before .before .pre in (rw (c .before .before .before .how .given .1) at (p .0), p .1)
 
-enum-told-3 : tie.Need-enum-told-3
-enum-told-3 c = search needs
+enum-known-how-2 : tie.Need-enum-known-how-2
+enum-known-how-2 c = search needs
 
 carve-payload-requires : tie.Need-carve-payload-requires
-carve-payload-requires c κs = search needs
+carve-payload-requires c κs = let s = c .before .before .before .before .before .before .before .before .before in (rw (c .before .before .before .how2 .given .1) at (s .pre .0), rw (zero-add (length (now (s .args .page)))) (s .pre .1))
 
 same-length : tie.Need-same-length
 same-length c = search needs
@@ -41,7 +44,7 @@ same-length-4 c = search needs
 
 returns-2 : tie.Need-returns-2
 unfolding hitsBy
-returns-2 c = rw (c .before .before .before .before .before .before .before .enum-told2 .given .1) (c .before .before .before .before .carve-page2 .ensures)
+returns-2 c = rw (c .before .before .before .before .before .before .before .before .how .given .1) (c .before .before .before .before .carve-page2 .ensures)
 
 same-length-5 : tie.Need-same-length-5
 same-length-5 c = search needs
@@ -51,7 +54,7 @@ same-length-6 c = search needs
 
 returns-3 : tie.Need-returns-3
 unfolding hitsBy
-returns-3 c = rw (c .before .before .before .before .before .before .before .enum-told3 .given .1) (c .before .before .before .before .carve-payload .ensures)
+returns-3 c = rw (c .before .before .before .before .before .before .before .before .how2 .given .1) (c .before .before .before .before .carve-payload .ensures)
 
 pub carve-page-spec : {M : Type 1} → statement M
 carve-page-spec =
@@ -59,9 +62,9 @@ carve-page-spec =
     (tie.spec
     enum-told
     carve-page-requires
-    enum-told-2
+    enum-known-how
     carve-page-requires-2
-    enum-told-3
+    enum-known-how-2
     carve-payload-requires
     same-length
     same-length-2

@@ -1,15 +1,15 @@
 -- `carving::single::carve_numbered` meets its contract: a check refuses, or the page is carved where it lies.
 -- Assumes nothing.
 use mathlib.Core.Path.{_≡_, sym, _∙_}
-use mathlib.Core.Bool.{true}
+use mathlib.Core.Bool.{true, false}
 use native.Mathlib.Omega.{arith}
 use borrow.Author.Needs.{needs}
-use borrow.Author.Tests.{not-true, not-false}
+use borrow.Author.Tests.{not-true, not-false, ltb-false}
 use denote.Ref.{now}
+use lib.Dec.{ltb}
 use lib.ListN.{length}
-use Rattle.carving.specs.Calls.{numberedChecks, numberedAnswer, numberedRows, numberedCols, numberedNumber, numberedWritten}
-use Rattle.carving.specs.Calls.{leafHits}
-use Rattle.carving.proofs.Callers.{bad-count, bad-hints, page-decides, page-filling, hits-are, part-long}
+use Rattle.carving.specs.Calls.{widthBy, leafHits, numberedChecks, numberedChecksBy, numberedAnswer, numberedRows, numberedCols, numberedNumber, numberedWritten}
+use Rattle.carving.proofs.Callers.{wide-refuses, narrow-on, bad-count, bad-hints, page-decides, page-filling, hits-are, part-long}
 use Rattle.carving.proofs.single.carve_numbered.Statement.{statement}
 use Rattle.carving.proofs.single.carve_numbered.Tie as tie
 use Rattle.page.proofs.Laws.{paged-refused, paged-at, PagedAt}
@@ -18,29 +18,49 @@ use Rattle.sheet.specs.Limits.{countFits}
 use Rattle.sheet.specs.Refusal.{firstHeld}
 use Rattle.walk.proofs.Promises.{page-refused, page-passed}
 
-hint-count-fits-requires : tie.Need-hint-count-fits-requires
-hint-count-fits-requires c κs = search needs
+refuses-requires : tie.Need-refuses-requires
+refuses-requires c κs = search needs
 
 returns : tie.Need-returns
 unfolding numberedAnswer numberedRows numberedCols numberedNumber numberedWritten
 returns c =
     let a = c .before .before .before .before .before .before .args in
-    page-refused _ (leafHits (a .how) (now (a .db)) (a .size) 0 (now (a .hints)) (a .page)) (length (now (a .hints))) _ _ _
-    (bad-count (length (now (a .db))) (a .size) (a .page) (now (a .hints)) (sym (c .before .hint-count-fits .ensures) ∙ not-true _ (c .if1 .taken)))
+    let hints = now (a .hints) in
+    page-refused _ (leafHits (a .how) (now (a .db)) (a .size) 0 hints (a .page)) (length hints) _ _ _
+    (wide-refuses (a .how) (length hints) (numberedChecks (length (now (a .db))) (a .size) (a .page) hints) (sym (c .before .refuses .ensures) ∙ c .if1 .taken))
 
-hints-known-requires : tie.Need-hints-known-requires
-hints-known-requires c κs = search needs
+-- the table is not too wide, so the other checks decide
+narrow : (c : tie.Else1) → let a = c .before .before .before .before .before .before .args in ltb (widthBy (a .how)) (length (now (a .hints))) ≡ false
+narrow c = sym (c .before .refuses .ensures) ∙ c .if1 .left
 
--- the hints are few enough
-fit : (c : tie.Else1) → countFits (length (now (c .before .before .before .before .before .before .args .hints))) ≡ true
-fit c = sym (c .before .hint-count-fits .ensures) ∙ not-false _ (c .if1 .left)
+others : (c : tie.Else1) →
+    let a = c .before .before .before .before .before .before .args in
+    firstHeld (numberedChecksBy (a .how) (length (now (a .db))) (a .size) (a .page) (now (a .hints))) ≡ firstHeld (numberedChecks (length (now (a .db))) (a .size) (a .page) (now (a .hints)))
+others c = let a = c .before .before .before .before .before .before .args in narrow-on (a .how) (length (now (a .hints))) (numberedChecks (length (now (a .db))) (a .size) (a .page) (now (a .hints))) (narrow c)
+
+hint-count-fits-requires : tie.Need-hint-count-fits-requires
+hint-count-fits-requires c κs = search needs
 
 returns-2 : tie.Need-returns-2
 unfolding numberedAnswer numberedRows numberedCols numberedNumber numberedWritten
 returns-2 c =
     let a = c .before .before .before .before .before .before .before .before .args in
     page-refused _ (leafHits (a .how) (now (a .db)) (a .size) 0 (now (a .hints)) (a .page)) (length (now (a .hints))) _ _ _
-    (bad-hints (length (now (a .db))) (a .size) (a .page) (now (a .hints)) (fit (c .before .before)) (sym (c .before .hints-known .ensures) ∙ not-true _ (c .if2 .taken)))
+    (others (c .before .before) ∙ bad-count (length (now (a .db))) (a .size) (a .page) (now (a .hints)) (sym (c .before .hint-count-fits .ensures) ∙ not-true _ (c .if2 .taken)))
+
+hints-known-requires : tie.Need-hints-known-requires
+hints-known-requires c κs = search needs
+
+-- the hints are few enough
+fit : (c : tie.Else2) → countFits (length (now (c .before .before .before .before .before .before .before .before .args .hints))) ≡ true
+fit c = sym (c .before .hint-count-fits .ensures) ∙ not-false _ (c .if2 .left)
+
+returns-3 : tie.Need-returns-3
+unfolding numberedAnswer numberedRows numberedCols numberedNumber numberedWritten
+returns-3 c =
+    let a = c .before .before .before .before .before .before .before .before .before .before .args in
+    page-refused _ (leafHits (a .how) (now (a .db)) (a .size) 0 (now (a .hints)) (a .page)) (length (now (a .hints))) _ _ _
+    (others (c .before .before .before .before) ∙ bad-hints (length (now (a .db))) (a .size) (a .page) (now (a .hints)) (fit (c .before .before)) (sym (c .before .hints-known .ensures) ∙ not-true _ (c .if3 .taken)))
 
 get-page-data-requires : tie.Need-get-page-data-requires
 get-page-data-requires c κs = search needs
@@ -52,14 +72,14 @@ enum-known-start : tie.Need-enum-known-start
 enum-known-start c = search needs
 
 -- and known, so the page decides
-decides : (c : tie.Else2) →
-    let a = c .before .before .before .before .before .before .before .before .args in
-    firstHeld (numberedChecks (length (now (a .db))) (a .size) (a .page) (now (a .hints))) ≡ firstHeld (pageChecks (length (now (a .db))) (a .size) (a .page))
-decides c = let a = c .before .before .before .before .before .before .before .before .args in page-decides (length (now (a .db))) (a .size) (a .page) (now (a .hints)) (fit (c .before .before)) (sym (c .before .hints-known .ensures) ∙ not-false _ (c .if2 .left))
+decides : (c : tie.Else3) →
+    let a = c .before .before .before .before .before .before .before .before .before .before .args in
+    firstHeld (numberedChecksBy (a .how) (length (now (a .db))) (a .size) (a .page) (now (a .hints))) ≡ firstHeld (pageChecks (length (now (a .db))) (a .size) (a .page))
+decides c = let a = c .before .before .before .before .before .before .before .before .before .before .args in others (c .before .before .before .before) ∙ page-decides (length (now (a .db))) (a .size) (a .page) (now (a .hints)) (fit (c .before .before)) (sym (c .before .hints-known .ensures) ∙ not-false _ (c .if3 .left))
 
 -- the page lies where it should
 lies : (c : tie.After-known-told2) →
-    let a = c .before .before .before .before .before .before .before .before .before .before .before .before .args in
+    let a = c .before .before .before .before .before .before .before .before .before .before .before .before .before .before .args in
     PagedAt (length (now (a .db))) (a .size) (a .page) (c .before .start .given .0 .0) (c .before .start .given .0 .1 .0) (c .before .start .given .0 .1 .1 .0)
 lies c = paged-at _ _ _ _ _ _ (sym (c .before .before .before .get-page-data .ensures .0) ∙ c .before .start .given .1)
 
@@ -78,11 +98,11 @@ part-fill-end c = omega (arith, lies c .inside)
 fill-requires : tie.Need-fill-requires
 fill-requires c κs =
     let l = lies (c .before .before .before) in
-    rw (part-long (now (c .before .before .before .before .before .before .before .before .before .before .before .before .before .before .before .args .db)) _ _ (l .inside)) (page-filling _ _ _ (now (c .before .before .before .before .before .before .before .before .before .before .before .before .before .before .before .args .hints)) (fit (c .before .before .before .before .before .before .before .before .before)) _ _ _ l)
+    rw (part-long (now (c .before .before .before .before .before .before .before .before .before .before .before .before .before .before .before .before .before .args .db)) _ _ (l .inside)) (page-filling _ _ _ (now (c .before .before .before .before .before .before .before .before .before .before .before .before .before .before .before .before .before .args .hints)) (fit (c .before .before .before .before .before .before .before .before .before)) _ (ltb-false _ _ (narrow (c .before .before .before .before .before .before .before .before .before .before .before))) _ _ _ l)
 
-returns-3 : tie.Need-returns-3
+returns-4 : tie.Need-returns-4
 unfolding numberedAnswer numberedRows numberedCols numberedNumber numberedWritten
-returns-3 c = page-refused _ _ _ _ _ _ (decides (c .before .before .before .before) ∙ paged-refused _ _ _ _ (sym (c .before .before .before .get-page-data .ensures .0) ∙ c .before .refusal .given .1))
+returns-4 c = page-refused _ _ _ _ _ _ (decides (c .before .before .before .before) ∙ paged-refused _ _ _ _ (sym (c .before .before .before .get-page-data .ensures .0) ∙ c .before .refusal .given .1))
 
 same-length : tie.Need-same-length
 same-length c = search needs
@@ -90,10 +110,10 @@ same-length c = search needs
 same-length-2 : tie.Need-same-length-2
 same-length-2 c = search needs
 
-returns-4 : tie.Need-returns-4
+returns-5 : tie.Need-returns-5
 unfolding numberedAnswer numberedRows numberedCols numberedNumber numberedWritten
-returns-4 c =
-    let a = c .before .before .before .before .before .before .before .before .before .before .before .before .before .before .before .before .before .before .before .before .args in
+returns-5 c =
+    let a = c .before .before .before .before .before .before .before .before .before .before .before .before .before .before .before .before .before .before .before .before .before .before .args in
     let l = lies (c .before .before .before .before .before .before .before .before) in
     let h = hits-are (a .how) (now (a .db)) (a .size) (a .page) (now (a .hints)) 0 _ _ _ (l .starts) (l .long) (l .heads) in
     page-passed _ _ _ _ _ _ _ _ (decides (c .before .before .before .before .before .before .before .before .before .before .before .before) ∙ l .passed) (rw h at (c .before .before .before .before .fill .ensures))
@@ -102,10 +122,12 @@ pub carve-numbered-spec : {M : Type 1} → statement M
 carve-numbered-spec =
     tie.close
     (tie.spec
-    hint-count-fits-requires
+    refuses-requires
     returns
-    hints-known-requires
+    hint-count-fits-requires
     returns-2
+    hints-known-requires
+    returns-3
     get-page-data-requires
     enum-known-refusal
     enum-known-start
@@ -114,7 +136,7 @@ carve-numbered-spec =
     part-fill-start
     part-fill-end
     fill-requires
-    returns-3
+    returns-4
     same-length
     same-length-2
-    returns-4)
+    returns-5)

@@ -1,14 +1,39 @@
 -- `carving::single::carve_slice` meets its contract: a check refuses, or the page is carved.
 -- Assumes nothing.
-use mathlib.Core.Path.{sym, _∙_}
+use mathlib.Core.Path.{_≡_, sym, _∙_}
+use mathlib.Core.Bool.{false}
 use borrow.Author.Needs.{needs}
+use borrow.Author.Tests.{ltb-false}
 use denote.Ref.{now}
+use lib.Dec.{ltb}
 use lib.ListN.{length}
-use Rattle.carving.specs.Calls.{sliceAnswer, sliceRows, sliceCols, sliceNumber, sliceWritten}
-use Rattle.carving.proofs.Callers.{slice-filling}
+use Rattle.carving.specs.Calls.{widthBy, sliceChecksBy, sliceHits, sliceAnswer, sliceRows, sliceCols, sliceNumber, sliceWritten}
+use Rattle.carving.proofs.Callers.{wide-refuses, narrow-on, slice-filling}
 use Rattle.carving.proofs.single.carve_slice.Statement.{statement}
 use Rattle.carving.proofs.single.carve_slice.Tie as tie
+use Rattle.sheet.specs.Refusal.{firstHeld}
+use Rattle.sheet.specs.Slice.{sliceChecks}
 use Rattle.walk.proofs.Promises.{page-refused, page-passed}
+
+refuses-requires : tie.Need-refuses-requires
+refuses-requires c κs = search needs
+
+returns : tie.Need-returns
+unfolding sliceAnswer sliceRows sliceCols sliceNumber sliceWritten
+returns c =
+    let a = c .before .before .before .before .before .before .args in
+    let hints = now (a .hints) in
+    page-refused _ (sliceHits (a .how) (now (a .page)) (a .head) hints (a .base)) (length hints) _ _ _
+    (wide-refuses (a .how) (length hints) (sliceChecks (length (now (a .page))) hints (a .base)) (sym (c .before .refuses .ensures) ∙ c .if1 .taken))
+
+-- the table is not too wide, so the other checks decide
+narrow : (c : tie.Else1) → let a = c .before .before .before .before .before .before .args in ltb (widthBy (a .how)) (length (now (a .hints))) ≡ false
+narrow c = sym (c .before .refuses .ensures) ∙ c .if1 .left
+
+others : (c : tie.Else1) →
+    let a = c .before .before .before .before .before .before .args in
+    firstHeld (sliceChecksBy (a .how) (length (now (a .page))) (now (a .hints)) (a .base)) ≡ firstHeld (sliceChecks (length (now (a .page))) (now (a .hints)) (a .base))
+others c = let a = c .before .before .before .before .before .before .args in narrow-on (a .how) (length (now (a .hints))) (sliceChecks (length (now (a .page))) (now (a .hints)) (a .base)) (narrow c)
 
 check-slice-requires : tie.Need-check-slice-requires
 check-slice-requires c κs = search needs
@@ -21,12 +46,12 @@ enum-told c = search needs
 
 fill-requires : tie.Need-fill-requires
 fill-requires c κs =
-    let a = c .before .before .before .before .before .before .before .before .before .args in
-    slice-filling (length (now (a .page))) (now (a .hints)) (a .base) (sym (c .before .before .before .before .check-slice .ensures) ∙ c .before .before .enum-told .given .1)
+    let a = c .before .before .before .before .before .before .before .before .before .before .before .args in
+    slice-filling (a .how) (length (now (a .page))) (now (a .hints)) (a .base) (ltb-false _ _ (narrow (c .before .before .before .before .before))) (sym (c .before .before .before .before .check-slice .ensures) ∙ c .before .before .enum-told .given .1)
 
-returns : tie.Need-returns
+returns-2 : tie.Need-returns-2
 unfolding sliceAnswer sliceRows sliceCols sliceNumber sliceWritten
-returns c = page-refused _ _ _ _ _ _ (sym (c .before .before .before .check-slice .ensures) ∙ c .before .refusal .given .1)
+returns-2 c = page-refused _ _ _ _ _ _ (others (c .before .before .before .before) ∙ sym (c .before .before .before .check-slice .ensures) ∙ c .before .refusal .given .1)
 
 same-length : tie.Need-same-length
 same-length c = search needs
@@ -34,19 +59,21 @@ same-length c = search needs
 same-length-2 : tie.Need-same-length-2
 same-length-2 c = search needs
 
-returns-2 : tie.Need-returns-2
+returns-3 : tie.Need-returns-3
 unfolding sliceAnswer sliceRows sliceCols sliceNumber sliceWritten
-returns-2 c = page-passed _ _ _ _ _ _ _ _ (sym (c .before .before .before .before .before .before .before .before .before .check-slice .ensures) ∙ c .before .before .before .before .before .before .before .enum-told .given .1) (c .before .before .before .before .fill .ensures)
+returns-3 c = page-passed _ _ _ _ _ _ _ _ (others (c .before .before .before .before .before .before .before .before .before .before) ∙ sym (c .before .before .before .before .before .before .before .before .before .check-slice .ensures) ∙ c .before .before .before .before .before .before .before .enum-told .given .1) (c .before .before .before .before .fill .ensures)
 
 pub carve-slice-spec : {M : Type 1} → statement M
 carve-slice-spec =
     tie.close
     (tie.spec
+    refuses-requires
+    returns
     check-slice-requires
     enum-known-refusal
     enum-told
     fill-requires
-    returns
+    returns-2
     same-length
     same-length-2
-    returns-2)
+    returns-3)

@@ -3,6 +3,7 @@
 use Prim.Native.Nat.{ℕ, _+_, _-_, _/_, _≤_, _<_}
 use mathlib.Core.Path.{_≡_, refl, sym, _∙_}
 use mathlib.Core.List.{List}
+use native.Mathlib.Nat.{le-trans}
 use native.Mathlib.Omega.{arith}
 use borrow.Author.Needs.{needs}
 use denote.Ref.{now}
@@ -34,7 +35,7 @@ abbrev μ-loop : tie.MeasureT-loop
 μ-loop how db size roots counts hints flags₀ stack₀ rows₀ cols₀ width most lent t₀ from₀ n₀ flags stack rows cols t from n = length roots - t
 
 div-if1 : tie.Need-div-if1 Inv-loop μ-loop
-div-if1 c = omega (arith, c .before .before .before .before .before .before .before .before .pre .low)
+div-if1 c = omega (arith, c .before .before .before .before .before .before .before .before .pre .1 .low)
 
 returns : tie.Need-returns Inv-loop μ-loop
 returns c = tabled-few _ _ _ _ _ _ _ _ _ _ (c .if1 .taken)
@@ -50,11 +51,11 @@ loop-holds c = (tables-start _ _ _ _ _ _ _ _ _ _ _, record { flags-long = refl; 
 
 -- a table is left
 under : (c : tie.In-loop Inv-loop μ-loop) → c .before .loop .t < length (now (c .before .before .before .before .before .before .before .before .before .before .before .before .before .args .counts))
-under c = omega (arith, c .loop-test .taken, c .before .before .before .before .before .before .before .before .before .before .before .before .before .pre .alike)
+under c = omega (arith, c .loop-test .taken, c .before .before .before .before .before .before .before .before .before .before .before .before .before .pre .1 .alike)
 
 -- and its hints are there
 inside : (c : tie.In-loop Inv-loop μ-loop) → let a = c .before .before .before .before .before .before .before .before .before .before .before .before .before .args in let l = c .before .loop in l .from + getD (now (a .counts)) (l .t) 0 ≤ length (now (a .hints))
-inside c = rw (c .before .before .before .before .before .before .before .before .before .before .before .before .before .pre .sums) at (tables-inside _ _ _ _ _ _ _ _ _ _ _ _ _ _ _ _ (c .before .loop .inv .0) (c .loop-test .taken) (under c))
+inside c = rw (c .before .before .before .before .before .before .before .before .before .before .before .before .before .pre .1 .sums) at (tables-inside _ _ _ _ _ _ _ _ _ _ _ _ _ _ _ _ (c .before .loop .inv .0) (c .loop-test .taken) (under c))
 
 mul-end : tie.Need-mul-end Inv-loop μ-loop
 mul-end c = omega (arith, under c)
@@ -81,24 +82,25 @@ part-carve-table-end : tie.Need-part-carve-table-end Inv-loop μ-loop
 part-carve-table-end c = inside (c .before .before)
 
 cast-carve-table : tie.Need-cast-carve-table Inv-loop μ-loop
-cast-carve-table c = omega (arith, c .before .before .before .loop-test .taken, c .before .before .before .before .before .before .before .before .before .before .before .before .before .before .before .before .pre .few)
+cast-carve-table c = omega (arith, c .before .before .before .loop-test .taken, c .before .before .before .before .before .before .before .before .before .before .before .before .before .before .before .before .pre .1 .few)
 
 carve-table-requires : tie.Need-carve-table-requires Inv-loop μ-loop
 carve-table-requires c κs =
     let p = c .before .before .before .before .before .before .before .before .before .before .before .before .before .before .before .before .before .before .before .before .pre in
     let i = c .before .before .before .before .before .before .before .before .loop .inv in
     let l = i .1 in
-    let k = table-fits _ _ _ _ _ _ p (c .before .before .before .before .before .before .before .loop-test .taken) in
+    let k = table-fits _ _ _ _ _ _ (p .1) (c .before .before .before .before .before .before .before .loop-test .taken) in
     let w = c .before .before .before .before .before .before .before .before .before .before .widest .ensures in
     rw (part-long (now (c .before .before .before .before .before .before .before .before .before .before .before .before .before .before .before .before .before .before .before .before .args .hints)) _ _ (inside (c .before .before .before .before .before .before .before))) (
       omega (arith, c .before .before .before .before .before .before .before .before .before .before .before .if1 .left, l .flags-long),
       rw (l .rows-long, l .cols-long)
           (record {
-            low = p .low;
-            high = p .high;
-            small = p .small;
+            low = p .1 .low;
+            high = p .1 .high;
+            small = p .1 .small;
             some = k .0;
             few = k .1;
+            narrow = le-trans (k .2) (p .0);
             space =
                 record {
                   narrow = rw w (k .2);
@@ -187,7 +189,7 @@ returns-3 c =
     tabled _ _ _ _ _ _ _ _ _ _ _ _ _ _ (c .before .before .before .before .before .before .before .before .before .before .before .before .before .before .before .before .before .before .before .before .before .before .before .if1 .left) (room-is (c .before .before .before .before .before .before .before .before .before .before .before .before .before .before .before .before .before .before .before .before .before)) (rw (c .before .before .before .before .before .before .before .before .before .before .before .before .before .before .before .before .before .before .before .before .before .before .widest .ensures) at x)
 
 add-t : tie.Need-add-t Inv-loop μ-loop
-add-t c = omega (arith, c .before .before .before .before .before .before .before .before .before .before .before .before .before .before .before .before .before .before .before .loop-test .taken, c .before .before .before .before .before .before .before .before .before .before .before .before .before .before .before .before .before .before .before .before .before .before .before .before .before .before .before .before .before .before .before .before .pre .few)
+add-t c = omega (arith, c .before .before .before .before .before .before .before .before .before .before .before .before .before .before .before .before .before .before .before .loop-test .taken, c .before .before .before .before .before .before .before .before .before .before .before .before .before .before .before .before .before .before .before .before .before .before .before .before .before .before .before .before .before .before .before .before .pre .1 .few)
 
 loop-less : tie.Need-loop-less Inv-loop μ-loop
 loop-less c = omega (arith, c .before .before .before .before .before .before .before .before .before .before .before .before .before .before .before .before .before .before .before .loop-test .taken)

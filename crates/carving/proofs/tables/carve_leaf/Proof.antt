@@ -42,14 +42,16 @@ carve-page-requires c κs =
     let s = c .before .before .before .before .before .before .before .before in
     let p = s .pre .1 in
     let in′ = inside s in
-    rw (part-long (now (s .args .db)) _ _ in′)
-    (record {
-      inside = omega (arith, p .small);
-      near = omega (arith, p .small, p .low);
-      some = p .some;
-      few = p .few;
-      space = p .space;
-    })
+    rw (part-long (now (s .args .db)) _ _ in′) (
+      p .narrow,
+      record {
+        inside = omega (arith, p .small);
+        near = omega (arith, p .small, p .low);
+        some = p .some;
+        few = p .few;
+        space = p .space;
+      },
+    )
 
 same-length : tie.Need-same-length
 same-length c = search needs

@@ -71,7 +71,7 @@ found c = let w = c .before .before .before .before .before .before .before .bef
 ready : (c : tie.At-loop Inv-loop μ-loop) →
     let a = c .before .before .before .before .before .before .before .before .before .before .before .before .before .before .before .before .before .args in
     let l = c .loop in
-    TableReady (length (now (a .db))) (a .size) (length (now (a .hints))) (a .lent) (l .m) (length (l .rows)) (length (l .cols))
+    TableReady (a .how) (length (now (a .db))) (a .size) (length (now (a .hints))) (a .lent) (l .m) (length (l .rows)) (length (l .cols))
 ready c =
     let p = c .before .before .before .before .before .before .before .before .before .before .before .before .before .before .before .before .before .pre .1 in
     let i = c .loop .inv in
@@ -82,6 +82,7 @@ ready c =
       small = p .small;
       some = p .some;
       few = p .few;
+      narrow = p .narrow;
       space = record { narrow = p .space .narrow; room-is = p .space .room-is; fits = leaves-fit _ _ _ _ _ _ _ _ _ _ _ _ _ _ _ _ _ (i .0) };
     })
 

@@ -19,7 +19,7 @@ use Rattle.attempt.specs.Attempt.{Types, ended, cut, kind, kinds, isWhol
 use Rattle.attempt.specs.Hints.{suited}
 use Rattle.attempt.specs.Inner.{reach, headerTypes, totalFrom, sizes, Headed, WholeIs, MissIs, HitIs}
 use Rattle.attempt.specs.Places.{mostPlaces, typePlaces, attemptPlaces}
-use Rattle.attempt.proofs.Bodies.{total-min, miss-count, hit-total}
+use Rattle.attempt.proofs.Bodies.{total-min, miss-count, miss-total, hit-total}
 use Rattle.attempt.proofs.Types.{Stops, stops, types-end}
 
 cut-reach : (s : List ℕ) (ts : Types) → isWhole ts ≡ false → reach s ts ≡ length s
@@ -88,6 +88,11 @@ module _ (s hints : List ℕ) (o h from : ℕ) (head : Headed s o h from) where
           inside = omega (arith, head .inside);
           headed = head;
         }
+
+-- THE LAW: a header whose bodies pass the region makes no row, be its types cut or whole
+pub long-miss : (len : ℕ) (hints : List ℕ) (o h : ℕ) (ts : Types) → o + h ≤ len → len - o < h + totalFrom 0 (kinds ts) → judgedWhole len hints o h ts ≡ miss
+long-miss len hints o h ts in′ over =
+    by-test (isWhole ts) (λ e. rw e (miss-total len hints o h (kinds ts) in′ (λ p q. omega arith))) (λ e. rw e)
 
 -- ---- the header's length
 

@@ -24,18 +24,18 @@ use Rattle.walk.specs.declared.walk.Walked.{Walked}
 
 -- ---- ways of carving
 
--- Rule 11.6: the most columns of a table that is carved so
+-- Rule 11.10: the most columns of a table that is carved so
 abbrev pub widthBy : Carving → ℕ
 widthBy Freeblocks = mostColumns
 widthBy (Gaps how) = mostBy how
 widthBy (Payload how) = mostBy how
 
--- Rule 11.6: one that is wider is refused before all else
+-- Rule 11.10: one that is wider is refused before all else
 abbrev pub tooWide : Carving → ℕ → Check
 tooWide how columns = record { refusal = ColumnCount; holds = ltb (widthBy how) columns }
 
--- what stands on a page whose b-tree header is at `head`: rule 10.4 for the freeblocks, 11.8 for the gap and the blocks behind it, 11.5 and 11.6
--- for the payload of one block
+-- what stands on a page whose b-tree header is at `head`: rule 10.4 for the freeblocks, 11.8 for the gap and the blocks behind it, 11.5, 11.6
+-- and 11.9 for the payload of one block
 unfoldable pub hitsBy : Carving → List ℕ → ℕ → List ℕ → Spot → List Hit
 hitsBy Freeblocks page head hints spot = pageHits page head hints spot
 hitsBy (Gaps how) page head hints spot = gapPageHits gapHits how page head hints spot
@@ -119,7 +119,7 @@ unfoldable pub tabledCols : Carving → List ℕ → ℕ → List ℕ → List �
 tabledCols how db size roots counts hints flags depth rows cols =
     carvedCols (firstHeld (tableChecksBy how (length db) size roots counts hints)) (leafHits how db size) db size roots counts hints flags depth rows cols
 
--- Rule 9.14: flags and stack, each as it was or cleared
+-- Rule 9.11: flags and stack, each as it was or cleared
 unfoldable pub tabledCleared : Carving → ℕ → ℕ → List ℕ → List ℕ → List ℕ → List ℕ → List ℕ
 tabledCleared how len size roots counts hints old = clearedUnless (firstHeld (tableChecksBy how len size roots counts hints)) old
 

@@ -9,9 +9,9 @@ use borrow.Author.Tests.{leb-true}
 use lib.Dec.{leb}
 use lib.ListN.{length, drop}
 use Rattle.attempt.proofs.Shifts.{back-moved, given, longer}
-use Rattle.attempt.proofs.Types.{types-step, types-cut, stops}
+use Rattle.attempt.proofs.Types.{types-step, types-cut, stops, types-to-end}
 use Rattle.attempt.specs.Attempt.{Types, ended, cut, kind, isWhole, typesFrom, Found, Tried, miss, hit, mostBytes}
-use Rattle.attempt.specs.Inner.{reach}
+use Rattle.attempt.specs.Inner.{reach, headerTypes}
 use Rattle.attempt.specs.Moved.{moved}
 use Rattle.rebuild.specs.Header.{mostTypeBytes, ownBytes, mostBy, Guess, noHeader, takes, exactTypes, takenFrom, guessed, without, rebuilt}
 use Rattle.rebuild.specs.declared.rebuilding.Rebuilding.{Rebuilding}
@@ -31,7 +31,7 @@ none-taken : {C : Type 0} {t : ℕ} → noHeader ≡ takes t → C
 none-taken e = let z : _≡_ {A = ℕ} 0 1 = cc in absurd (omega arith)
 
 -- those of types that are read are all up to where reading stops, and no more than 510
-pub taken-from : (s : List ℕ) (v : ℕ) (ts : Types) (t : ℕ) → takenFrom v ts ≡ takes t → (isWhole ts ≡ true) × (reach s ts - v ≡ t) × (t ≤ mostTypeBytes)
+taken-from : (s : List ℕ) (v : ℕ) (ts : Types) (t : ℕ) → takenFrom v ts ≡ takes t → (isWhole ts ≡ true) × (reach s ts - v ≡ t) × (t ≤ mostTypeBytes)
 taken-from s v cut t e = none-taken e
 taken-from s v (kind k rest) t e = taken-from s v rest t e
 taken-from s v (ended at) t e = go (leb (at - v) mostTypeBytes) refl e
@@ -57,6 +57,16 @@ module _ (d : List ℕ) (v : ℕ) (start : v ≤ length d) where
   guess-small OneByte n t some few e = let z = bytes-of e in (omega arith, omega arith)
   guess-small Exact (suc n) t some few e = (exact-some n t e, taken-from d v (exactTypes d (suc n) v) t e .2)
   guess-small Exact zero t some few e = absurd (omega arith)
+
+  -- THE LAW: the types of the exact mode's header are those that it read, and it ends where they do, in the payload
+  pub header-is : (n t : ℕ) → guessed Exact d n v ≡ takes t → (headerTypes d v t v ≡ exactTypes d n v) × (v + t ≡ reach d (exactTypes d n v)) × (v + t ≤ length d)
+  unfolding guessed
+  header-is n t e =
+      let f = taken-from d v (exactTypes d n v) t e in
+      let z = stops d (v + suc mostTypeBytes) n v start in
+      let end : v + t ≡ reach d (exactTypes d n v) = omega (arith, f .1, z .counts) in
+      let same = types-to-end d (v + suc mostTypeBytes) n v t start (f .0) (omega (arith, f .1, f .2, z .counts)) (omega (arith, f .1)) in
+      (rw end same, end, omega (arith, z .inside))
 
 -- ---- behind the made-up bytes stands what the header makes
 never : {C : Type 0} {x : Found} → miss ≡ hit x → C

@@ -9,12 +9,12 @@ use borrow.Author.Tests.{le-leb}
 use lib.ListN.{length, getD}
 use Rattle.attempt.proofs.Agreeing.{types-same}
 use Rattle.attempt.proofs.Shifts.{given}
-use Rattle.attempt.proofs.Types.{types-step, types-cut, types-none, stops, types-to-end}
+use Rattle.attempt.proofs.Types.{types-step, types-cut, types-none, stops}
 use Rattle.attempt.specs.Attempt.{ended, typesFrom, Tried}
-use Rattle.attempt.specs.Inner.{reach, headerTypes}
+use Rattle.attempt.specs.Inner.{headerTypes}
 use Rattle.rebuild.specs.Header.{mostTypeBytes, ownBytes, Guess, noHeader, takes, exactTypes, exactPlaces, takenFrom, guessed, rebuilt}
 use Rattle.rebuild.specs.declared.rebuilding.Rebuilding.the-variants.{OneByte, Exact}
-use Rattle.rebuild.proofs.From.{taken-from, guess-small}
+use Rattle.rebuild.proofs.From.{header-is, guess-small}
 use Rattle.rebuild.proofs.Laws.{seenFrom, shortOnly, behind-is, rebuilt-with, rebuilt-cut, rebuilt-none, one-byte-guess}
 use Rattle.record.proofs.Laws.{varint-lies, varint-low}
 use Rattle.record.proofs.Numbers.{by-order}
@@ -72,15 +72,6 @@ same-row d hints v start some few low =
 pub exact-few : (d : List ℕ) (columns v : ℕ) → v ≤ length d → length (exactPlaces d columns v) ≤ 519
 exact-few d columns v start = let z = stops d (stopAt v) columns v start in omega (arith, z .counts, z .near (omega arith))
 
--- the types of its header are those that it read
-header-is : (d : List ℕ) (n v t : ℕ) → v ≤ length d → takenFrom v (exactTypes d n v) ≡ takes t → (headerTypes d v t v ≡ exactTypes d n v) × (t ≤ length d - v)
-header-is d n v t start e =
-    let f = taken-from d v (exactTypes d n v) t e in
-    let z = stops d (stopAt v) n v start in
-    let end : v + t ≡ reach d (exactTypes d n v) = omega (arith, f .1, z .counts) in
-    let same = types-to-end d (stopAt v) n v t start (f .0) (omega (arith, f .1, f .2, z .counts)) (omega (arith, f .1)) in
-    (rw end same, omega (arith, f .1, z .counts, z .inside))
-
 -- THE LAW: and no other: payloads of one length that agree there have the same row at that start
 module _ (x y hints : List ℕ) (v : ℕ) (long : length x ≡ length y) (start : v ≤ length x) (some : 1 ≤ length hints) (few : length hints ≤ mostColumns)
     (agree : AgreeAt x y (exactPlaces x (length hints) v)) where
@@ -103,11 +94,11 @@ module _ (x y hints : List ℕ) (v : ℕ) (long : length x ≡ length y) (start 
       go (takes t) g =
           let start′ : v ≤ length y = omega arith in
           let small = guess-small x v start Exact n t some few g in
-          let hx = header-is x n v t start g in
-          let hy = header-is y n v t start′ (same-guess ∙ g) in
+          let hx = header-is x v start n t g in
+          let hy = header-is y v start′ n t (same-guess ∙ g) in
           let types : headerTypes y v t v ≡ headerTypes x v t v = hy .0 ∙ (same-types ∙ sym (hx .0)) in
           let made : given y hints v t ≡ given x hints v t = rw (← long, types) in
           rebuilt-with y hints v start′ t (small .0) (small .1) Exact (same-guess ∙ g)
-          ∙ (behind-is y hints v start′ t (small .0) (small .1) (hy .1)
+          ∙ (behind-is y hints v start′ t (small .0) (small .1) (omega (arith, hy .2))
           ∙ (ap (λ (r : Tried). shortOnly (ownBytes t) (seenFrom v r)) made
-          ∙ sym (rebuilt-with x hints v start t (small .0) (small .1) Exact g ∙ behind-is x hints v start t (small .0) (small .1) (hx .1))))
+          ∙ sym (rebuilt-with x hints v start t (small .0) (small .1) Exact g ∙ behind-is x hints v start t (small .0) (small .1) (omega (arith, hx .2)))))

@@ -1,21 +1,25 @@
 -- As many types as columns, one after the other: those that were read, with those to come, are all that the exact mode reads.
 -- Assumes nothing.
 use Prim.Native.Nat.{ℕ, zero, suc, _+_, _-_, _≤_, _<_, min}
-use mathlib.Core.Path.{_≡_, refl, _∙_}
+use mathlib.Core.Path.{_≡_, refl, ap, _∙_}
 use mathlib.Core.Bool.{true, false}
 use mathlib.Core.List.{List}
 use native.Mathlib.Omega.{arith}
 use borrow.Author.Tests.{le-leb, lt-leb}
 use lib.ListN.{length}
-use Rattle.attempt.proofs.Types.{types-none, types-end, types-cut, Along, along-step, along-end, stops, types-to-end}
-use Rattle.attempt.specs.Attempt.{Types, ended, cut, kind, isWhole, typesFrom}
-use Rattle.attempt.specs.Inner.{suitsAt, tooLong, bodySize, reach, headerTypes, Headed, WholeIs}
-use Rattle.rebuild.specs.Header.{mostTypeBytes, exactTypes, takenFrom, noHeader, takes, guessed}
+use Rattle.attempt.proofs.Judging.{long-miss}
+use Rattle.attempt.proofs.Types.{types-none, types-end, types-cut, Along, along-step, along-end, stops, total-least}
+use Rattle.attempt.specs.Attempt.{Types, ended, cut, kind, kinds, isWhole, typesFrom, miss, judgedWhole}
+use Rattle.attempt.specs.Inner.{suitsAt, tooLong, bodySize, totalFrom, reach, headerTypes, Headed, WholeIs}
+use Rattle.rebuild.specs.Header.{mostTypeBytes, Guess, noHeader, takes, exactTypes, takenFrom, guessed, rebuilt}
 use Rattle.rebuild.specs.Inner.{Taken}
 use Rattle.rebuild.specs.declared.rebuilding.Rebuilding.the-variants.{Exact}
+use Rattle.rebuild.proofs.From.{guess-small, header-is}
+use Rattle.rebuild.proofs.Laws.{rebuilt-none, rebuilt-miss}
 use Rattle.record.specs.Varint.{varintAt}
 use Rattle.record.specs.declared.varint.Cursor.{Cursor}
 use Rattle.record.specs.declared.varint.Varint.the-variants.{Value, Short}
+use Rattle.sheet.specs.Limits.{mostColumns}
 
 -- ---- the bytes of types, by whether they are whole and where they end
 taken-whole : (s : List ℕ) (v : ℕ) (ts : Types) → isWhole ts ≡ true → takenFrom v ts ≡ takenFrom v (ended (reach s ts))
@@ -35,10 +39,10 @@ module _ (d hints : List ℕ) (v : ℕ) where
   abbrev stop : ℕ
   stop = v + suc mostTypeBytes
 
-  too-long : (count matched total end : ℕ) → v + mostTypeBytes < end → WholeIs d hints all count matched total end → guessed Exact d (length hints) v ≡ noHeader
+  too-long : (count matched total end : ℕ) → v + mostTypeBytes < end → WholeIs d hints all count matched total end → rebuilt Exact d hints v ≡ miss
   unfolding guessed
   too-long count matched total end far w =
-      taken-whole d v all (w .is-whole) ∙ rw (w .ends) (rw (lt-leb (end - v) mostTypeBytes (omega arith)))
+      rebuilt-none Exact d hints v (taken-whole d v all (w .is-whole) ∙ rw (w .ends) (rw (lt-leb (end - v) mostTypeBytes (omega arith))))
 
   -- so many were read, and so many are to come
   pub record Reading (at count matched total : ℕ) : Type 0 where
@@ -65,18 +69,33 @@ module _ (d hints : List ℕ) (v : ℕ) where
         go (suc f) q a = record { left = f; sum = omega arith; along = along-step d hints all at stop count matched total f t c (omega arith) e a }
 
     -- a type runs off
-    pub reading-cut : count < length hints → at ≤ v + mostTypeBytes → varintAt d at ≡ Short → guessed Exact d (length hints) v ≡ noHeader
+    pub reading-cut : count < length hints → at ≤ v + mostTypeBytes → varintAt d at ≡ Short → rebuilt Exact d hints v ≡ miss
     unfolding guessed
-    reading-cut more near e = go (r .left) (r .sum) (r .along)
+    reading-cut more near e = rebuilt-none Exact d hints v (go (r .left) (r .sum) (r .along))
       where
         go : (f : ℕ) → count + f ≡ length hints → Along d hints all (typesFrom f d at stop) count matched total → takenFrom v all ≡ noHeader
         go zero q a = absurd (omega arith)
         go (suc f) q a = let b = rw (types-cut f d at stop (omega arith) e) at a in taken-cut v all (b .whole-is)
 
     -- they pass 510 bytes
-    pub reading-over : v + mostTypeBytes < at → guessed Exact d (length hints) v ≡ noHeader
+    pub reading-over : v + mostTypeBytes < at → rebuilt Exact d hints v ≡ miss
     reading-over far =
         too-long count matched total at far (along-end d hints all at stop count matched total (rw (types-end (r .left) d at stop (omega arith)) at (r .along)))
+
+    -- the bodies of those that were read pass the payload
+    pub reading-long : v ≤ length d → 1 ≤ length hints → length hints ≤ mostColumns → at ≤ length d → total ≤ tooLong → length d - at < total → rebuilt Exact d hints v ≡ miss
+    reading-long start some few in′ most far = go (guessed Exact d (length hints) v) refl
+      where
+        go : (g : Guess) → guessed Exact d (length hints) v ≡ g → rebuilt Exact d hints v ≡ miss
+        go noHeader g = rebuilt-none Exact d hints v g
+        go (takes t) g =
+            let small = guess-small d v start Exact (length hints) t some few g in
+            let h = header-is d v start (length hints) t g in
+            let ends = stops d stop (r .left) at in′ .counts in
+            let over : length d - v < t + totalFrom 0 (kinds all) =
+            omega (arith, h .1, h .2, r .along .reach-is, ends, r .along .total-is, total-least total (kinds (typesFrom (r .left) d at stop)) most) in
+            rebuilt-miss d hints v start t (small .0) (small .1) Exact g (omega (arith, h .2))
+            (ap (λ (ts : Types). judgedWhole (length d) hints v t ts) (h .0) ∙ long-miss (length d) hints v t all (omega (arith, h .2)) over)
 
     -- all were read
     pub reading-end : length hints ≤ count → 1 ≤ length hints → v + count ≤ at → at ≤ v + mostTypeBytes → Taken d hints v matched total at
@@ -94,13 +113,10 @@ module _ (d hints : List ℕ) (v : ℕ) where
         taken-whole d v all (t .whole .is-whole) ∙ rw (t .whole .ends) (rw (le-leb (end - v) mostTypeBytes (omega (arith, t .near))))
 
     pub taken-header : headerTypes d v (end - v) v ≡ all
-    taken-header =
-        let e : v + (end - v) ≡ end = omega (arith, t .past) in
-        let same = types-to-end d stop (length hints) v (end - v) start (t .whole .is-whole) (omega (arith, t .whole .ends, t .near)) (omega (arith, t .whole .ends)) in
-        rw e (rw (t .whole .ends) at same)
+    taken-header = header-is d v start (length hints) (end - v) taken-guess .0
 
     pub taken-inside : end ≤ length d
-    taken-inside = omega (arith, stops d stop (length hints) v start .inside, t .whole .ends)
+    taken-inside = omega (arith, header-is d v start (length hints) (end - v) taken-guess .2)
 
     pub taken-headed : Headed d v (end - v) v
     taken-headed =

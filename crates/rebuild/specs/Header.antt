@@ -29,7 +29,7 @@ ownBytes t = cond (leb t oneByteTypes) 1 2
 abbrev pub lengthBytes : ℕ → List ℕ
 lengthBytes t = cond (leb t oneByteTypes) ((t + 1) ∷ []) ((128 + (t + 2) / 128) ∷ (t + 2) % 128 ∷ [])
 
--- Rule 11.6: the most columns of a table whose headers are rebuilt so
+-- Rule 11.10: the most columns of a table whose headers are rebuilt so
 abbrev pub mostBy : Rebuilding → ℕ
 mostBy OneByte = oneByteTypes
 mostBy Exact = mostColumns
@@ -45,7 +45,7 @@ pub data Guess : Type 0 where
 abbrev pub exactTypes : List ℕ → ℕ → ℕ → Types
 exactTypes d columns v = typesFrom columns d v (v + suc mostTypeBytes)
 
--- and the bytes of the payload that are read for them
+-- Rule 11.11: and the bytes of the payload that are read for them
 abbrev pub exactPlaces : List ℕ → ℕ → ℕ → List ℕ
 exactPlaces d columns v = typePlaces columns d v (v + suc mostTypeBytes)
 

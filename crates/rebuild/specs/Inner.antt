@@ -11,7 +11,7 @@ use Rattle.attempt.specs.Inner.{columnsAt, findTypes, HitIs, WholeIs}
 use Rattle.attempt.specs.declared.inner.Find.{Find}
 use Rattle.attempt.specs.declared.inner.Verdict.{Verdict}
 use Rattle.attempt.specs.declared.inner.Verdict.the-variants.{Hit, Miss}
-use Rattle.rebuild.specs.Header.{mostTypeBytes, exactTypes, noHeader, guessed, rebuilt}
+use Rattle.rebuild.specs.Header.{mostTypeBytes, exactTypes, rebuilt}
 use Rattle.rebuild.specs.declared.exact.Columns.{Columns}
 use Rattle.rebuild.specs.declared.exact.Columns.the-variants.{Take, Nothing as NoColumns}
 use Rattle.rebuild.specs.declared.inner.Rebuilt.{Rebuilt}
@@ -27,7 +27,7 @@ pub record Taken (d hints : List ℕ) (v matched total end : ℕ) : Type 0 where
 
 abbrev pub ColumnsIs : List ℕ → List ℕ → ℕ → Columns → Type 0
 ColumnsIs d hints v (Take matched total end) = Taken d hints v matched total end
-ColumnsIs d hints v NoColumns = guessed Exact d (length hints) v ≡ noHeader
+ColumnsIs d hints v NoColumns = rebuilt Exact d hints v ≡ miss
 
 -- a row that was found at v, said of the bytes from v on
 abbrev pub foundFrom : List ℕ → ℕ → Find → Found

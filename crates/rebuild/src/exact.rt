@@ -18,7 +18,7 @@ pub enum Columns {
         total: usize,
         end: usize,
     },
-    // A type runs off the payload, or they take too many bytes.
+    // A type or a body runs off the payload, or the types take too many bytes.
     Nothing,
 }
 
@@ -44,6 +44,10 @@ pub fn walk_columns(payload: &[u8], hints: &[u8], v: usize) -> Columns
         total = add_body(total, kind);
         count = count + 1;
         at = next.at;
+        // Bodies that pass the payload make no row, whatever types are left.
+        if total > payload.len() - at {
+            return Columns::Nothing;
+        }
     }
     if at > last {
         return Columns::Nothing;

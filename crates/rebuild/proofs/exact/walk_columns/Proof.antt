@@ -6,7 +6,7 @@ use native.Mathlib.Omega.{arith}
 use denote.Ref.{now}
 use lib.ListN.{length}
 use Rattle.attempt.specs.Inner.{tooLong}
-use Rattle.rebuild.proofs.Reading.{Reading, reading-start, reading-step, reading-cut, reading-over, reading-end}
+use Rattle.rebuild.proofs.Reading.{Reading, reading-start, reading-step, reading-cut, reading-over, reading-long, reading-end}
 use Rattle.record.proofs.Laws.{varint-lies}
 use Rattle.record.specs.Varint.{varintAt}
 use Rattle.record.specs.declared.varint.Varint.the-variants.{Value}
@@ -63,28 +63,48 @@ add-body-requires c κs = search needs
 add-count : tie.Need-add-count Inv-loop μ-loop
 add-count c = search needs
 
+-- one type more was read
+one-more : (c : tie.After-add-body Inv-loop μ-loop) →
+    let a = c .before .before .before .before .before .before .before .before .before .before .before .args in
+    let l = c .before .before .before .before .before .before .before .before .loop in
+    Reading (now (a .payload)) (now (a .hints)) (a .v) (c .before .before .before .kind .given .0 .1 .0 .at) (l .count + 1) (l .matched + c .before .suits-at .result) (c .add-body .result)
+one-more c =
+    let o = c .before .before in
+    let l = o .before .before .before .before .before .before .loop in
+    rw (c .before .suits-at .ensures .0, c .add-body .ensures)
+    (reading-step _ _ _ _ _ _ _ (l .inv .4) _ _ (o .before .before .before .before .before .loop-test .taken) (o .before .before .before .before .if1 .left) (read o))
+
+sub-if2 : tie.Need-sub-if2 Inv-loop μ-loop
+sub-if2 c = varint-lies _ _ _ _ (read (c .before .before)) .inside
+
+returns-3 : tie.Need-returns-3 Inv-loop μ-loop
+returns-3 c =
+    let o = c .before in
+    let p = o .before .before .before .before .before .before .before .before .before .before .before .pre in
+    reading-long _ _ _ _ _ _ _ (one-more o) (p .0 .0) (p .1 .0) (p .1 .1) (varint-lies _ _ _ _ (read (o .before .before)) .inside) (omega (arith, o .add-body .ensures)) (c .if2 .taken)
+
 loop-less : tie.Need-loop-less Inv-loop μ-loop
 loop-less c = search needs
 
 loop-again : tie.Need-loop-again Inv-loop μ-loop
 loop-again c =
-    let o = c .before .before in
-    let l = o .before .before .before .before .before .before .loop in
-    let z = varint-lies _ _ _ _ (read o) in (
+    let o = c .before in
+    let l = o .before .before .before .before .before .before .before .before .loop in
+    let z = varint-lies _ _ _ _ (read (o .before .before)) in (
       omega (arith, z .past, l .inv .0),
       z .inside,
-      omega (arith, c .before .suits-at .ensures .1, l .inv .2),
-      omega (arith, c .add-body .ensures),
-      rw (c .before .suits-at .ensures .0, c .add-body .ensures) (reading-step _ _ _ _ _ _ _ (l .inv .4) _ _ (o .before .before .before .before .before .loop-test .taken) (o .before .before .before .before .if1 .left) (read o)),
+      omega (arith, o .before .suits-at .ensures .1, l .inv .2),
+      omega (arith, o .add-body .ensures),
+      one-more o,
     )
 
-returns-3 : tie.Need-returns-3 Inv-loop μ-loop
-returns-3 c = reading-over _ _ _ _ _ _ _ (c .before .before .loop .inv .4) (c .if2 .taken)
-
 returns-4 : tie.Need-returns-4 Inv-loop μ-loop
-returns-4 c =
+returns-4 c = reading-over _ _ _ _ _ _ _ (c .before .before .loop .inv .4) (c .if3 .taken)
+
+returns-5 : tie.Need-returns-5 Inv-loop μ-loop
+returns-5 c =
     let l = c .before .before .loop in
-    reading-end _ _ _ _ _ _ _ (l .inv .4) (c .before .loop-test .left) (c .before .before .before .before .before .pre .1 .0) (l .inv .0) (c .if2 .left)
+    reading-end _ _ _ _ _ _ _ (l .inv .4) (c .before .loop-test .left) (c .before .before .before .before .before .pre .1 .0) (l .inv .0) (c .if3 .left)
 
 pub walk-columns-spec : {M : Type 1} → statement M
 walk-columns-spec =
@@ -103,7 +123,9 @@ walk-columns-spec =
     add-matched
     add-body-requires
     add-count
+    sub-if2
+    returns-3
     loop-less
     loop-again
-    returns-3
-    returns-4)
+    returns-4
+    returns-5)

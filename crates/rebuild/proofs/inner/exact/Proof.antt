@@ -4,7 +4,7 @@ use native.Mathlib.Omega.{arith}
 use denote.Ref.{now}
 use Rattle.rebuild.specs.Inner.{Taken}
 use borrow.Author.Needs.{needs}
-use Rattle.rebuild.proofs.Laws.{rebuilt-none, rebuilt-told}
+use Rattle.rebuild.proofs.Laws.{rebuilt-told}
 use Rattle.rebuild.proofs.Reading.{taken-guess, taken-header, taken-inside, taken-headed}
 use Rattle.rebuild.proofs.inner.exact.Statement.{statement}
 use Rattle.rebuild.proofs.inner.exact.Tie as tie
@@ -26,7 +26,7 @@ enum-told : tie.Need-enum-told
 enum-told c = search needs
 
 returns : tie.Need-returns
-returns c = rebuilt-none _ _ _ _ (rw (c .enum-told .given .1) at (c .before .before .walk-columns .ensures))
+returns c = rw (c .enum-told .given .1) at (c .before .before .walk-columns .ensures)
 
 sub-types : tie.Need-sub-types
 sub-types c = omega (arith, taken c .past)

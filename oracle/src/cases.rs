@@ -13,6 +13,7 @@ pub mod limits;
 pub mod modes;
 pub mod numbers;
 pub mod payloads;
+pub mod rebuilding;
 pub mod records;
 pub mod regions;
 pub mod rooms;
@@ -54,7 +55,7 @@ const GROUPS: [(usize, Group); 8] = [
 const PAGE_GROUPS: [(usize, Group); 4] = [(1, numbers::all), (30, chains::all), (8, walks::all), (8, tables::all)];
 
 /// The same for the carver of gaps and freed blocks.
-const GAP_GROUPS: [(usize, Group); 3] = [(36, gaps::all), (12, gaps::walks), (30, blocks::all)];
+const GAP_GROUPS: [(usize, Group); 4] = [(36, gaps::all), (12, gaps::walks), (30, blocks::all), (4, rebuilding::all)];
 
 /// The same for the three modes, and for learning.
 const CARVING_GROUPS: [(usize, Group); 3] = [(24, modes::all), (20, learning::all), (24, learned::all)];

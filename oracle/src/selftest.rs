@@ -539,6 +539,7 @@ mod tests {
     use super::*;
     use crate::calls;
     use crate::case::Case;
+    use crate::cases::telling;
 
     /// The rules as they are, against those with one change; this needs neither the Rust nor an archive.
     struct Noticing {
@@ -557,15 +558,27 @@ mod tests {
         }
     }
 
+    fn noticed(change: &Change, cases: impl FnOnce(&mut Noticing)) -> bool {
+        let mut changed = Limits::of_the_rules();
+        (change.change)(&mut changed);
+        let mut sink = Noticing { rules: Limits::of_the_rules(), changed, call: change.call, noticed: false };
+        cases(&mut sink);
+        sink.noticed
+    }
+
     #[test]
     fn the_cases_show_each_change() {
         for change in changes() {
-            let mut changed = Limits::of_the_rules();
-            (change.change)(&mut changed);
-            let rules = Limits::of_the_rules();
-            let mut sink = Noticing { rules, changed, call: change.call, noticed: false };
-            (change.cases)(&mut sink, &mut Random::new(1), 0);
-            assert!(sink.noticed, "{}", change.what);
+            let shown = noticed(change, |sink| (change.cases)(sink, &mut Random::new(1), 0));
+            assert!(shown, "{}", change.what);
+        }
+    }
+
+    /// But for those of walks and of the longest rows, which are not recorded.
+    #[test]
+    fn the_recorded_cases_show_the_changes_of_rebuilding() {
+        for change in rebuilding::CHANGES.iter().filter(|c| c.call == BLOCK && c.at_most < 65_536) {
+            assert!(noticed(change, |sink| telling::all(sink)), "{}", change.what);
         }
     }
 }

@@ -252,9 +252,9 @@ pub fn shares(sink: &mut dyn Sink) {
 /// Counts of columns for which a header length takes two bytes, up to the most.
 pub const WIDE: [usize; 9] = [127, 128, 129, 200, 255, 256, 257, 509, 510];
 
-/// All numbers from 1 up to a count, or, if it is high, some of them and the count itself.
+/// All numbers from 1 up to a count, or, if a length takes two bytes with it, some of them and the count itself.
 pub fn some_of(count: usize) -> impl Iterator<Item = usize> {
-    (1..=count).rev().step_by(1 + count / 127)
+    (1..=count).rev().step_by(if count < 127 { 1 } else { 1 + count / 12 })
 }
 
 /// Mostly few: a block of a wide table is tried at every byte, with all its columns.

@@ -148,12 +148,12 @@ pub fn gaps(sink: &mut dyn Sink) {
     }
 }
 
-/// A freed block with a cell at either end, and nothing between.
+/// A freed block with a cell at either end, and between them nothing that is a text.
 pub fn freed(sink: &mut dyn Sink, length: usize) {
-    let mut payload = vec![0x80; length];
-    payload[..5].copy_from_slice(&[3, 7, 2, 1, 9]);
-    payload[length - 5..].copy_from_slice(&[3, 8, 2, 1, 9]);
-    both_ways(sink, Case::new(BLOCK, &[1 << 48], &[&payload, &[0]], &lists(8, 1)));
+    let mut payload = vec![1; length];
+    payload[..5].copy_from_slice(&[3, 7, 2, 15, 9]);
+    payload[length - 5..].copy_from_slice(&[3, 8, 2, 15, 9]);
+    both_ways(sink, Case::new(BLOCK, &[1 << 48], &[&payload, &[2]], &lists(8, 1)));
 }
 
 /// Blocks in three modes, bytes to learn from and regions to carve, of the largest size and one more.

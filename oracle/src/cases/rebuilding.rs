@@ -4,7 +4,7 @@
 use super::blocks::block;
 use super::bytes::{varint, width};
 use super::chains::{numbered, slice};
-use super::databases::{Database, LEAF};
+use super::databases::Database;
 use super::gaps::{both_ways, AsGaps, WIDE};
 use super::limits::spread;
 use super::records::{damage, header};
@@ -23,9 +23,11 @@ pub fn all(sink: &mut dyn Sink, random: &mut Random, count: usize) {
     type_bytes(sink);
     widths(sink);
     notes(sink);
-    long_rows(sink);
+    long_rows(sink, &[4, 126]);
+    long_rows(sink, &TWO_BYTES);
     at_cells(sink);
-    leaves(sink);
+    pages(sink);
+    walks(sink);
     for _ in 0..count {
         random_types(sink, random);
     }
@@ -143,10 +145,13 @@ pub fn notes(sink: &mut dyn Sink) {
     }
 }
 
-/// The longest rows and those of a byte more, with as many bytes of types as leave a byte for the header length, and more.
-pub fn long_rows(sink: &mut dyn Sink) {
+/// Bytes of types for which the header length takes two.
+pub const TWO_BYTES: [usize; 3] = [127, 128, 510];
+
+/// The longest rows and those of a byte more, with types in so many bytes.
+pub fn long_rows(sink: &mut dyn Sink, types: &[usize]) {
     const LONG: usize = 3;
-    for types in [4, 126, 127, 128, 510] {
+    for &types in types {
         for total in 65_533..=65_536 {
             let columns = types - LONG + 1;
             let text = varint(13 + 2 * (total - types) as u64, LONG);
@@ -171,10 +176,11 @@ pub fn at_cells(sink: &mut dyn Sink) {
     }
 }
 
-/// A leaf with a wide row in its gap, one in a cell, and one whose header length is lost, by itself, by number and in a walk
-/// beside a narrow table.
-pub fn leaves(sink: &mut dyn Sink) {
-    for columns in [125, 126].into_iter().chain(WIDE).chain([511]) {
+/// Counts of columns up to the most of either way and past it, each with a leaf that has a row in its gap, one in a cell, and one
+/// whose header length is lost; it is page 2, and page 1 leads to it.
+fn leaves() -> impl Iterator<Item = (Vec<u8>, Database)> {
+    const CONTENT: usize = 4096 - 3;
+    [125, 126].into_iter().chain(WIDE).chain([511]).map(|columns| {
         let types = vec![(8, 1); columns];
         let whole = header(&types, 1);
         let cell = [&varint(whole.len() as u64, 2), &[7][..], &whole].concat();
@@ -182,16 +188,28 @@ pub fn leaves(sink: &mut dyn Sink) {
         db.interior(1, 2, &[]);
         db.leaf(2, &[[&[0][..], &cell, &[0, 0]].concat(), bare(&types)]);
         let (page, _) = db.page(2);
-        let content = 4096 - 3;
-        page[5..7].copy_from_slice(&(content as u16).to_be_bytes());
-        page[content - whole.len()..content].copy_from_slice(&whole);
-        assert_eq!(page[0], LEAF);
-        let page = page.to_vec();
-        let hints = vec![0; columns];
+        page[5..7].copy_from_slice(&(CONTENT as u16).to_be_bytes());
+        page[CONTENT - whole.len()..CONTENT].copy_from_slice(&whole);
+        (vec![0; columns], db)
+    })
+}
+
+/// The leaf by itself and by its number.
+fn pages(sink: &mut dyn Sink) {
+    for (hints, mut db) in leaves() {
+        let (page, header) = db.page(2);
         for rows in 0..2 {
-            slice(&mut AsGaps(sink), &page, 0, &hints, rows);
-            numbered(&mut AsGaps(sink), &page, 0, &hints, rows);
-            for narrow in [0, 2] {
+            slice(&mut AsGaps(sink), page, header, &hints, rows);
+            numbered(&mut AsGaps(sink), page, header, &hints, rows);
+        }
+    }
+}
+
+/// The leaf as one of two tables', where the other is narrow.
+pub fn walks(sink: &mut dyn Sink) {
+    for (hints, db) in leaves() {
+        for narrow in [0, 2] {
+            for rows in 0..2 {
                 let lent = [(narrow, vec![5; 3]), (1, hints.clone())];
                 tables::put(&mut AsGaps(sink), &db, &lent, 1, rows);
             }

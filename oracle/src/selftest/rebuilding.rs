@@ -2,7 +2,7 @@
 
 use super::Change;
 use crate::calls::{BLOCK, GAPS};
-use crate::cases::rebuilding::{columns, leaves, long_rows, notes, type_bytes};
+use crate::cases::rebuilding::{columns, long_rows, notes, type_bytes, walks, TWO_BYTES};
 
 pub const CHANGES: &[Change] = &[
     Change {
@@ -25,7 +25,7 @@ pub const CHANGES: &[Change] = &[
         what: "a walk over a table of 126 columns is refused where a byte is made up",
         change: |l| l.one_byte_columns = 125,
         call: GAPS,
-        cases: |sink, _, _| leaves(sink),
+        cases: |sink, _, _| walks(sink),
         in_the_rust: false,
         at_most: 140,
     },
@@ -43,7 +43,7 @@ pub const CHANGES: &[Change] = &[
         call: BLOCK,
         cases: |sink, _, _| type_bytes(sink),
         in_the_rust: false,
-        at_most: 600,
+        at_most: 810,
     },
     Change {
         what: "511 bytes of types are not too many",
@@ -51,7 +51,7 @@ pub const CHANGES: &[Change] = &[
         call: BLOCK,
         cases: |sink, _, _| type_bytes(sink),
         in_the_rust: false,
-        at_most: 600,
+        at_most: 810,
     },
     Change {
         what: "a header length takes one byte with 127 bytes of types",
@@ -59,13 +59,13 @@ pub const CHANGES: &[Change] = &[
         call: BLOCK,
         cases: |sink, _, _| type_bytes(sink),
         in_the_rust: false,
-        at_most: 200,
+        at_most: 220,
     },
     Change {
         what: "a header length takes two bytes with 126 bytes of types",
         change: |l| l.made_up = |types| types as u64 + if types <= 125 { 1 } else { 2 },
         call: BLOCK,
-        cases: |sink, _, _| long_rows(sink),
+        cases: |sink, _, _| long_rows(sink, &[126]),
         in_the_rust: false,
         at_most: 65_700,
     },
@@ -73,7 +73,7 @@ pub const CHANGES: &[Change] = &[
         what: "a row of 65,534 bytes whose header length takes two bytes is too long",
         change: |l| l.consumed = 65_535,
         call: BLOCK,
-        cases: |sink, _, _| long_rows(sink),
+        cases: |sink, _, _| long_rows(sink, &TWO_BYTES),
         in_the_rust: false,
         at_most: 65_700,
     },
@@ -81,16 +81,16 @@ pub const CHANGES: &[Change] = &[
         what: "a row of 65,535 bytes whose header length takes two bytes is not too long",
         change: |l| l.consumed = 65_537,
         call: BLOCK,
-        cases: |sink, _, _| long_rows(sink),
+        cases: |sink, _, _| long_rows(sink, &TWO_BYTES),
         in_the_rust: false,
         at_most: 65_700,
     },
     Change {
-        what: "bodies begin a byte early behind a type of two bytes",
+        what: "a header length leaves itself out, so that bodies begin a byte early",
         change: |l| l.made_up = |types| types as u64,
         call: BLOCK,
         cases: |sink, _, _| notes(sink),
         in_the_rust: false,
-        at_most: 100,
+        at_most: 10,
     },
 ];

@@ -23,8 +23,6 @@
  * of types, one of which suits its hint. Where these bytes were text, the row's types are that text, a byte each. A
  * type also shows an integer's size and that a REAL is whole, a length how long a note is. Dropping rows of low
  * confidence makes text in types rarer; nothing excludes it. README, "What the sheet gives away", has an example.
- *
- * Not given by any call so far, and declared for those to come: sources 2 and 3; a row id, or a percent.
  */
 #ifndef PHSARODIL_H
 #define PHSARODIL_H
@@ -40,7 +38,7 @@ extern "C" {
  * The version of this header. It changes when the words of a row, of an entry or of an answer do, or what a call takes;
  * a call that is added leaves it.
  */
-#define PHS_VERSION 1
+#define PHS_VERSION 2
 
 /* The version of the library. Where it is not PHS_VERSION, no other call may be made. */
 uint64_t phs_version(void);
@@ -48,8 +46,8 @@ uint64_t phs_version(void);
 /* Refusals. The checks of a call come in rising order, unless it says otherwise; the first that holds is returned. */
 enum phs_refusal {
     PHS_OK = 0,
-    PHS_COLUMN_COUNT = 1,   /* no columns, or more than PHS_MOST_COLUMNS */
-    PHS_MALFORMED = 2,      /* a hint code above 5, tables whose lists are unlike, or bad column entries */
+    PHS_COLUMN_COUNT = 1,   /* no columns, or more than PHS_MOST_COLUMNS; with PHS_ONE_BYTE, PHS_MOST_ONE_BYTE_COLUMNS */
+    PHS_MALFORMED = 2,      /* a hint code above 5, no enum phs_rebuilding, unlike lists of tables, or bad column entries */
     PHS_TOO_LARGE = 3,      /* more than PHS_LARGEST_REGION bytes, or than one of the other limits below */
     PHS_BASE_TOO_FAR = 4,   /* a base above PHS_LARGEST_BASE */
     PHS_PAGE_SIZE = 5,      /* not a page size of the file format */
@@ -61,7 +59,8 @@ enum phs_refusal {
 
 #define PHS_WORDS_PER_ROW 8
 #define PHS_WORDS_PER_ENTRY 4
-#define PHS_MOST_COLUMNS 126
+#define PHS_MOST_COLUMNS 510
+#define PHS_MOST_ONE_BYTE_COLUMNS 126 /* in a call that is lent PHS_ONE_BYTE */
 #define PHS_LARGEST_REGION 16777216
 #define PHS_LARGEST_STATEMENT 65536
 #define PHS_MOST_TABLES 1024
@@ -77,6 +76,21 @@ enum phs_hint {
     PHS_HINT_NULL = 4,
     PHS_HINT_ANY = 5
 };
+
+/*
+ * How the calls on free space rebuild a record whose header length is lost. At each byte of a freed block its types are taken
+ * to begin, and before them a header length to stand that the block does not have.
+ *     PHS_ONE_BYTE: the types of all columns take one byte each, and the bodies stand behind so many bytes. A type of more
+ *         bytes makes no row, or, in the last column, one whose bodies are read from inside that type. This is what the Rust
+ *         does that the library is held against. More than PHS_MOST_ONE_BYTE_COLUMNS columns are refused.
+ *     PHS_EXACT: as many types as there are columns, of one to nine bytes each, and the bodies stand behind the last of them.
+ *         There is no row where the types take more than 510 bytes.
+ * Lend PHS_EXACT, unless the rows are to be those of the Rust: from 58 bytes of text or blob on a type takes two bytes, so a
+ * note that long needs it, and so does a table of more columns. At a byte from which on all types take one byte each both find
+ * the same; elsewhere either may find a row and the other none, or another one. So neither list holds the other: whoever wants
+ * all rows of both makes both calls. Both find rows that are none.
+ */
+enum phs_rebuilding { PHS_ONE_BYTE = 1, PHS_EXACT = 2 };
 
 /* The tag of a value. */
 enum phs_tag { PHS_NONE = 0, PHS_NULL = 1, PHS_INTEGER = 2, PHS_REAL = 3, PHS_TEXT = 4, PHS_BLOB = 5 };
@@ -285,51 +299,50 @@ uint64_t phs_recover_slice_freeblocks(const uint8_t *page, size_t len, size_t he
                                       uint64_t out[1]);
 
 /*
- * The rows in the free space of the leaves of tables, lent and walked as in phs_recover_freeblocks. Of a page it looks at
- * two things, one after the other:
+ * The rows in the free space of the leaves of tables, lent and walked as in phs_recover_freeblocks. `rebuilding` is an enum
+ * phs_rebuilding. Of a page it looks at two things, one after the other:
  *     The gap between the end of its cell pointers and the start of its content, if there is one and it is not all zeros,
  *     scanned as phs_scan_region does.
  *     Its freed blocks, by a chain of its own: from the first block on to each one's next, until that is 0, is past the
  *     page or is not larger, and for 1,024 blocks at the most; a block of a size below 4 or past the page is left out.
  * In a block whole cells come first: a record's length, a row id and the record; behind one that is a row the search goes
  * on at the record's end, elsewhere at the next byte. PHS_ROW_HAS_ID is 1 for these alone, and the offset is the record's.
- * Then records whose header length is lost are rebuilt: at every byte of the block, the types of all columns are taken to
- * stand there, one byte each, and the bodies behind them. A row at the offset of one of this block's cells is left out.
- * On the databases of docs/BENCH.md that found most rows with short notes that were deleted here and there, with one to five
- * rows that are none for each of them; a type of two bytes, as of a note of 58 bytes or more, is beyond it.
+ * Then records whose header length is lost are rebuilt, one at each byte of the block. The offset of such a row is that of its
+ * first type, and PHS_ROW_CONSUMED is counted from there. A row at the offset of one of this block's cells is left out.
  * The source is PHS_SOURCE_CARVED_INTRA_PAGE. The confidence is the share of columns that suit, of rebuilt rows times 0.9;
  * PHS_ROW_PERCENT is the same in whole hundredths, cut down.
- * Returns as phs_recover_freeblocks does, and so are rows, entries and `out`.
+ * Returns as phs_recover_freeblocks does, and so are rows, entries and `out`; PHS_COLUMN_COUNT also where `rebuilding` is
+ * PHS_ONE_BYTE and any table has more than PHS_MOST_ONE_BYTE_COLUMNS columns, PHS_MALFORMED also where it is neither.
  */
-uint64_t phs_scan_page_gaps(const uint8_t *db, size_t len, uint64_t page_size, const uint64_t *roots, size_t roots_len,
-                            const uint64_t *counts, size_t counts_len, const uint8_t *hints, size_t hints_len,
-                            uint8_t *flags, size_t flags_len, uint64_t *stack, size_t stack_len, uint64_t *rows,
-                            size_t rows_len, uint64_t *cols, size_t cols_len, uint64_t out[1]);
+uint64_t phs_scan_page_gaps(uint64_t rebuilding, const uint8_t *db, size_t len, uint64_t page_size, const uint64_t *roots,
+                            size_t roots_len, const uint64_t *counts, size_t counts_len, const uint8_t *hints,
+                            size_t hints_len, uint8_t *flags, size_t flags_len, uint64_t *stack, size_t stack_len,
+                            uint64_t *rows, size_t rows_len, uint64_t *cols, size_t cols_len, uint64_t out[1]);
 
 /*
  * The same of one page by its number, whatever its type.
  * Returns PHS_COLUMN_COUNT, PHS_MALFORMED, PHS_TOO_LARGE, PHS_PAGE_SIZE, PHS_NO_SUCH_PAGE or PHS_NO_ROOM.
  */
-uint64_t phs_scan_page_gap(const uint8_t *db, size_t len, uint64_t page_size, uint64_t page, const uint8_t *hints,
-                           size_t hints_len, uint64_t *rows, size_t rows_len, uint64_t *cols, size_t cols_len,
-                           uint64_t out[1]);
+uint64_t phs_scan_page_gap(uint64_t rebuilding, const uint8_t *db, size_t len, uint64_t page_size, uint64_t page,
+                           const uint8_t *hints, size_t hints_len, uint64_t *rows, size_t rows_len, uint64_t *cols,
+                           size_t cols_len, uint64_t out[1]);
 
 /*
  * The same of a page that is lent by itself, with its b-tree header at page[header]; `base` is the offset of its first byte.
  * Returns PHS_COLUMN_COUNT, PHS_MALFORMED, PHS_TOO_LARGE, PHS_BASE_TOO_FAR or PHS_NO_ROOM.
  */
-uint64_t phs_scan_single_page_gap(const uint8_t *page, size_t len, size_t header, uint64_t base, const uint8_t *hints,
-                                  size_t hints_len, uint64_t *rows, size_t rows_len, uint64_t *cols, size_t cols_len,
-                                  uint64_t out[1]);
+uint64_t phs_scan_single_page_gap(uint64_t rebuilding, const uint8_t *page, size_t len, size_t header, uint64_t base,
+                                  const uint8_t *hints, size_t hints_len, uint64_t *rows, size_t rows_len, uint64_t *cols,
+                                  size_t cols_len, uint64_t out[1]);
 
 /*
- * Cells and rebuilt headers alone, of what stands behind the first four bytes of one freed block; `base` is the offset of
+ * Cells and rebuilt records alone, of what stands behind the first four bytes of one freed block; `base` is the offset of
  * its first byte.
  * Returns PHS_COLUMN_COUNT, PHS_MALFORMED, PHS_TOO_LARGE, PHS_BASE_TOO_FAR or PHS_NO_ROOM.
  */
-uint64_t phs_parse_cells_from_freeblock(const uint8_t *payload, size_t len, uint64_t base, const uint8_t *hints,
-                                        size_t hints_len, uint64_t *rows, size_t rows_len, uint64_t *cols,
-                                        size_t cols_len, uint64_t out[1]);
+uint64_t phs_parse_cells_from_freeblock(uint64_t rebuilding, const uint8_t *payload, size_t len, uint64_t base,
+                                        const uint8_t *hints, size_t hints_len, uint64_t *rows, size_t rows_len,
+                                        uint64_t *cols, size_t cols_len, uint64_t out[1]);
 
 /*
  * The rows of a block of bytes, for a table of which only the number of columns is known. With no hints nearly any bytes
@@ -381,7 +394,7 @@ uint64_t phs_learn_signatures(const uint8_t *bytes, size_t len, size_t width, co
  * The source is PHS_SOURCE_CARVED_UNALLOC. PHS_ROW_PERCENT is a hundred times the types that are of the class, divided by the
  * number of types lent, without the rest; the confidence is the percent divided by 100.
  * out: the rows written.
- * Returns PHS_COLUMN_COUNT for no types or more than 126, PHS_TOO_LARGE, PHS_BASE_TOO_FAR or PHS_NO_ROOM.
+ * Returns PHS_COLUMN_COUNT for the number of types, PHS_TOO_LARGE, PHS_BASE_TOO_FAR or PHS_NO_ROOM.
  */
 uint64_t phs_carve_unallocated(const uint8_t *region, size_t len, const uint64_t *types, size_t types_len, uint64_t base,
                                uint64_t *rows, size_t rows_len, uint64_t *cols, size_t cols_len, uint64_t out[1]);

@@ -5,7 +5,7 @@ use crate::case::Case;
 use crate::inputs::{self, bytes, hints, Kind, HINTS, KINDS, READING_HINTS, READING_TYPES};
 use crate::pages::{self, database, ROOT, TABLE_HINTS};
 use crate::rows;
-use crate::rules::limits::{WORDS_PER_ENTRY, WORDS_PER_ROW};
+use crate::rules::limits::{EXACT, ONE_BYTE, WORDS_PER_ENTRY, WORDS_PER_ROW};
 use crate::work::Work;
 
 type Make = Box<dyn Fn() -> Result<Work, String>>;
@@ -28,6 +28,7 @@ const PAGE_SIZES: [usize; 8] = [512, 1024, 2048, 4096, 8192, 16_384, 32_768, 65_
 /// How often a call is made that looks at a few bytes only.
 const TIMES: u64 = 65_536;
 const BLOCKS: u64 = 4096;
+const MOST_COLUMNS: usize = 510;
 
 pub fn all() -> Vec<Measure> {
     let mut all = Vec::new();
@@ -99,7 +100,7 @@ fn learned(all: &mut Vec<Measure>) {
             });
         }
     }
-    for width in [5, 126] {
+    for width in [5, 126, MOST_COLUMNS] {
         let work = move |entries: Vec<u64>| {
             let case = Case::new(LEARN, &[width as u64], &[&rows::bytes()], &[width]);
             Work::once(case.with_words(&[&entries]))
@@ -133,41 +134,57 @@ fn page(call: u8, numbers: &[u64], bytes: &[u8], hints: &[u8]) -> Work {
 
 const FILLED: [&str; 4] = ["text", "random", "zeros", "low"];
 
+/// The calls that rebuild headers, by their code and what stands before an input's name: the Rust has the first way alone.
+const WAYS: [(&str, u64); 2] = [("", ONE_BYTE), ("exact ", EXACT)];
+
 fn blocks(all: &mut Vec<Measure>) {
-    for name in FILLED {
-        let kind = kind(name);
-        add(all, BLOCK, format!("{name}/64K"), move || page(BLOCK, &[0], &pages::payload(kind), &HINTS));
+    for (exact, way) in WAYS {
+        for name in FILLED {
+            let kind = kind(name);
+            let input = format!("{exact}{name}/64K");
+            add(all, BLOCK, input, move || page(BLOCK, &[way, 0], &pages::payload(kind), &HINTS));
+        }
+        let input = format!("{exact}packed cells/64K");
+        add(all, BLOCK, input, move || page(BLOCK, &[way, 0], &pages::packed_cells(), &READING_HINTS));
     }
-    add(all, BLOCK, "packed cells/64K".into(), || page(BLOCK, &[0], &pages::packed_cells(), &READING_HINTS));
+    // As many header bytes are read at each start as may be, and no row is found.
+    add(all, BLOCK, "exact high of 510 columns/64K".into(), || {
+        let hints = [0; MOST_COLUMNS];
+        let lists = room(1, hints.len());
+        Work::once(Case::new(BLOCK, &[EXACT, 0], &[&pages::payload(Kind::High), &hints], &lists))
+    });
 }
 
 fn single_pages(all: &mut Vec<Measure>) {
-    for call in [RECOVER_SLICE, GAP_SLICE] {
+    let ways = WAYS.map(|(exact, way)| (GAP_SLICE, exact, vec![way, 0, 0]));
+    for (call, exact, numbers) in [(RECOVER_SLICE, "", vec![0, 0])].into_iter().chain(ways) {
         for name in FILLED {
-            let kind = kind(name);
-            let input = format!("one block of {name}/64K");
-            add(all, call, input, move || page(call, &[0, 0], &pages::one_block(kind), &HINTS));
+            let (kind, numbers) = (kind(name), numbers.clone());
+            let input = format!("{exact}one block of {name}/64K");
+            add(all, call, input, move || page(call, &numbers, &pages::one_block(kind), &HINTS));
         }
         for (size, length) in [("4K", 4096), SMALL] {
-            let input = format!("small blocks/{size}");
-            add(all, call, input, move || page(call, &[0, 0], &pages::small_blocks(length), &READING_HINTS));
+            let (input, numbers) = (format!("{exact}small blocks/{size}"), numbers.clone());
+            add(all, call, input, move || page(call, &numbers, &pages::small_blocks(length), &READING_HINTS));
         }
     }
     for name in ["text", "random"] {
-        let kind = kind(name);
-        add(all, GAP_SLICE, format!("gap of {name}/64K"), move || page(GAP_SLICE, &[0, 0], &pages::gap(kind), &HINTS));
+        let (kind, numbers) = (kind(name), [ONE_BYTE, 0, 0]);
+        add(all, GAP_SLICE, format!("gap of {name}/64K"), move || page(GAP_SLICE, &numbers, &pages::gap(kind), &HINTS));
     }
 }
 
 fn databases(all: &mut Vec<Measure>) {
     for call in [LEAVES, RECOVER, GAPS, RECOVER_PAGE, GAP_PAGE, PAGE_DATA] {
-        for size in PAGE_SIZES {
-            add_if(all, call, format!("database/{size}"), move || of_database(call, size));
+        for (exact, way) in WAYS {
+            for size in PAGE_SIZES.into_iter().filter(|_| way == ONE_BYTE || [GAPS, GAP_PAGE].contains(&call)) {
+                add_if(all, call, format!("{exact}database/{size}"), move || of_database(call, way, size));
+            }
         }
     }
 }
 
-fn of_database(call: u8, size: usize) -> Result<Work, String> {
+fn of_database(call: u8, way: u64, size: usize) -> Result<Work, String> {
     let db = database(size)?;
     let (pages, width) = (db.len() / size, TABLE_HINTS.len());
     let sheet = room(db.len(), width);
@@ -177,9 +194,11 @@ fn of_database(call: u8, size: usize) -> Result<Work, String> {
         LEAVES => Case::new(call, &[size, ROOT], &[&db], &[pages, pages, pages]),
         RECOVER | GAPS => {
             let lists = [pages, pages, sheet[0], sheet[1]];
-            Case::new(call, &[size], &[&db, &TABLE_HINTS], &lists).with_words(&tables)
+            let numbers = if call == GAPS { vec![way, size] } else { vec![size] };
+            Case::new(call, &numbers, &[&db, &TABLE_HINTS], &lists).with_words(&tables)
         }
         PAGE_DATA => Case::new(call, &[size, 1], &[&db], &[]),
+        GAP_PAGE => Case::new(call, &[way, size, 1], &[&db, &TABLE_HINTS], &sheet),
         _ => Case::new(call, &[size, 1], &[&db, &TABLE_HINTS], &sheet),
     };
     let all_pages = 1..pages as u64 + 1;

@@ -104,19 +104,27 @@ fn of_database(call: u8) -> Ours {
             let (db, size, root) = (&c.slices[0], c.numbers[0], c.numbers[1]);
             door::collect_leaf_pages(db, size, root, &mut l.bytes, &mut l.stack, &mut l.rows)
         }),
-        RECOVER => made(|c, l, _| of_tables(door::recover_freeblocks, c, l)),
-        GAPS => made(|c, l, _| of_tables(door::scan_page_gaps, c, l)),
+        RECOVER => made(|c, l, _| {
+            let (walk, sheet) = ((&mut l.bytes[..], &mut l.stack[..]), [&mut l.rows[..], &mut l.cols]);
+            door::recover_freeblocks(&c.slices[0], c.numbers[0], tables(c), &c.slices[1], walk, sheet)
+        }),
+        GAPS => made(|c, l, _| {
+            let (walk, sheet) = ((&mut l.bytes[..], &mut l.stack[..]), [&mut l.rows[..], &mut l.cols]);
+            door::scan_page_gaps(c.numbers[0], &c.slices[0], c.numbers[1], tables(c), &c.slices[1], walk, sheet)
+        }),
         RECOVER_PAGE => made(|c, l, v| {
             let (db, hints) = (&c.slices[0], &c.slices[1]);
             door::recover_page_freeblocks(db, c.numbers[0], v, hints, &mut l.rows, &mut l.cols)
         }),
-        _ => made(|c, l, v| door::scan_page_gap(&c.slices[0], c.numbers[0], v, &c.slices[1], &mut l.rows, &mut l.cols)),
+        _ => made(|c, l, v| {
+            let (db, hints) = (&c.slices[0], &c.slices[1]);
+            door::scan_page_gap(c.numbers[0], db, c.numbers[1], v, hints, &mut l.rows, &mut l.cols)
+        }),
     }
 }
 
-fn of_tables(call: door::OfTables, c: &Case, l: &mut Lent) -> door::Answer<1> {
-    let tables = [&c.words[0][..], &c.words[1]];
-    call(&c.slices[0], c.numbers[0], tables, &c.slices[1], &mut l.bytes, &mut l.stack, [&mut l.rows, &mut l.cols])
+fn tables(c: &Case) -> [&[u64]; 2] {
+    [&c.words[0], &c.words[1]]
 }
 
 fn of_region(call: u8) -> Ours {
@@ -134,11 +142,12 @@ fn of_region(call: u8) -> Ours {
             door::recover_slice_freeblocks(&c.slices[0], head, base, &c.slices[1], &mut l.rows, &mut l.cols)
         }),
         GAP_SLICE => made(|c, l, _| {
-            let (head, base) = (c.numbers[0] as usize, c.numbers[1]);
-            door::scan_single_page_gap(&c.slices[0], head, base, &c.slices[1], &mut l.rows, &mut l.cols)
+            let (page, hints, head, base) = (&c.slices[0], &c.slices[1], c.numbers[1] as usize, c.numbers[2]);
+            door::scan_single_page_gap(c.numbers[0], page, head, base, hints, &mut l.rows, &mut l.cols)
         }),
         BLOCK => made(|c, l, _| {
-            door::parse_cells_from_freeblock(&c.slices[0], c.numbers[0], &c.slices[1], &mut l.rows, &mut l.cols)
+            let (payload, hints, base) = (&c.slices[0], &c.slices[1], c.numbers[1]);
+            door::parse_cells_from_freeblock(c.numbers[0], payload, base, hints, &mut l.rows, &mut l.cols)
         }),
         MODES => {
             made(|c, l, v| door::carve_freeblock(&c.slices[0], v, c.numbers[1] as usize, &mut l.rows, &mut l.cols))

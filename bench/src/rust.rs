@@ -1,6 +1,6 @@
 //! The given Rust: the function that each call carries over, with its own input made beforehand.
 
-use crate::calls::forms::{lent_tables, rooted, Rooted};
+use crate::calls::forms::{in_the_rust, lent_tables, rooted, Rooted};
 use crate::calls::freeblock::{context, rust_page};
 use crate::calls::learn::{database, groups, record};
 use crate::calls::scan::signature;
@@ -37,6 +37,7 @@ fn made<'a, T: 'static>(call: impl Fn(u64) -> T + 'a) -> Option<Rust<'a>> {
 /// None where the Rust has no such call.
 pub fn of(case: &Case) -> Option<Rust<'_>> {
     match case.call {
+        _ if !in_the_rust(case) => None,
         READ_VARINT | DECODE | COMPATIBLE => of_values(case),
         STATEMENT | SEARCH | LEARN | UNALLOC | MODES => of_others(case),
         PAGE_DATA | LEAVES | RECOVER | GAPS => of_database(case),
@@ -78,7 +79,7 @@ fn of_others(case: &Case) -> Option<Rust<'_>> {
 }
 
 fn of_database(case: &Case) -> Option<Rust<'_>> {
-    let (db, size) = (&case.slices[0][..], case.numbers[0]);
+    let (db, size) = (&case.slices[0][..], rebuilding(case).1[0]);
     match case.call {
         PAGE_DATA => made(move |v| get_page_data(db, v as u32, size as usize).map(|found| (found.0.as_ptr(), found.1))),
         LEAVES => made(move |_| collect_leaf_pages(db, size as u32, case.numbers[1] as u32)),
@@ -103,7 +104,8 @@ fn tables(case: &Case) -> Vec<Rooted> {
 fn of_hints(case: &Case) -> Option<Rust<'_>> {
     let bytes = &case.slices.first()?[..];
     let signature = signature(case.slices.get(1)?)?;
-    let (first, second) = (case.numbers[0], case.numbers.get(1).copied().unwrap_or(0));
+    let numbers = rebuilding(case).1;
+    let (first, second) = (numbers[0], numbers.get(1).copied().unwrap_or(0));
     let size = first as usize;
     match case.call {
         ATTEMPT => made(move |v| signature.try_parse_record(bytes, v as usize)),

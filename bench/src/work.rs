@@ -17,8 +17,8 @@ pub struct Work {
 pub fn swept(call: u8) -> Option<usize> {
     match call {
         READ_VARINT | BODY_LENGTH | MODES => Some(0),
-        DECODE | COMPATIBLE | ATTEMPT | PAGE_DATA | RECOVER_PAGE | GAP_PAGE => Some(1),
-        READ_ENTRY => Some(2),
+        DECODE | COMPATIBLE | ATTEMPT | PAGE_DATA | RECOVER_PAGE => Some(1),
+        READ_ENTRY | GAP_PAGE => Some(2),
         _ => None,
     }
 }

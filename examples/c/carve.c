@@ -31,7 +31,7 @@ static const char LETTERS[] = "IRTBNA";
 
 static const char *const REFUSALS[] = {
     "not refused",
-    "a table has 1 to 126 columns",
+    "a table has 1 to 510 columns",
     "an unknown hint, or a bad column entry",
     "a region larger than 16 MiB, or a statement of more than 65,536 bytes",
     "the base is above 2^48",

@@ -44,15 +44,16 @@ CALL u64 phs_recover_page_freeblocks(const u8 *db, u64 len, u64 page_size, u64 p
                                        u64 *rows, u64 rows_len, u64 *cols, u64 cols_len, u64 *out);
 CALL u64 phs_recover_slice_freeblocks(const u8 *page, u64 len, u64 head, u64 base, const u8 *hints, u64 hints_len,
                                         u64 *rows, u64 rows_len, u64 *cols, u64 cols_len, u64 *out);
-CALL u64 phs_scan_page_gaps(const u8 *db, u64 len, u64 page_size, const u64 *roots, u64 roots_len, const u64 *counts,
-                              u64 counts_len, const u8 *hints, u64 hints_len, u8 *flags, u64 flags_len, u64 *stack,
-                              u64 stack_len, u64 *rows, u64 rows_len, u64 *cols, u64 cols_len, u64 *out);
-CALL u64 phs_scan_page_gap(const u8 *db, u64 len, u64 page_size, u64 page, const u8 *hints, u64 hints_len, u64 *rows,
-                             u64 rows_len, u64 *cols, u64 cols_len, u64 *out);
-CALL u64 phs_scan_single_page_gap(const u8 *page, u64 len, u64 head, u64 base, const u8 *hints, u64 hints_len,
-                                    u64 *rows, u64 rows_len, u64 *cols, u64 cols_len, u64 *out);
-CALL u64 phs_parse_cells_from_freeblock(const u8 *data, u64 len, u64 base, const u8 *hints, u64 hints_len, u64 *rows,
-                                          u64 rows_len, u64 *cols, u64 cols_len, u64 *out);
+CALL u64 phs_scan_page_gaps(u64 rebuilding, const u8 *db, u64 len, u64 page_size, const u64 *roots, u64 roots_len,
+                              const u64 *counts, u64 counts_len, const u8 *hints, u64 hints_len, u8 *flags,
+                              u64 flags_len, u64 *stack, u64 stack_len, u64 *rows, u64 rows_len, u64 *cols,
+                              u64 cols_len, u64 *out);
+CALL u64 phs_scan_page_gap(u64 rebuilding, const u8 *db, u64 len, u64 page_size, u64 page, const u8 *hints,
+                             u64 hints_len, u64 *rows, u64 rows_len, u64 *cols, u64 cols_len, u64 *out);
+CALL u64 phs_scan_single_page_gap(u64 rebuilding, const u8 *page, u64 len, u64 head, u64 base, const u8 *hints,
+                                    u64 hints_len, u64 *rows, u64 rows_len, u64 *cols, u64 cols_len, u64 *out);
+CALL u64 phs_parse_cells_from_freeblock(u64 rebuilding, const u8 *data, u64 len, u64 base, const u8 *hints,
+                                          u64 hints_len, u64 *rows, u64 rows_len, u64 *cols, u64 cols_len, u64 *out);
 CALL u64 phs_carve_freeblock(const u8 *data, u64 len, u64 base, u64 columns, u64 *rows, u64 rows_len, u64 *cols,
                                u64 cols_len, u64 *out);
 CALL u64 phs_learn_signatures(const u8 *bytes, u64 len, u64 width, const u64 *entries, u64 entries_len, u64 *types,
@@ -224,11 +225,11 @@ static u64 make_call(int call, const struct frame *f, u64 *out, u64 *words) {
         return phs_recover_slice_freeblocks(a, la, n[0], n[1], b, lb, w[0], l[0], w[1], l[1], out);
     case 16:
         *words = 1;
-        return phs_scan_page_gaps(a, la, n[0], f->wide[0], f->wides[0], f->wide[1], f->wides[1], b, lb, f->cells[0], l[0],
-                                  w[1], l[1], w[2], l[2], w[3], l[3], out);
-    case 17: *words = 1; return phs_scan_page_gap(a, la, n[0], n[1], b, lb, w[0], l[0], w[1], l[1], out);
-    case 18: *words = 1; return phs_scan_single_page_gap(a, la, n[0], n[1], b, lb, w[0], l[0], w[1], l[1], out);
-    case 19: *words = 1; return phs_parse_cells_from_freeblock(a, la, n[0], b, lb, w[0], l[0], w[1], l[1], out);
+        return phs_scan_page_gaps(n[0], a, la, n[1], f->wide[0], f->wides[0], f->wide[1], f->wides[1], b, lb,
+                                  f->cells[0], l[0], w[1], l[1], w[2], l[2], w[3], l[3], out);
+    case 17: *words = 1; return phs_scan_page_gap(n[0], a, la, n[1], n[2], b, lb, w[0], l[0], w[1], l[1], out);
+    case 18: *words = 1; return phs_scan_single_page_gap(n[0], a, la, n[1], n[2], b, lb, w[0], l[0], w[1], l[1], out);
+    case 19: *words = 1; return phs_parse_cells_from_freeblock(n[0], a, la, n[1], b, lb, w[0], l[0], w[1], l[1], out);
     case 20: *words = 1; return phs_carve_freeblock(a, la, n[0], n[1], w[0], l[0], w[1], l[1], out);
     case 21: *words = 1; return phs_learn_signatures(a, la, n[0], f->wide[0], f->wides[0], w[0], l[0], out);
     case 22:

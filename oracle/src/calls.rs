@@ -85,10 +85,10 @@ pub const CALLS: &[Call] = &[
     },
     call("recover_page_freeblocks", (2, 2, 1), ROWS_AND_COLUMNS, freeblock::page, freeblock::given_page),
     call("recover_slice_freeblocks", (2, 2, 1), ROWS_AND_COLUMNS, freeblock::slice, freeblock::given_slice),
-    Call { words: 2, ..call("scan_page_gaps", (1, 2, 1), WALK_AND_ROWS, gap::tables, gap::given_tables) },
-    call("scan_page_gap", (2, 2, 1), ROWS_AND_COLUMNS, gap::page, gap::given_page),
-    call("scan_single_page_gap", (2, 2, 1), ROWS_AND_COLUMNS, gap::slice, gap::given_slice),
-    call("parse_cells_from_freeblock", (1, 2, 1), ROWS_AND_COLUMNS, gap::block, gap::given_block),
+    Call { words: 2, ..call("scan_page_gaps", (2, 2, 1), WALK_AND_ROWS, gap::tables, gap::given_tables) },
+    call("scan_page_gap", (3, 2, 1), ROWS_AND_COLUMNS, gap::page, gap::given_page),
+    call("scan_single_page_gap", (3, 2, 1), ROWS_AND_COLUMNS, gap::slice, gap::given_slice),
+    call("parse_cells_from_freeblock", (2, 2, 1), ROWS_AND_COLUMNS, gap::block, gap::given_block),
     call("carve_freeblock", (2, 1, 1), ROWS_AND_COLUMNS, carve::modes, carve::given_modes),
     Call { words: 1, ..call("learn_signatures", (1, 1, 1), &[Cell::Word], learn::learn, learn::given_learn) },
     Call { words: 1, ..call("carve_unallocated", (1, 1, 1), ROWS_AND_COLUMNS, learn::carve, learn::given_carve) },
@@ -106,6 +106,14 @@ const fn call(
 
 pub fn of(case: &Case) -> &'static Call {
     &CALLS[case.call as usize - 1]
+}
+
+/// The way in which headers are to be rebuilt, by its code: the first number of the calls that do so. Then the other numbers.
+pub fn rebuilding(case: &Case) -> (Option<u64>, &[u64]) {
+    match case.call {
+        GAPS..=BLOCK => (Some(case.numbers[0]), &case.numbers[1..]),
+        _ => (None, &case.numbers),
+    }
 }
 
 /// Agrees, or differs with both sides shown.

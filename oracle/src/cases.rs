@@ -13,6 +13,7 @@ pub mod limits;
 pub mod modes;
 pub mod numbers;
 pub mod payloads;
+pub mod rebuilding;
 pub mod records;
 pub mod regions;
 pub mod rooms;
@@ -53,8 +54,8 @@ const GROUPS: [(usize, Group); 8] = [
 /// The same for the calls on pages, whose random cases come on top.
 const PAGE_GROUPS: [(usize, Group); 4] = [(1, numbers::all), (30, chains::all), (8, walks::all), (8, tables::all)];
 
-/// The same for the carver of gaps and freed blocks.
-const GAP_GROUPS: [(usize, Group); 3] = [(36, gaps::all), (12, gaps::walks), (30, blocks::all)];
+/// The same for the carver of gaps and freed blocks, where each case goes both ways.
+const GAP_GROUPS: [(usize, Group); 4] = [(28, gaps::all), (10, gaps::walks), (24, blocks::all), (2, rebuilding::all)];
 
 /// The same for the three modes, and for learning.
 const CARVING_GROUPS: [(usize, Group); 3] = [(24, modes::all), (20, learning::all), (24, learned::all)];

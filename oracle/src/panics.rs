@@ -2,14 +2,14 @@
 //! answering by the rules; a panic anywhere else is a difference.
 
 use crate::calls::forms::lent_tables;
-use crate::calls::{BLOCK, DECODE, GAPS, GAP_PAGE, GAP_SLICE, RECOVER_SLICE, STATEMENT};
+use crate::calls::{rebuilding, BLOCK, DECODE, GAPS, GAP_PAGE, GAP_SLICE, RECOVER_SLICE, STATEMENT};
 use crate::case::Case;
 use crate::cases::bytes::varint;
 use crate::cases::chains::LAST_HEAD;
 use crate::cases::databases::leaf;
 use crate::compare::{against_ours, expected, Asked};
 use crate::rules::gap::{each_cell, payloads};
-use crate::rules::limits::Limits;
+use crate::rules::limits::{Limits, ONE_BYTE};
 use crate::rules::page::{page, Page};
 use crate::rules::value::body_length;
 use crate::rules::walk::walk;
@@ -22,7 +22,8 @@ pub const LAST_GAP_HEAD: u64 = u64::MAX - 8;
 /// Whether the Rust panics on a case, if it is asked.
 pub fn foreseen(case: &Case) -> bool {
     let limits = &Limits::of_the_rules();
-    let (number, slice) = (|i: usize| case.numbers[i], |i: usize| &case.slices[i][..]);
+    let numbers = rebuilding(case).1;
+    let (number, slice) = (|i: usize| numbers[i], |i: usize| &case.slices[i][..]);
     let far = |bytes: &[u8], hints: &[u8]| far_cell(limits, bytes, hints);
     let far_on = |page: &Page, hints: &[u8]| {
         payloads(limits, page.bytes, page.header).into_iter().any(|payload| far(&page.bytes[payload], hints))
@@ -95,13 +96,13 @@ fn of_gaps() -> Vec<Case> {
         let block = [vec![0; before], varint(length, 9), vec![7, 2, 8]].concat();
         let mut page = vec![0; 512];
         leaf(&mut page, 0, &[vec![2, 8], block.clone()]);
-        cases.push(Case::new(BLOCK, &[0], &[&block, &[0]], &[80, 40]));
-        cases.push(Case::new(GAP_SLICE, &[0, 0], &[&page, &[0]], &[80, 40]));
-        cases.push(Case::new(GAP_PAGE, &[512, 2], &[&page.repeat(2), &[0]], &[80, 40]));
-        let tables = Case::new(GAPS, &[512], &[&page.repeat(2), &[0]], &[2, 1, 80, 40]);
+        cases.push(Case::new(BLOCK, &[ONE_BYTE, 0], &[&block, &[0]], &[80, 40]));
+        cases.push(Case::new(GAP_SLICE, &[ONE_BYTE, 0, 0], &[&page, &[0]], &[80, 40]));
+        cases.push(Case::new(GAP_PAGE, &[ONE_BYTE, 512, 2], &[&page.repeat(2), &[0]], &[80, 40]));
+        let tables = Case::new(GAPS, &[ONE_BYTE, 512], &[&page.repeat(2), &[0]], &[2, 1, 80, 40]);
         cases.push(tables.with_words(&[&[2], &[1]]));
     }
-    let far = |head: u64| Case::new(GAP_SLICE, &[head, 0], &[&[2; 16], &[0]], &[8, 4]);
+    let far = |head: u64| Case::new(GAP_SLICE, &[ONE_BYTE, head, 0], &[&[2; 16], &[0]], &[8, 4]);
     cases.extend((LAST_GAP_HEAD + 1..=u64::MAX).map(far));
     cases
 }

@@ -11,10 +11,14 @@ use crate::text;
 use std::collections::{HashMap, HashSet};
 use std::{fs, io, path::Path};
 
-/// Slices and cells of a recorded case, words of a slice, and bytes of the whole file, at most.
-const LARGEST_CASE: usize = 1200;
+/// Bytes of a slice and cells of a list of a recorded case, words of a slice, and bytes of the whole file, at most. A row of as
+/// many columns as there may be goes in.
+const LARGEST: usize = 2400;
 const MOST_WORDS: usize = 300;
 const LARGEST_FILE: usize = 3_000_000;
+
+/// Slices and cells in all of a case that is one of many.
+const LARGEST_OF_MANY: usize = 1200;
 
 /// Cases of one kind: the first few, and then ever fewer of the many.
 const FIRST: usize = 6;
@@ -47,6 +51,9 @@ impl Sink for Recorder {
 
 impl Recorder {
     fn wanted(&mut self, case: &Case, answer: &Answer) -> bool {
+        if case.size() > LARGEST_OF_MANY {
+            return false;
+        }
         let found = answer.out[0].min(3);
         let (seen, next) = self.kinds.entry((case.call, answer.number, found)).or_insert((0, 0.0));
         *seen += 1;
@@ -77,10 +84,11 @@ impl Recorder {
 
 /// A head has room for two slices and two lists: walks take more.
 fn fits(case: &Case) -> bool {
-    case.size() <= LARGEST_CASE
-        && case.slices.len() + case.words.len() <= 2
+    case.slices.len() + case.words.len() <= 2
+        && case.slices.iter().all(|slice| slice.len() <= LARGEST)
         && case.words.iter().all(|words| words.len() <= MOST_WORDS)
         && case.lists.len() <= 2
+        && case.lists.iter().all(|&cells| cells <= LARGEST)
 }
 
 /// A head of eighteen words, then the bytes of the slices, those of words behind the others, then the written cells of the

@@ -1,6 +1,8 @@
 //! The comparison can fail: with one number of the rules changed by one, a difference must be found and cut down,
 //! against our side and, where the Rust has that number too, against the Rust.
 
+mod rebuilding;
+
 use crate::calls::{BLOCK, CALLS, COMPATIBLE, GAP_SLICE, LEARN, LEAVES, MODES, PAGE_DATA, READ_VARINT};
 use crate::calls::{RECOVER, RECOVER_SLICE, SCAN, STATEMENT, UNALLOC};
 use crate::cases::gaps::{self, AsGaps};
@@ -57,12 +59,20 @@ const CHANGES: &[Change] = &[
         at_most: 9,
     },
     Change {
-        what: "126 columns are refused",
-        change: |l| l.columns = 125,
+        what: "510 columns are refused",
+        change: |l| l.columns = 509,
         call: SCAN,
         cases: limits::all,
         in_the_rust: false,
-        at_most: 126,
+        at_most: 510,
+    },
+    Change {
+        what: "511 columns are not refused",
+        change: |l| l.columns = 511,
+        call: SCAN,
+        cases: limits::all,
+        in_the_rust: false,
+        at_most: 511,
     },
     Change {
         what: "hint code 5 is refused",
@@ -81,12 +91,12 @@ const CHANGES: &[Change] = &[
         at_most: 1,
     },
     Change {
-        what: "a statement with 126 columns is refused",
-        change: |l| l.columns = 125,
+        what: "a statement with 510 columns is refused",
+        change: |l| l.columns = 509,
         call: STATEMENT,
         cases: statements::all,
         in_the_rust: true,
-        at_most: 253,
+        at_most: 1021,
     },
     Change {
         what: "a region of 16,777,216 bytes is refused",
@@ -209,12 +219,12 @@ const CHANGES: &[Change] = &[
         at_most: 3072,
     },
     Change {
-        what: "a table of 126 columns is refused",
-        change: |l| l.columns = 125,
+        what: "a table of 510 columns is refused",
+        change: |l| l.columns = 509,
         call: RECOVER,
         cases: tables::all,
         in_the_rust: false,
-        at_most: 130,
+        at_most: 514,
     },
     Change {
         what: "cell pointers of a leaf begin behind 7 bytes",
@@ -369,8 +379,8 @@ const CHANGES: &[Change] = &[
         at_most: 30,
     },
     Change {
-        what: "a block of 126 columns is refused",
-        change: |l| l.columns = 125,
+        what: "a block of 510 columns is refused",
+        change: |l| l.columns = 509,
         call: MODES,
         cases: |sink, _, _| modes::refusals(sink, &[2, 8, 0]),
         in_the_rust: false,
@@ -417,8 +427,8 @@ const CHANGES: &[Change] = &[
         at_most: 4110,
     },
     Change {
-        what: "rows of 126 columns to learn from are refused",
-        change: |l| l.columns = 125,
+        what: "rows of 510 columns to learn from are refused",
+        change: |l| l.columns = 509,
         call: LEARN,
         cases: |sink, _, _| learning::refusals(sink, &[7; 8]),
         in_the_rust: false,
@@ -465,12 +475,12 @@ const CHANGES: &[Change] = &[
         at_most: 700,
     },
     Change {
-        what: "126 learned types are refused",
-        change: |l| l.columns = 125,
+        what: "510 learned types are refused",
+        change: |l| l.columns = 509,
         call: UNALLOC,
         cases: |sink, _, _| learned::refusals(sink, &[2, 8, 0]),
         in_the_rust: false,
-        at_most: 130,
+        at_most: 514,
     },
     Change {
         what: "a database of 16,777,216 bytes is refused",
@@ -482,10 +492,14 @@ const CHANGES: &[Change] = &[
     },
 ];
 
+fn changes() -> impl Iterator<Item = &'static Change> {
+    CHANGES.iter().chain(rebuilding::CHANGES)
+}
+
 pub fn run(server: &[String]) -> bool {
     let mut good = true;
     let missing = Runner::new(Limits::of_the_rules(), server, Sides::Both).missing();
-    for change in CHANGES {
+    for change in changes() {
         let name = CALLS[change.call as usize - 1].name;
         if missing.contains(&name) {
             println!("the archive has no {name} yet, so not tried against ours: {}", change.what);
@@ -518,4 +532,53 @@ fn found(server: &[String], change: &Change, sides: Sides) -> bool {
         println!("NOT CUT DOWN to {} bytes and cells", change.at_most);
     }
     difference.case.size() <= change.at_most
+}
+
+#[cfg(test)]
+mod tests {
+    use super::*;
+    use crate::calls;
+    use crate::case::Case;
+    use crate::cases::telling;
+
+    /// The rules as they are, against those with one change; this needs neither the Rust nor an archive.
+    struct Noticing {
+        rules: Limits,
+        changed: Limits,
+        call: u8,
+        noticed: bool,
+    }
+
+    impl Sink for Noticing {
+        fn put(&mut self, case: Case) {
+            if !self.noticed && case.call == self.call {
+                let answer = calls::of(&case).answer;
+                self.noticed = answer(&self.rules, &case) != answer(&self.changed, &case);
+            }
+        }
+    }
+
+    fn noticed(change: &Change, cases: impl FnOnce(&mut Noticing)) -> bool {
+        let mut changed = Limits::of_the_rules();
+        (change.change)(&mut changed);
+        let mut sink = Noticing { rules: Limits::of_the_rules(), changed, call: change.call, noticed: false };
+        cases(&mut sink);
+        sink.noticed
+    }
+
+    #[test]
+    fn the_cases_show_each_change() {
+        for change in changes() {
+            let shown = noticed(change, |sink| (change.cases)(sink, &mut Random::new(1), 0));
+            assert!(shown, "{}", change.what);
+        }
+    }
+
+    /// But for those of walks and of the longest rows, which are not recorded.
+    #[test]
+    fn the_recorded_cases_show_the_changes_of_rebuilding() {
+        for change in rebuilding::CHANGES.iter().filter(|c| c.call == BLOCK && c.at_most < 65_536) {
+            assert!(noticed(change, |sink| telling::all(sink)), "{}", change.what);
+        }
+    }
 }

@@ -3,7 +3,8 @@
 
 mod carvers;
 
-use crate::calls::{self, ATTEMPT, GAPS, GAP_PAGE, GAP_SLICE, RECOVER, RECOVER_PAGE, RECOVER_SLICE, SCAN, STATEMENT};
+use self::carvers::CARVERS;
+use crate::calls::{self, ATTEMPT, SCAN, STATEMENT};
 use crate::case::Case;
 use crate::cases::databases::FIRST_HEADER;
 use crate::cases::regions::lists;
@@ -19,6 +20,7 @@ use std::{fs, io};
 /// No row of these tables is shorter.
 const SHORTEST_ROW: usize = 5;
 const NULL_HINT: u8 = 4;
+const KEY_AS_NULL: &str = "key as NULL";
 const UNUSED: u64 = 3;
 /// Of the rows that are looked for at every offset; with four or five columns one may be unsuited.
 const LEAST_CONFIDENCE: f32 = 0.7;
@@ -26,6 +28,8 @@ const LEAST_CONFIDENCE: f32 = 0.7;
 struct Tablet {
     name: String,
     page: usize,
+    /// Without a key.
+    columns: usize,
     hints: Vec<u8>,
     deleted: HashSet<String>,
     kept: HashSet<String>,
@@ -45,10 +49,14 @@ struct Back {
     deleted: HashSet<String>,
     live: usize,
     none: usize,
+    refused: bool,
 }
 
 impl Back {
     fn shown(&self) -> String {
+        if self.refused {
+            return "refused".into();
+        }
         format!("{}, {}, {}", self.deleted.len(), self.live, self.none)
     }
 }
@@ -63,20 +71,18 @@ pub fn run(runner: &mut Runner, folder: &str) -> io::Result<bool> {
         println!("WITH THE RUST ALONE, since the archive does not have it: {}\n", missing.join(", "));
     }
     println!("Rows found: deleted, kept, and none; by the scan, at every offset with confidence from {LEAST_CONFIDENCE}, in freed");
-    println!("blocks and in free space of the table's leaves (in a log of each leaf), in three modes of each free block of a leaf, and by");
-    println!("learned types over each page.\n");
+    println!("blocks and in free space of the table's leaves (in a log of each leaf), with headers rebuilt in one byte and exactly, in");
+    println!("three modes of each free block of a leaf, and by learned types over each page.\n");
     println!(
-        "| database | hints | deleted | the scan | every offset | freed blocks | free space | three modes | learned |"
+        "| database | hints | deleted | the scan | every offset | freed blocks | one byte | exact | three modes | learned |"
     );
-    println!("|---|---|---|---|---|---|---|---|---|");
+    println!("|---|---|---|---|---|---|---|---|---|---|");
     for name in &names {
         let statement = fs::read(Path::new(folder).join(format!("{name}.sql")))?;
         let hints = hints_of(runner, &statement);
-        scan_both(runner, folder, name, hints.clone(), "statement")?;
+        scan_both(runner, folder, name, &hints, "statement")?;
         if name.contains("-key") {
-            // The key's column is NULL in each record, and the statement's hints leave it out.
-            let with_key = [&[NULL_HINT][..], &hints].concat();
-            scan_both(runner, folder, name, with_key, "key as NULL")?;
+            scan_both(runner, folder, name, &hints, KEY_AS_NULL)?;
         }
     }
     runner.finish();
@@ -91,14 +97,14 @@ pub fn run(runner: &mut Runner, folder: &str) -> io::Result<bool> {
 }
 
 fn hints_of(runner: &mut Runner, statement: &[u8]) -> Vec<u8> {
-    let case = Case::new(STATEMENT, &[], &[statement], &[126]);
+    let case = Case::new(STATEMENT, &[], &[statement], &[runner.limits.columns]);
     let answer = (calls::of(&case).answer)(&runner.limits, &case);
     runner.put(case);
     answer.lists[0].iter().map(|&h| h as u8).collect()
 }
 
 /// The database page by page, and its log frame by frame.
-fn scan_both(runner: &mut Runner, folder: &str, name: &str, hints: Vec<u8>, which: &str) -> io::Result<()> {
+fn scan_both(runner: &mut Runner, folder: &str, name: &str, hints: &[u8], which: &str) -> io::Result<()> {
     let path = |end: &str| Path::new(folder).join(format!("{name}{end}"));
     let lines = |end: &str| -> io::Result<HashSet<String>> {
         Ok(fs::read_to_string(path(end))?.lines().map(String::from).collect())
@@ -107,22 +113,22 @@ fn scan_both(runner: &mut Runner, folder: &str, name: &str, hints: Vec<u8>, whic
     let mut tablet = Tablet {
         name: name.to_string(),
         page: page_size(&db),
-        hints,
+        columns: hints.len(),
+        // The key's column is NULL in each record, and the statement's hints leave it out.
+        hints: if which == KEY_AS_NULL { [&[NULL_HINT][..], hints].concat() } else { hints.to_vec() },
         deleted: lines(".deleted")?,
         kept: lines(".kept")?,
         types: Vec::new(),
     };
     let leaves = pages(&db, 0, 0, tablet.page);
     tablet.types = carvers::learn(runner, &tablet, &db, &leaves);
-    let freed = carvers::table(runner, &tablet, &db, (RECOVER, RECOVER_PAGE));
-    let gaps = carvers::table(runner, &tablet, &db, (GAPS, GAP_PAGE));
-    report(runner, &tablet, which, &leaves, [&freed, &gaps]);
+    let found = CARVERS.each_ref().map(|carver| carvers::table(runner, &tablet, &db, carver));
+    report(runner, &tablet, which, &leaves, found);
     if let Ok(log) = fs::read(path(".db-wal")) {
         let which = format!("{which}, log");
         let leaves = pages(&log, 32, 24, tablet.page);
-        let freed = carvers::leaves(runner, &tablet, &leaves, RECOVER_SLICE);
-        let gaps = carvers::leaves(runner, &tablet, &leaves, GAP_SLICE);
-        report(runner, &tablet, &which, &leaves, [&freed, &gaps]);
+        let found = CARVERS.each_ref().map(|carver| carvers::leaves(runner, &tablet, &leaves, carver));
+        report(runner, &tablet, &which, &leaves, found);
     }
     Ok(())
 }
@@ -145,7 +151,7 @@ fn pages(file: &[u8], head: usize, before: usize, size: usize) -> Vec<Leaf<'_>> 
     (head..file.len()).step_by(before + size).filter_map(page).collect()
 }
 
-fn report(runner: &mut Runner, tablet: &Tablet, which: &str, pages: &[Leaf], [freed, gaps]: [&Back; 2]) {
+fn report(runner: &mut Runner, tablet: &Tablet, which: &str, pages: &[Leaf], [freed, one_byte, exact]: [Back; 3]) {
     let mut scanned = Back::default();
     let mut tried = Back::default();
     for page in pages {
@@ -156,13 +162,14 @@ fn report(runner: &mut Runner, tablet: &Tablet, which: &str, pages: &[Leaf], [fr
     }
     let modes = carvers::modes(runner, tablet, pages);
     let learned = carvers::learned(runner, tablet, pages);
-    let found = [&scanned, &tried, freed, gaps, &modes, &learned].map(Back::shown).join(" | ");
+    let found = [scanned, tried, freed, one_byte, exact, modes, learned].map(|back| back.shown()).join(" | ");
     println!("| {} | {which} | {} | {found} |", tablet.name, tablet.deleted.len());
 }
 
 /// Sorts in the rows of a case, and puts it and a damaged copy. Its last list has a group of so many entries for each row.
 fn put_counted(runner: &mut Runner, tablet: &Tablet, case: Case, width: usize, back: &mut Back) {
     let answer = (calls::of(&case).answer)(&runner.limits, &case);
+    back.refused = answer.number != 0;
     let groups = answer.lists.last().map_or(&[][..], |list| list);
     for group in groups.chunks(WORDS_PER_ENTRY * width) {
         sort_in(tablet, &case.slices[0], group, back);
@@ -206,7 +213,7 @@ fn put_damaged(runner: &mut Runner, case: &Case, seed: u64) {
 fn sort_in(tablet: &Tablet, page: &[u8], group: &[u64], back: &mut Back) {
     let used = group.chunks(WORDS_PER_ENTRY).filter(|entry| entry[0] != UNUSED);
     let columns: Vec<String> = used.map(|entry| shown(page, entry)).collect();
-    let key = columns.len() - columns.len().min(4);
+    let key = columns.len() - columns.len().min(tablet.columns);
     let line = columns[key..].join("|");
     if tablet.deleted.contains(&line) {
         back.deleted.insert(line);

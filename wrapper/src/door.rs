@@ -6,14 +6,13 @@
 use std::sync::Once;
 
 /// The words that this crate knows: `PHS_VERSION` of the header.
-const VERSION: u64 = 1;
+const VERSION: u64 = 2;
 
 /// A refusal number, 0 for none, with the words of `out`.
 pub type Answer<const N: usize> = (u64, [u64; N]);
 
-/// A call over the leaves of tables.
-pub type OfTables =
-    fn(&[u8], u64, [&[u64]; 2], &[u8], &mut [u8], &mut [u64], [&mut [u64]; 2]) -> Answer<1>;
+/// Page flags and page stack, side by side.
+pub type Walk<'a> = (&'a mut [u8], &'a mut [u64]);
 
 /// Declared as in the header.
 mod c {
@@ -155,6 +154,7 @@ mod c {
         ) -> u64;
 
         pub fn phs_scan_page_gaps(
+            rebuilding: u64,
             db: *const u8,
             len: usize,
             page_size: u64,
@@ -176,6 +176,7 @@ mod c {
         ) -> u64;
 
         pub fn phs_scan_page_gap(
+            rebuilding: u64,
             db: *const u8,
             len: usize,
             page_size: u64,
@@ -190,6 +191,7 @@ mod c {
         ) -> u64;
 
         pub fn phs_scan_single_page_gap(
+            rebuilding: u64,
             page: *const u8,
             len: usize,
             header: usize,
@@ -204,6 +206,7 @@ mod c {
         ) -> u64;
 
         pub fn phs_parse_cells_from_freeblock(
+            rebuilding: u64,
             payload: *const u8,
             len: usize,
             base: u64,
@@ -437,8 +440,7 @@ pub fn recover_freeblocks(
     page_size: u64,
     [roots, counts]: [&[u64]; 2],
     hints: &[u8],
-    flags: &mut [u8],
-    stack: &mut [u64],
+    (flags, stack): Walk,
     [rows, cols]: [&mut [u64]; 2],
 ) -> Answer<1> {
     answer(|out| unsafe {
@@ -516,16 +518,17 @@ pub fn recover_slice_freeblocks(
 }
 
 pub fn scan_page_gaps(
+    rebuilding: u64,
     db: &[u8],
     page_size: u64,
     [roots, counts]: [&[u64]; 2],
     hints: &[u8],
-    flags: &mut [u8],
-    stack: &mut [u64],
+    (flags, stack): Walk,
     [rows, cols]: [&mut [u64]; 2],
 ) -> Answer<1> {
     answer(|out| unsafe {
         c::phs_scan_page_gaps(
+            rebuilding,
             db.as_ptr(),
             db.len(),
             page_size,
@@ -549,6 +552,7 @@ pub fn scan_page_gaps(
 }
 
 pub fn scan_page_gap(
+    rebuilding: u64,
     db: &[u8],
     page_size: u64,
     page: u64,
@@ -558,6 +562,7 @@ pub fn scan_page_gap(
 ) -> Answer<1> {
     answer(|out| unsafe {
         c::phs_scan_page_gap(
+            rebuilding,
             db.as_ptr(),
             db.len(),
             page_size,
@@ -574,6 +579,7 @@ pub fn scan_page_gap(
 }
 
 pub fn scan_single_page_gap(
+    rebuilding: u64,
     page: &[u8],
     header: usize,
     base: u64,
@@ -583,6 +589,7 @@ pub fn scan_single_page_gap(
 ) -> Answer<1> {
     answer(|out| unsafe {
         c::phs_scan_single_page_gap(
+            rebuilding,
             page.as_ptr(),
             page.len(),
             header,
@@ -599,6 +606,7 @@ pub fn scan_single_page_gap(
 }
 
 pub fn parse_cells_from_freeblock(
+    rebuilding: u64,
     payload: &[u8],
     base: u64,
     hints: &[u8],
@@ -607,6 +615,7 @@ pub fn parse_cells_from_freeblock(
 ) -> Answer<1> {
     answer(|out| unsafe {
         c::phs_parse_cells_from_freeblock(
+            rebuilding,
             payload.as_ptr(),
             payload.len(),
             base,

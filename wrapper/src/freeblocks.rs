@@ -12,7 +12,9 @@ pub fn recover_freeblocks<'a>(
     page_size: usize,
     tables: &[Table],
 ) -> Result<Vec<Record<'a>>, Refusal> {
-    of_tables(db, page_size, tables, door::recover_freeblocks)
+    of_tables(db, page_size, tables, |tables, hints, walk, lists| {
+        door::recover_freeblocks(db, page_size as u64, tables, hints, walk, lists)
+    })
 }
 
 /// The rows in the freed blocks of the page `number` of a database; its type is not looked at.

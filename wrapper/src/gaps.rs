@@ -6,33 +6,71 @@ use crate::rows::codes;
 use crate::tables::{grown, of_tables};
 use crate::{Hint, Record, Refusal, Table};
 
+/// How a record of a freed block is rebuilt whose header length is lost. At each byte its types are taken to begin.
+///
+/// Lend [`Rebuilding::Exact`], unless the rows are to be those of the Rust that the library is held against. Neither finds all rows
+/// that the other does, and both find rows that are none.
+#[derive(Clone, Copy, Debug, PartialEq, Eq, Hash)]
+pub enum Rebuilding {
+    /// The types take one byte each: no note may have more than 57 bytes, and no table more than
+    /// [`MOST_ONE_BYTE_COLUMNS`](crate::MOST_ONE_BYTE_COLUMNS) columns.
+    OneByte = 1,
+    /// As many types as there are columns, whatever bytes they take, up to 510 in all; the bodies stand behind them.
+    Exact = 2,
+}
+
 /// The rows in the free space of the tables' leaves, in the order of the tables and of each one's walk
 /// ([`leaf_pages`](crate::leaf_pages)). A row's `table` is the index here, and its offset the place in the database. Rows
 /// of whole cells have a row id.
+///
+/// A freed record with a note of 58 bytes; the four bytes of the block's link lie over its length, its row id and its header length.
+///
+/// ```
+/// # use phsarodil::{scan_page_gaps, Hint, Rebuilding, Table, Value};
+/// let note = [b'n'; 58];
+/// let mut db = vec![0; 2 * 512];
+/// db[512] = 13;
+/// db[513..515].copy_from_slice(&[1, 44]);
+/// db[512 + 300..][..8].copy_from_slice(&[0, 0, 0, 66, 1, 0x81, 0x01, 42]);
+/// db[512 + 308..][..58].copy_from_slice(&note);
+/// let tables = [Table { root: 2, hints: vec![Hint::Integer, Hint::Text] }];
+/// let records = scan_page_gaps(Rebuilding::Exact, &db, 512, &tables)?;
+/// assert_eq!(records[0].values()?, [Value::Integer(42), Value::Text(&note)]);
+/// // Here the text begins with the integer.
+/// let records = scan_page_gaps(Rebuilding::OneByte, &db, 512, &tables)?;
+/// assert_eq!(records[0].values()?[0], Value::Integer(1));
+/// # Ok::<(), phsarodil::Refusal>(())
+/// ```
 pub fn scan_page_gaps<'a>(
+    rebuilding: Rebuilding,
     db: &'a [u8],
     page_size: usize,
     tables: &[Table],
 ) -> Result<Vec<Record<'a>>, Refusal> {
-    of_tables(db, page_size, tables, door::scan_page_gaps)
+    of_tables(db, page_size, tables, |tables, hints, walk, lists| {
+        let size = page_size as u64;
+        door::scan_page_gaps(rebuilding as u64, db, size, tables, hints, walk, lists)
+    })
 }
 
 /// The rows in the free space of the page `number` of a database; its type is not looked at.
 pub fn scan_page_gap<'a>(
+    rebuilding: Rebuilding,
     db: &'a [u8],
     page_size: usize,
     number: u64,
     hints: &[Hint],
 ) -> Result<Vec<Record<'a>>, Refusal> {
-    let codes = codes(hints);
+    let (codes, size) = (codes(hints), page_size as u64);
     grown(codes.len(), db, |rows, cols| {
-        door::scan_page_gap(db, page_size as u64, number, &codes, rows, cols)
+        door::scan_page_gap(rebuilding as u64, db, size, number, &codes, rows, cols)
     })
 }
 
 /// The rows in the free space of a page that is lent by itself, with its b-tree header at `header` and its first byte at
 /// the offset `base` of its file.
 pub fn scan_single_page_gap<'a>(
+    rebuilding: Rebuilding,
     page: &'a [u8],
     header: usize,
     base: u64,
@@ -40,27 +78,29 @@ pub fn scan_single_page_gap<'a>(
 ) -> Result<Vec<Record<'a>>, Refusal> {
     let codes = codes(hints);
     grown(codes.len(), page, |rows, cols| {
-        door::scan_single_page_gap(page, header, base, &codes, rows, cols)
+        door::scan_single_page_gap(rebuilding as u64, page, header, base, &codes, rows, cols)
     })
 }
 
 /// The rows in what stands behind the first four bytes of one freed block: whole cells, then records whose header length
 /// is lost.
 pub fn parse_cells_from_freeblock<'a>(
+    rebuilding: Rebuilding,
     payload: &'a [u8],
     base: u64,
     hints: &[Hint],
 ) -> Result<Vec<Record<'a>>, Refusal> {
     let codes = codes(hints);
     grown(codes.len(), payload, |rows, cols| {
-        door::parse_cells_from_freeblock(payload, base, &codes, rows, cols)
+        door::parse_cells_from_freeblock(rebuilding as u64, payload, base, &codes, rows, cols)
     })
 }
 
 #[cfg(test)]
 mod tests {
     use super::*;
-    use crate::{Source, Value};
+    use crate::{Source, Value, MOST_COLUMNS, MOST_ONE_BYTE_COLUMNS};
+    use Rebuilding::{Exact, OneByte};
 
     const HINTS: [Hint; 2] = [Hint::Integer, Hint::Text];
 
@@ -69,36 +109,78 @@ mod tests {
 
     #[test]
     fn a_cell_has_its_row_id() {
-        let records = parse_cells_from_freeblock(&CELL, 100, &HINTS).unwrap();
-        assert_eq!(records[0].row.offset, 102);
-        assert_eq!(records[0].row.id, Some(7));
-        assert_eq!(records[0].row.source, Source::CarvedIntraPage(100));
-        assert_eq!(
-            records[0].values().unwrap(),
-            [Value::Integer(42), Value::Text(b"hipik")]
-        );
+        for way in [OneByte, Exact] {
+            let records = parse_cells_from_freeblock(way, &CELL, 100, &HINTS).unwrap();
+            assert_eq!(records[0].row.offset, 102);
+            assert_eq!(records[0].row.id, Some(7));
+            assert_eq!(records[0].row.source, Source::CarvedIntraPage(100));
+            assert_eq!(
+                records[0].values().unwrap(),
+                [Value::Integer(42), Value::Text(b"hipik")]
+            );
+        }
     }
 
     #[test]
     fn a_lost_header_length_is_made_up() {
-        let records = parse_cells_from_freeblock(&CELL[3..], 0, &HINTS).unwrap();
-        assert_eq!(records[0].row.offset, 0);
-        assert_eq!(records[0].row.id, None);
-        assert_eq!(records[0].row.source, Source::CarvedIntraPage(90));
+        for way in [OneByte, Exact] {
+            let records = parse_cells_from_freeblock(way, &CELL[3..], 0, &HINTS).unwrap();
+            assert_eq!(records[0].row.offset, 0);
+            assert_eq!(records[0].row.consumed, 8);
+            assert_eq!(records[0].row.id, None);
+            assert_eq!(records[0].row.source, Source::CarvedIntraPage(90));
+            assert_eq!(
+                records[0].values().unwrap(),
+                [Value::Integer(42), Value::Text(b"hipik")]
+            );
+        }
+    }
+
+    #[test]
+    fn neither_list_holds_the_other() {
+        let starts = |way, payload: &[u8], hints: &[Hint]| -> Vec<u64> {
+            let records = parse_cells_from_freeblock(way, payload, 0, hints).unwrap();
+            records.iter().map(|record| record.row.offset).collect()
+        };
+        // A type 15 in two bytes: its text is the byte behind them, or the second of them.
+        let text = [0x80, 15];
+        assert_eq!(starts(OneByte, &text, &[Hint::Text]), [0]);
+        assert!(starts(Exact, &text, &[Hint::Text]).is_empty());
+        let first = [0x80, 15, 8, b'n'];
+        let hints = [Hint::Text, Hint::Integer];
+        assert!(!starts(OneByte, &first, &hints).contains(&0));
+        assert!(starts(Exact, &first, &hints).contains(&0));
+    }
+
+    #[test]
+    fn one_byte_makes_up_a_length_for_fewer_columns() {
+        let rows = |way, columns| {
+            let (payload, hints) = (vec![8; columns], vec![Hint::Integer; columns]);
+            parse_cells_from_freeblock(way, &payload, 0, &hints).map(|records| records.len())
+        };
+        assert_eq!(rows(OneByte, MOST_ONE_BYTE_COLUMNS), Ok(1));
         assert_eq!(
-            records[0].values().unwrap(),
-            [Value::Integer(42), Value::Text(b"hipik")]
+            rows(OneByte, MOST_ONE_BYTE_COLUMNS + 1),
+            Err(Refusal::ColumnCount)
         );
+        assert_eq!(rows(Exact, MOST_ONE_BYTE_COLUMNS + 1), Ok(1));
+        assert_eq!(rows(Exact, MOST_COLUMNS), Ok(1));
+        assert_eq!(rows(Exact, MOST_COLUMNS + 1), Err(Refusal::ColumnCount));
     }
 
     #[test]
     fn what_is_not_there_is_refused_or_has_no_rows() {
-        assert_eq!(scan_page_gaps(&[], 512, &[]), Ok(vec![]));
-        assert_eq!(scan_page_gap(&[], 512, 1, &HINTS), Err(Refusal::NoSuchPage));
-        assert_eq!(scan_single_page_gap(&[], 0, 0, &HINTS), Ok(vec![]));
-        assert_eq!(
-            parse_cells_from_freeblock(&[], 0, &[]),
-            Err(Refusal::ColumnCount)
-        );
+        for way in [OneByte, Exact] {
+            assert_eq!(scan_page_gaps(way, &[], 512, &[]), Ok(vec![]));
+            assert_eq!(
+                scan_page_gap(way, &[], 512, 1, &HINTS),
+                Err(Refusal::NoSuchPage)
+            );
+            assert_eq!(scan_single_page_gap(way, &[], 0, 0, &HINTS), Ok(vec![]));
+            assert_eq!(
+                parse_cells_from_freeblock(way, &[], 0, &[]),
+                Err(Refusal::ColumnCount)
+            );
+        }
     }
 }

@@ -33,10 +33,15 @@ mod tables;
 mod values;
 
 pub use freeblocks::{recover_freeblocks, recover_page_freeblocks, recover_slice_freeblocks};
-pub use gaps::{parse_cells_from_freeblock, scan_page_gap, scan_page_gaps, scan_single_page_gap};
+pub use gaps::{
+    parse_cells_from_freeblock, scan_page_gap, scan_page_gaps, scan_single_page_gap, Rebuilding,
+};
 pub use hint::{Hint, UnknownHint};
 pub use learned::{carve_unallocated, learn_signatures};
-pub use limits::{LARGEST_BASE, LARGEST_REGION, LARGEST_STATEMENT, MOST_COLUMNS, MOST_LEARNED};
+pub use limits::{
+    LARGEST_BASE, LARGEST_REGION, LARGEST_STATEMENT, MOST_COLUMNS, MOST_LEARNED,
+    MOST_ONE_BYTE_COLUMNS,
+};
 pub use modes::carve_freeblock;
 pub use pages::{leaf_pages, page, Page};
 pub use refusal::Refusal;

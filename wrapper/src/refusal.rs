@@ -7,7 +7,8 @@ use std::fmt;
 /// [`Refusal::NoRoom`].
 #[derive(Clone, Copy, Debug, PartialEq, Eq, Hash)]
 pub enum Refusal {
-    /// No columns, or more than 126.
+    /// No columns, or more than [`MOST_COLUMNS`](crate::MOST_COLUMNS); with
+    /// [`Rebuilding::OneByte`](crate::Rebuilding::OneByte), [`MOST_ONE_BYTE_COLUMNS`](crate::MOST_ONE_BYTE_COLUMNS).
     ColumnCount = 1,
     /// An unknown hint code, or bad column entries.
     Malformed = 2,
@@ -55,7 +56,7 @@ impl Refusal {
 impl fmt::Display for Refusal {
     fn fmt(&self, f: &mut fmt::Formatter<'_>) -> fmt::Result {
         let why = match self {
-            Refusal::ColumnCount => "a table has 1 to 126 columns",
+            Refusal::ColumnCount => "a table has 1 to 510 columns, or to 126 with OneByte",
             Refusal::Malformed => "an unknown hint, or bad column entries",
             Refusal::TooLarge => {
                 "more than 16 MiB, than 65,536 bytes of a statement, or than 1,024 tables or rows to learn from"

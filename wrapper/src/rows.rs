@@ -3,8 +3,7 @@
 use crate::door;
 use crate::{Entry, Hint, Refusal, State, Value};
 
-/// Where a row was found, with its percent where there is one. The calls of this crate give the
-/// first two.
+/// Where a row was found, with its percent where there is one.
 #[derive(Clone, Copy, Debug, PartialEq, Eq, Hash)]
 pub enum Source {
     /// In a region.

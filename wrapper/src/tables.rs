@@ -13,12 +13,13 @@ pub struct Table {
     pub hints: Vec<Hint>,
 }
 
-/// All rows of a call over the leaves of tables, with a stack that is made larger until it takes the walk.
+/// All rows of a call over the leaves of tables, which is given as roots and counts, hints, what is lent to the walk, and the lists
+/// for rows; with a stack that is made larger until it takes the walk.
 pub(crate) fn of_tables<'a>(
     db: &'a [u8],
     page_size: usize,
     tables: &[Table],
-    call: door::OfTables,
+    call: impl Fn([&[u64]; 2], &[u8], door::Walk, [&mut [u64]; 2]) -> door::Answer<1>,
 ) -> Result<Vec<Record<'a>>, Refusal> {
     let roots: Vec<u64> = tables.iter().map(|table| table.root).collect();
     let counts: Vec<u64> = tables
@@ -37,15 +38,8 @@ pub(crate) fn of_tables<'a>(
     let mut flags = vec![0; db.len().checked_div(page_size).unwrap_or(0)];
     let mut stack = vec![0; 64];
     let mut records = grown(width, db, |rows, cols| loop {
-        let answer = call(
-            db,
-            page_size as u64,
-            [&roots, &counts],
-            &hints,
-            &mut flags,
-            &mut stack,
-            [rows, cols],
-        );
+        let walk = (&mut flags[..], &mut stack[..]);
+        let answer = call([&roots, &counts], &hints, walk, [rows, cols]);
         match Refusal::of(answer.0) {
             Some(Refusal::WalkSpace) => stack = vec![0; stack.len() * 8],
             _ => return answer,

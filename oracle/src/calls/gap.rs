@@ -4,9 +4,9 @@
 use super::forms::{self, Rooted, Table};
 use super::scan::{entries, signature};
 use super::sheet::{same_rows, Header, Lent, Row, Said, Sheet, INTRA_PAGE};
-use super::Given;
+use super::{rebuilding, Given};
 use crate::case::{Answer, Case};
-use crate::rules::gap::{block_rows, rows, Carved, Origin};
+use crate::rules::gap::{block_rows, rows, Carved, Origin, Sought};
 use crate::rules::limits::{room, Limits};
 use crate::rules::page::Page;
 use crate::rules::walk::End;
@@ -37,8 +37,12 @@ fn write(limits: &Limits, sheet: &mut Sheet, rows: Vec<Carved>, start: usize, ta
     })
 }
 
+fn sought<'a>(table: &Table<'a>) -> Sought<'a> {
+    Sought { hints: table.hints, rebuilding: table.rebuilding.unwrap_or(0) }
+}
+
 fn carve(limits: &Limits, sheet: &mut Sheet, page: &Page, table: &Table) -> bool {
-    write(limits, sheet, rows(limits, page.bytes, page.header, table.hints), page.start, table)
+    write(limits, sheet, rows(limits, page.bytes, page.header, sought(table)), page.start, table)
 }
 
 pub fn tables(limits: &Limits, case: &Case) -> Answer {
@@ -54,12 +58,14 @@ pub fn slice(limits: &Limits, case: &Case) -> Answer {
 }
 
 pub fn block(limits: &Limits, case: &Case) -> Answer {
-    let (payload, hints, base) = (&case.slices[0], &case.slices[1], case.numbers[0]);
-    if let Some(number) = limits.region_refusal(payload, hints, base) {
+    let (rebuilding, numbers) = rebuilding(case);
+    let (payload, hints, base) = (&case.slices[0], &case.slices[1], numbers[0]);
+    if let Some(number) = limits.region_refusal(payload, hints, base, rebuilding) {
         return Answer::refused(number, 1, 2);
     }
     let mut sheet = Sheet::new(case.lists[0], case.lists[1], hints.len());
-    let whole = write(limits, &mut sheet, block_rows(limits, payload, hints), 0, &Table { index: 0, hints, base });
+    let table = Table { index: 0, hints, base, rebuilding };
+    let whole = write(limits, &mut sheet, block_rows(limits, payload, sought(&table)), 0, &table);
     sheet.answer(if whole { End::Through } else { End::NoRoom }, Vec::new())
 }
 
@@ -117,8 +123,8 @@ pub fn given_slice(case: &Case, answer: &Answer) -> Given {
 const LONGEST_BLOCK: usize = 70_000;
 
 pub fn given_block(case: &Case, answer: &Answer) -> Given {
-    let (payload, hints, base) = (&case.slices[0], &case.slices[1], case.numbers[0]);
-    let asked = matches!(answer.number, 0 | 9) && payload.len() <= LONGEST_BLOCK;
+    let (payload, hints, base) = (&case.slices[0], &case.slices[1], rebuilding(case).1[0]);
+    let asked = matches!(answer.number, 0 | 9) && payload.len() <= LONGEST_BLOCK && forms::in_the_rust(case);
     let Some(signature) = signature(hints).filter(|_| asked) else {
         return Given::NotAsked;
     };

@@ -1,6 +1,6 @@
 //! A page by its number, and the leaf walk.
 
-use super::{all, held, Given};
+use super::{all, held, rebuilding, Given};
 use crate::case::{Answer, Case};
 use crate::rules::limits::{first, Limits};
 use crate::rules::page::{page, whole_pages};
@@ -46,7 +46,8 @@ pub fn cleared(case: &Case) -> [Vec<u64>; 2] {
 
 /// Whether a walk has a flag for each page; if not it ends before its first push.
 pub fn enough_flags(case: &Case) -> bool {
-    case.lists[0] as u64 >= whole_pages(&case.slices[0], case.numbers[0])
+    let (_, numbers) = rebuilding(case);
+    case.lists[0] as u64 >= whole_pages(&case.slices[0], numbers[0])
 }
 
 pub fn refusal_of(end: End) -> u64 {

@@ -53,7 +53,7 @@ pub fn entries(at: u64, found: &Found) -> Vec<u64> {
 
 pub fn attempt(limits: &Limits, case: &Case) -> Answer {
     let p = parts(case);
-    if let Some(number) = limits.region_refusal(p.region, p.hints, p.base) {
+    if let Some(number) = limits.region_refusal(p.region, p.hints, p.base, None) {
         return Answer::refused(number, OUT, LISTS);
     }
     let Some(found) = attempt::attempt(limits, p.region, p.hints, p.at).found else {
@@ -70,7 +70,7 @@ pub fn attempt(limits: &Limits, case: &Case) -> Answer {
 
 pub fn scan(limits: &Limits, case: &Case) -> Answer {
     let p = parts(case);
-    if let Some(number) = limits.region_refusal(p.region, p.hints, p.base) {
+    if let Some(number) = limits.region_refusal(p.region, p.hints, p.base, None) {
         return Answer::refused(number, OUT, LISTS);
     }
     let scan = attempt::scan(limits, p.region, p.hints, p.at, p.room);

@@ -17,11 +17,8 @@ pub fn statement(limits: &Limits, case: &Case) -> Answer {
     let text = &case.slices[0];
     let columns = column_list(text);
     let found = columns.map_or(Vec::new(), hints);
-    let refused = first(&[
-        (3, text.len() > limits.statement),
-        (7, columns.is_none()),
-        (1, found.is_empty() || found.len() > limits.columns),
-    ]);
+    let refused =
+        first(&[(3, text.len() > limits.statement), (7, columns.is_none()), (1, limits.bad_count(found.len() as u64))]);
     match refused {
         Some(number) => Answer::refused(number, 1, 1),
         None => list(found.into_iter().map(u64::from).collect(), case.lists[0]),
@@ -51,8 +48,7 @@ pub fn given_statement(case: &Case, answer: &Answer) -> Given {
     let rust: Vec<u64> = signature.type_hints.iter().map(code_of).collect();
     let count = rust.len();
     let number = match count {
-        0 => 1,
-        n if n > 126 => 1,
+        n if Limits::of_the_rules().bad_count(n as u64) => 1,
         n if n > case.lists[0] => 9,
         _ => 0,
     };

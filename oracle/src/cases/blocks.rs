@@ -1,13 +1,13 @@
 //! The payload of one freed block: every short one, cells of every width packed and cut off, and rebuilt headers.
 
 use super::bytes::{every, telling_numbers, varint, width, TELLING, TYPES};
-use super::gaps::{cell, few_hints};
+use super::gaps::{both_ways, cell, few_hints, WAYS};
 use super::records::{damage, junk};
 use super::regions::{lists, with_tail};
 use crate::calls::BLOCK;
 use crate::case::Case;
 use crate::random::Random;
-use crate::rules::gap::block_rows;
+use crate::rules::gap::{block_rows, Sought};
 use crate::rules::limits::Limits;
 use crate::runner::Sink;
 
@@ -32,7 +32,7 @@ pub fn all(sink: &mut dyn Sink, random: &mut Random, count: usize) {
 
 pub fn block(sink: &mut dyn Sink, payload: &[u8], hints: &[u8], rows: usize) {
     let lists = lists(rows, hints.len());
-    sink.put(Case::new(BLOCK, &[0], &[payload, hints], &lists));
+    both_ways(sink, Case::new(BLOCK, &[0], &[payload, hints], &lists));
 }
 
 fn short(sink: &mut dyn Sink) {
@@ -141,7 +141,7 @@ pub fn rebuilt(sink: &mut dyn Sink) {
             block(sink, &with_tail(types, tail, 1)[1..], &[0, 2, 3], 24);
         }
     });
-    for columns in [1, 2, 3, 5, 63, 64, 125, 126] {
+    for columns in [1, 2, 3, 5, 63, 64, 125, 126, 127] {
         for length in columns - 1..columns + 3 {
             block(sink, &vec![8; length], &vec![0; columns], 4);
             block(sink, &vec![0x80; length], &vec![5; columns], 4);
@@ -171,14 +171,14 @@ fn bases(sink: &mut dyn Sink) {
     let top = 1u64 << 48;
     for base in [0, 1, 1 << 32, top - 1, top, top + 1, 1 << 63, u64::MAX] {
         for rows in 0..=4 {
-            sink.put(Case::new(BLOCK, &[base], &[&[3, 7, 2, 1, 9, 8, 8], &[0]], &lists(rows, 1)));
+            both_ways(sink, Case::new(BLOCK, &[base], &[&[3, 7, 2, 1, 9, 8, 8], &[0]], &lists(rows, 1)));
         }
     }
 }
 
 /// Every set of refusals that can hold at once, but for the size of the block, which large.rs adds.
 pub fn refusals(sink: &mut dyn Sink, payload: &[u8]) {
-    for columns in [0, 1, 2, 126, 127] {
+    for columns in [0, 1, 2, 126, 127, 510, 511] {
         for bad in [None, Some(0), Some(columns.max(1) - 1)] {
             let mut hints = vec![0; columns];
             if let Some(hint) = bad.and_then(|at: usize| hints.get_mut(at)) {
@@ -186,7 +186,7 @@ pub fn refusals(sink: &mut dyn Sink, payload: &[u8]) {
             }
             for rows in [0, 1] {
                 for base in [0, 1 << 48, (1 << 48) + 1] {
-                    sink.put(Case::new(BLOCK, &[base], &[payload, &hints], &lists(rows, columns.max(1))));
+                    both_ways(sink, Case::new(BLOCK, &[base], &[payload, &hints], &lists(rows, columns.max(1))));
                 }
             }
         }
@@ -219,7 +219,7 @@ fn random_block(sink: &mut dyn Sink, random: &mut Random) {
     let rows = if random.once_in(5) { random.below(6) } else { payload.len().min(40) };
     let [r, c] = lists(rows, hints.len());
     let room = [r + random.below(8), c + random.below(4 * hints.len())];
-    sink.put(Case::new(BLOCK, &[base], &[&payload, &hints], &room));
+    both_ways(sink, Case::new(BLOCK, &[base], &[&payload, &hints], &room));
 }
 
 /// Bytes at random: all kinds, or those that begin cells and rows.
@@ -239,12 +239,13 @@ fn random_bytes(sink: &mut dyn Sink, random: &mut Random) {
 fn rooms(sink: &mut dyn Sink, random: &mut Random) {
     let hints = few_hints(random);
     let payload = some_block(random, &hints);
-    let found = block_rows(&Limits::of_the_rules(), &payload, &hints).len();
+    let found = |rebuilding| block_rows(&Limits::of_the_rules(), &payload, Sought { hints: &hints, rebuilding }).len();
+    let found = WAYS.map(found).into_iter().max().unwrap_or(0);
     let [most_r, most_c] = lists(found + 1, hints.len());
     for room in (0..=found + 1).rev().take(12).chain([0, 1]) {
         let [r, c] = lists(room, hints.len());
         for lent in [[r, c], [r, most_c], [most_r, c], [r + 7, c + 4 * hints.len() - 1], [r.max(1) - 1, c]] {
-            sink.put(Case::new(BLOCK, &[1 << 20], &[&payload, &hints], &lent));
+            both_ways(sink, Case::new(BLOCK, &[1 << 20], &[&payload, &hints], &lent));
         }
     }
 }

@@ -184,7 +184,7 @@ fn bases(sink: &mut dyn Sink) {
 
 /// Every set of refusals that can hold at once, but for the size of the slice, which large.rs adds.
 pub fn refusals(sink: &mut dyn Sink, bytes: &[u8]) {
-    for columns in [0, 1, 2, 126, 127] {
+    for columns in [0, 1, 2, 126, 127, 510, 511] {
         for bad in [None, Some(0), Some(columns.max(1) - 1)] {
             let mut hints = vec![0; columns];
             if let Some(hint) = bad.and_then(|at: usize| hints.get_mut(at)) {

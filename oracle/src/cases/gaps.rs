@@ -1,18 +1,28 @@
 //! Pages for the gap's carver: every short gap, chains by its own rule, every size of page, and pages as they are left
-//! where rows were deleted. What the calls on free blocks are lent is lent to its calls, too.
+//! where rows were deleted. What the calls on free blocks are lent is lent to its calls, too. All go both ways of rebuilding.
 
 use super::bytes::{every, width, TELLING};
 use super::chains::{self, full_of_rows, numbered, slice};
 use super::databases::{harm, link, put, Database, LEAF, SIZES};
-use super::records::{damage, hints, junk, record};
+use super::records::{damage, header, hints, junk, record};
 use super::regions::{lists, with_tail};
 use super::{bytes, tables};
 use crate::calls::{GAPS, GAP_PAGE, GAP_SLICE, RECOVER, RECOVER_PAGE, RECOVER_SLICE};
 use crate::case::Case;
 use crate::random::Random;
-use crate::rules::gap::rows;
-use crate::rules::limits::Limits;
+use crate::rules::gap::{rows, Sought};
+use crate::rules::limits::{Limits, EXACT, ONE_BYTE};
 use crate::runner::Sink;
+
+pub const WAYS: [u64; 2] = [ONE_BYTE, EXACT];
+
+/// Puts a case of a call that rebuilds headers, which comes without a way to do so, once for each.
+pub fn both_ways(sink: &mut dyn Sink, case: Case) {
+    for way in WAYS {
+        let numbers = [&[way][..], &case.numbers].concat();
+        sink.put(Case { numbers, ..case.clone() });
+    }
+}
 
 /// Puts cases of the calls on free blocks as cases of the gap's carver, with more room, since it finds more; no others.
 pub struct AsGaps<'a>(pub &'a mut dyn Sink);
@@ -30,7 +40,7 @@ impl Sink for AsGaps<'_> {
         let mut case = Case { call, ..case };
         let sheet = case.lists.len() - 2;
         case.lists[sheet..].iter_mut().for_each(|cells| *cells *= MORE);
-        self.0.put(case);
+        both_ways(self.0, case);
     }
 }
 
@@ -220,12 +230,12 @@ pub fn whole_page(sink: &mut dyn Sink) {
 
 /// Every share of suited columns, in a gap, in a cell and in a rebuilt row: each has its own confidence and percent.
 pub fn shares(sink: &mut dyn Sink) {
-    for columns in 1..=126 {
-        for suited in 1..=columns {
+    for columns in (1..=126).chain(WIDE) {
+        for suited in some_of(columns) {
             let mut hints = vec![4; columns];
             hints[..suited].fill(5);
             let types = vec![8; columns];
-            let whole = [&[columns as u8 + 1][..], &types].concat();
+            let whole = header(&vec![(8, 1); columns], 1);
             let length = bytes::varint(whole.len() as u64, 2);
             let cell = [&length[..], &[7], &whole, &types].concat();
             let mut page = around(&[&whole[..], &[0, 0]].concat(), 0, &[]);
@@ -237,6 +247,14 @@ pub fn shares(sink: &mut dyn Sink) {
             slice(sink, &page, 0, &hints, 1);
         }
     }
+}
+
+/// Counts of columns for which a header length takes two bytes, up to the most.
+pub const WIDE: [usize; 9] = [127, 128, 129, 200, 255, 256, 257, 509, 510];
+
+/// All numbers from 1 up to a count, or, if a length takes two bytes with it, some of them and the count itself.
+pub fn some_of(count: usize) -> impl Iterator<Item = usize> {
+    (1..=count).rev().step_by(if count < 127 { 1 } else { 1 + count / 12 })
 }
 
 /// Mostly few: a block of a wide table is tried at every byte, with all its columns.
@@ -336,7 +354,7 @@ fn random_page(sink: &mut dyn Sink, random: &mut Random) {
     let rows = if random.once_in(4) { random.below(6) } else { 24 };
     let [r, c] = lists(rows, hints.len());
     let room = [r + random.below(8), c + random.below(4 * hints.len())];
-    sink.put(Case::new(GAP_SLICE, &[at as u64, base], &[&page, &hints], &room));
+    both_ways(sink, Case::new(GAP_SLICE, &[at as u64, base], &[&page, &hints], &room));
 }
 
 /// A page of a database, given both ways; most are of the least size.
@@ -356,14 +374,15 @@ fn random_numbered(sink: &mut dyn Sink, random: &mut Random) {
 fn rooms(sink: &mut dyn Sink, random: &mut Random) {
     let hints = few_hints(random);
     let page = some_page(random, &hints, 0, 512);
-    let found = rows(&Limits::of_the_rules(), &page, 0, &hints).len();
+    let found = |rebuilding| rows(&Limits::of_the_rules(), &page, 0, Sought { hints: &hints, rebuilding }).len();
+    let found = WAYS.map(found).into_iter().max().unwrap_or(0);
     let db = [&vec![0; 512], &page[..]].concat();
     let [most_r, most_c] = lists(found + 1, hints.len());
     for room in (0..=found + 1).rev().take(12).chain([0, 1]) {
         let [r, c] = lists(room, hints.len());
         for lent in [[r, c], [r, most_c], [most_r, c], [r + 7, c + 4 * hints.len() - 1], [r.max(1) - 1, c]] {
-            sink.put(Case::new(GAP_SLICE, &[0, 1 << 20], &[&page, &hints], &lent));
-            sink.put(Case::new(GAP_PAGE, &[512, 2], &[&db, &hints], &lent));
+            both_ways(sink, Case::new(GAP_SLICE, &[0, 1 << 20], &[&page, &hints], &lent));
+            both_ways(sink, Case::new(GAP_PAGE, &[512, 2], &[&db, &hints], &lent));
         }
     }
 }

@@ -2,7 +2,7 @@
 
 use super::bytes::varint;
 use super::databases::Database;
-use super::gaps::AsGaps;
+use super::gaps::{both_ways, AsGaps};
 use super::limits::refusals;
 use super::regions::{attempt, lists, scan};
 use super::{chains, tables};
@@ -62,7 +62,7 @@ fn haystacks(sink: &mut dyn Sink, length: usize) {
 /// Refusal 3 with each that comes before it and each that comes behind.
 fn refusals_of_size(sink: &mut dyn Sink) {
     let region = vec![2; LARGEST + 1];
-    for (hints, base) in [(&[][..], 0), (&[0; 127], 1 << 60), (&[9], 0), (&[0, 6], 1 << 60), (&[0], 1 << 60), (&[0], 0)]
+    for (hints, base) in [(&[][..], 0), (&[0; 511], 1 << 60), (&[9], 0), (&[0, 6], 1 << 60), (&[0], 1 << 60), (&[0], 0)]
     {
         sink.put(Case::new(SCAN, &[base, 0], &[&region, hints], &[0, 0]));
     }
@@ -139,21 +139,21 @@ pub fn gaps(sink: &mut dyn Sink) {
     let bytes = vec![2; LARGEST + 1];
     for hints in [&[][..], &[6], &[0]] {
         for base in [0, 1 << 60] {
-            sink.put(Case::new(BLOCK, &[base], &[&bytes, hints], &[0, 0]));
-            sink.put(Case::new(GAP_SLICE, &[0, base], &[&bytes, hints], &[0, 0]));
+            both_ways(sink, Case::new(BLOCK, &[base], &[&bytes, hints], &[0, 0]));
+            both_ways(sink, Case::new(GAP_SLICE, &[0, base], &[&bytes, hints], &[0, 0]));
         }
-        sink.put(Case::new(GAP_PAGE, &[0, 0], &[&bytes, hints], &[0, 0]));
+        both_ways(sink, Case::new(GAP_PAGE, &[0, 0], &[&bytes, hints], &[0, 0]));
         let lent = Case::new(GAPS, &[0], &[&bytes, hints], &[0, 0, 0, 0]);
-        sink.put(lent.with_words(&[&[1], &[hints.len() as u64]]));
+        both_ways(sink, lent.with_words(&[&[1], &[hints.len() as u64]]));
     }
 }
 
-/// A freed block with a cell at either end, and nothing between.
+/// A freed block with a cell at either end, and between them nothing that is a text.
 pub fn freed(sink: &mut dyn Sink, length: usize) {
-    let mut payload = vec![0x80; length];
-    payload[..5].copy_from_slice(&[3, 7, 2, 1, 9]);
-    payload[length - 5..].copy_from_slice(&[3, 8, 2, 1, 9]);
-    sink.put(Case::new(BLOCK, &[1 << 48], &[&payload, &[0]], &lists(8, 1)));
+    let mut payload = vec![1; length];
+    payload[..5].copy_from_slice(&[3, 7, 2, 15, 9]);
+    payload[length - 5..].copy_from_slice(&[3, 8, 2, 15, 9]);
+    both_ways(sink, Case::new(BLOCK, &[1 << 48], &[&payload, &[2]], &lists(8, 1)));
 }
 
 /// Blocks in three modes, bytes to learn from and regions to carve, of the largest size and one more.
@@ -175,13 +175,13 @@ pub fn carving(sink: &mut dyn Sink) {
     }
     let bytes = vec![2; LARGEST + 1];
     for base in [0, 1 << 60] {
-        for columns in [0, 1, 127] {
+        for columns in [0, 1, 511] {
             sink.put(Case::new(MODES, &[base, columns], &[&bytes], &[0, 0]));
             let types = vec![1; columns as usize];
             sink.put(Case::new(UNALLOC, &[base], &[&bytes], &[0, 0]).with_words(&[&types]));
         }
     }
-    for width in [0, 1, 127] {
+    for width in [0, 1, 511] {
         for state in [0, 4] {
             sink.put(Case::new(LEARN, &[width], &[&bytes], &[0]).with_words(&[&[state, 1, 0, 1]]));
         }

@@ -2,7 +2,7 @@
 //! that match, and random ones.
 
 use super::bytes::{every, telling_numbers, varint, width, TELLING, TYPES};
-use super::gaps::few_hints;
+use super::gaps::{few_hints, some_of, WIDE};
 use super::limits::{exact, long_row};
 use super::records::{damage, header, junk, region};
 use super::regions::{lists, with_tail};
@@ -102,7 +102,7 @@ fn types_and_tails(sink: &mut dyn Sink) {
 pub fn header_lengths(sink: &mut dyn Sink) {
     for h in [0, 1, 2, 3, 4, 10, 126, 127, 128, 129, 510, 511, 512, 513, 514, 600] {
         for wide in 1..=9 {
-            for columns in [1, 2, 14, 57, 63, 64, 125, 126] {
+            for columns in [1, 2, 14, 57, 63, 64, 125, 126, 127, 509, 510] {
                 let Some(header) = exact(h, wide, columns, 8) else {
                     continue;
                 };
@@ -111,7 +111,7 @@ pub fn header_lengths(sink: &mut dyn Sink) {
                 for end in [header.len() - 1, header.len(), header.len() + 1, columns + 1, region.len()] {
                     put(sink, &region[..end.min(region.len())], &vec![9; columns], 2);
                 }
-                for other in [1, columns.max(2) - 1, (columns + 1).min(126)] {
+                for other in [1, columns.max(2) - 1, (columns + 1).min(510)] {
                     put(sink, &region, &vec![1; other], 2);
                 }
             }
@@ -127,15 +127,16 @@ pub fn header_lengths(sink: &mut dyn Sink) {
 
 /// Every share of columns that match, in rows with all columns and with fewer.
 pub fn shares(sink: &mut dyn Sink) {
-    for columns in 1..=126 {
-        for matched in 1..=columns {
+    for columns in (1..=126).chain(WIDE) {
+        for matched in some_of(columns) {
             let mut types = vec![0; columns];
             types[..matched].fill(1);
-            let mut region = [&[columns as u8 + 1][..], &vec![8; columns]].concat();
-            put(sink, &region, &types, 1);
-            // As many types as match.
-            region[0] = matched as u8 + 1;
-            put(sink, &region, &types, 1);
+            // All types, and as many as match.
+            for read in [columns, matched] {
+                let mut region = header(&vec![(8, 1); read], 1);
+                region.resize(columns + 2, 8);
+                put(sink, &region, &types, 1);
+            }
         }
     }
 }
@@ -177,10 +178,10 @@ fn bases(sink: &mut dyn Sink) {
 
 /// Every set of refusals that can hold at once, but for the size of the region, which large.rs adds.
 pub fn refusals(sink: &mut dyn Sink, region: &[u8]) {
-    for columns in [0, 1, 2, 125, 126, 127, 128, 256, 1000] {
+    for columns in [0, 1, 2, 126, 127, 509, 510, 511, 512, 1000] {
         for base in [0, 1 << 48, (1 << 48) + 1] {
             for rows in [0, 1, 2] {
-                let case = Case::new(UNALLOC, &[base], &[region], &lists(rows, columns.clamp(1, 200)));
+                let case = Case::new(UNALLOC, &[base], &[region], &lists(rows, columns.clamp(1, 600)));
                 sink.put(case.with_words(&[&vec![1; columns]]));
             }
         }
@@ -209,7 +210,7 @@ fn some_types(random: &mut Random, hints: &[u8]) -> Vec<u64> {
         1 if types.len() > 1 => drop(types.pop()),
         _ => {}
     }
-    types.truncate(126);
+    types.truncate(510);
     types
 }
 

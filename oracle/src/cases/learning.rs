@@ -2,6 +2,7 @@
 //! as many rows as there may be.
 
 use super::bytes::every;
+use super::records::most_columns;
 use crate::calls::LEARN;
 use crate::case::Case;
 use crate::random::Random;
@@ -167,9 +168,9 @@ fn bad_words(sink: &mut dyn Sink) {
 
 /// Words behind the last whole group, which are not read, bad as they may be.
 fn rests(sink: &mut dyn Sink) {
-    for width in [1, 2, 3, 126] {
+    for width in [1, 2, 3, 126, 510] {
         for rows in 0..=2 {
-            for rest in 0..4 * width {
+            for rest in (0..4 * width).step_by(1 + width / 127) {
                 let mut entries: Vec<u64> = [0, 1, 0, 1].repeat(width * rows);
                 entries.extend(vec![u64::MAX; rest]);
                 put(sink, &BYTES, width as u64, &entries, width);
@@ -214,7 +215,7 @@ pub fn many(sink: &mut dyn Sink) {
 }
 
 fn wide(sink: &mut dyn Sink) {
-    for width in [1, 2, 63, 64, 125, 126, 127, 128] {
+    for width in [1, 2, 63, 64, 125, 126, 127, 128, 509, 510, 511, 512] {
         for rows in 0..=3 {
             let entries: Vec<u64> = (0..width * rows).flat_map(|i| ENTRIES[i % 5]).collect();
             for room in [0, 1, width - 1, width, width + 1] {
@@ -226,7 +227,7 @@ fn wide(sink: &mut dyn Sink) {
 
 /// Every set of refusals that can hold at once; large.rs adds bytes of the largest size.
 pub fn refusals(sink: &mut dyn Sink, bytes: &[u8]) {
-    for width in [0, 1, 126, 127, 1 << 32, 1 << 62, 1 << 63, u64::MAX] {
+    for width in [0, 1, 510, 511, 1 << 32, 1 << 62, 1 << 63, u64::MAX] {
         for rows in [0, 1, 1024, 1025] {
             for bad in [false, true] {
                 let used = width.min(2) as usize;
@@ -283,7 +284,8 @@ fn some_rows(random: &mut Random, width: usize) -> Rows {
 }
 
 fn width(random: &mut Random) -> usize {
-    1 + random.mostly_below(4, 30, 126)
+    let most = most_columns(random);
+    1 + random.mostly_below(4, 30, most)
 }
 
 fn random_case(sink: &mut dyn Sink, random: &mut Random) {

@@ -1,6 +1,7 @@
 //! The boundaries of the rules: one below, at and above each.
 
 use super::bytes::{varint, width};
+use super::gaps::WIDE;
 use super::regions::{attempt, lists, scan};
 use crate::calls::{ATTEMPT, SCAN};
 use crate::case::Case;
@@ -24,7 +25,7 @@ pub fn all(sink: &mut dyn Sink, random: &mut Random, count: usize) {
 pub fn to_be_recorded(sink: &mut dyn Sink) {
     for h in [1, 2, 3, 511, 512, 513] {
         for wide in 1..=3 {
-            for columns in [1, 57, 126] {
+            for columns in [1, 57, 126, 510] {
                 if let Some(header) = exact(h, wide, columns, 0) {
                     scan(sink, &header, &vec![0; columns], 1);
                     attempt(sink, &header, &vec![5; columns], 0);
@@ -36,17 +37,19 @@ pub fn to_be_recorded(sink: &mut dyn Sink) {
     refusals(sink, &[2, 13, 0]);
 }
 
-/// So many types in so many bytes, each of 1 to 9; none where they do not go in.
-fn filled(columns: usize, bytes: usize, kind: u64) -> Option<Vec<u8>> {
+/// The widths of so many types in so many bytes, each from 1 to 9; none where they do not go in.
+pub fn spread(columns: usize, bytes: usize) -> Option<Vec<usize>> {
     if columns == 0 || bytes < columns || bytes > 9 * columns {
         return None;
     }
-    let mut types = Vec::new();
-    for i in 0..columns {
-        // The rest is spread over the columns that are left.
-        types.extend(varint(kind, (bytes - types.len()).div_ceil(columns - i)));
-    }
-    Some(types)
+    let mut left = bytes;
+    let width = |i: usize| {
+        // The rest goes to the columns that are left.
+        let width = left.div_ceil(columns - i);
+        left -= width;
+        width
+    };
+    Some((0..columns).map(width).collect())
 }
 
 /// A header of just h bytes that says so in `wide` bytes, with so many types.
@@ -55,14 +58,14 @@ pub fn exact(h: usize, wide: usize, columns: usize, kind: u64) -> Option<Vec<u8>
         return None;
     }
     let mut header = varint(h as u64, wide);
-    header.extend(filled(columns, h.checked_sub(wide)?, kind)?);
+    header.extend(spread(columns, h.checked_sub(wide)?)?.into_iter().flat_map(|wide| varint(kind, wide)));
     Some(header)
 }
 
 fn header_lengths(sink: &mut dyn Sink) {
     for h in [0, 1, 2, 3, 4, 10, 126, 127, 128, 129, 130, 255, 256, 257, 510, 511, 512, 513, 514, 600] {
         for wide in 1..=9 {
-            for columns in [1, 2, 3, 13, 14, 15, 56, 57, 58, 63, 64, 125, 126] {
+            for columns in [1, 2, 3, 13, 14, 15, 56, 57, 58, 63, 64, 125, 126].into_iter().chain(WIDE) {
                 for kind in [0, 9] {
                     if let Some(header) = exact(h, wide, columns, kind) {
                         around(sink, &header, columns);
@@ -117,7 +120,7 @@ fn past_the_header(sink: &mut dyn Sink) {
 }
 
 fn column_counts(sink: &mut dyn Sink) {
-    for columns in [0, 1, 2, 63, 64, 125, 126, 127, 128, 129, 200, 255, 256, 257] {
+    for columns in [0, 1, 2, 63, 64, 125, 126, 508, 511, 512, 513, 600].into_iter().chain(WIDE) {
         for kind in [0, 8, 1] {
             let types: Vec<(u64, usize)> = vec![(kind, 1); columns];
             let mut region = super::records::header(&types, 1);
@@ -170,16 +173,16 @@ fn bases(sink: &mut dyn Sink) {
 
 /// Every set of refusals that can hold at once, but for the size of the region, which large.rs adds.
 pub fn refusals(sink: &mut dyn Sink, region: &[u8]) {
-    for columns in [0, 1, 2, 126, 127] {
+    for columns in [0, 1, 2, 510, 511] {
         for bad in [None, Some(0), Some(columns.max(1) - 1)] {
             for base in [0, 1 << 48, (1 << 48) + 1] {
                 for rows in [0, 1] {
                     let mut hints = vec![2; columns];
                     if let Some(at) = bad.filter(|&at| at < columns) {
-                        hints[at] = 6 + at as u8;
+                        hints[at] = 6 + (at % 250) as u8;
                     }
                     for call in [ATTEMPT, SCAN] {
-                        sink.put(Case::new(call, &[base, 0], &[region, &hints], &lists(rows, columns.max(1))));
+                        sink.put(Case::new(call, &[base, 0], &[region, &hints], &lists(rows, columns.clamp(1, 2))));
                     }
                 }
             }
@@ -191,7 +194,7 @@ pub fn refusals(sink: &mut dyn Sink, region: &[u8]) {
 fn random_header(sink: &mut dyn Sink, random: &mut Random) {
     let h = 2 + random.below(529);
     let wide = width(h as u64) + random.below(3);
-    let most = h.saturating_sub(wide).clamp(1, 127);
+    let most = h.saturating_sub(wide).clamp(1, 511);
     let least = h.saturating_sub(wide).div_ceil(9).clamp(1, most);
     let columns = least + random.below(most - least + 1);
     let kind = random.pick(&[0, 8, 9, 12, 13]);

@@ -4,7 +4,7 @@
 use super::bytes::{every, varint, TELLING, TYPES};
 use super::gaps::{cell, few_hints};
 use super::limits::{exact, long_row};
-use super::records::{damage, junk, record};
+use super::records::{damage, junk, most_columns, record};
 use super::regions::{lists, with_tail};
 use crate::calls::MODES;
 use crate::case::Case;
@@ -81,7 +81,7 @@ fn types(sink: &mut dyn Sink) {
 fn header_lengths(sink: &mut dyn Sink) {
     for h in [0, 1, 2, 3, 4, 10, 126, 127, 128, 129, 511, 512, 513, 600, 1000] {
         for wide in 1..=9 {
-            for columns in [1, 2, 14, 57, 63, 125, 126] {
+            for columns in [1, 2, 14, 57, 63, 125, 126, 127, 509, 510] {
                 for kind in [1, 8, 10] {
                     let Some(header) = exact(h, wide, columns, kind) else {
                         continue;
@@ -91,7 +91,7 @@ fn header_lengths(sink: &mut dyn Sink) {
                     for end in [header.len() - 1, header.len(), header.len() + 1, block.len()] {
                         put(sink, &block[..end], columns, 3);
                     }
-                    for other in [1, columns.max(2) - 1, (columns + 1).min(126)] {
+                    for other in [1, columns.max(2) - 1, (columns + 1).min(510)] {
                         put(sink, &block, other, 3);
                     }
                 }
@@ -103,6 +103,7 @@ fn header_lengths(sink: &mut dyn Sink) {
                 put(sink, &block, 3, 3);
                 block.extend(vec![fill; 1000]);
                 put(sink, &block, 126, 3);
+                put(sink, &block, 510, 3);
             }
         }
     }
@@ -173,10 +174,10 @@ fn bases(sink: &mut dyn Sink) {
 
 /// Every set of refusals that can hold at once, but for the size of the block, which large.rs adds.
 pub fn refusals(sink: &mut dyn Sink, block: &[u8]) {
-    for columns in [0, 1, 2, 125, 126, 127, 128, 256, 1 << 32, (1 << 32) + 1, u64::MAX] {
+    for columns in [0, 1, 2, 126, 127, 509, 510, 511, 512, 1 << 32, (1 << 32) + 1, u64::MAX] {
         for base in [0, 1 << 48, (1 << 48) + 1] {
             for rows in [0, 1, 2] {
-                let lists = lists(rows, columns.clamp(1, 200) as usize);
+                let lists = lists(rows, columns.clamp(1, 600) as usize);
                 sink.put(Case::new(MODES, &[base, columns], &[block], &lists));
             }
         }
@@ -194,7 +195,7 @@ fn random_case(sink: &mut dyn Sink, random: &mut Random, block: &[u8], columns: 
 /// As many columns as hints, or one more or fewer.
 fn about(random: &mut Random, columns: usize) -> usize {
     if random.once_in(3) {
-        (columns + random.below(3)).clamp(2, 127) - 1
+        (columns + random.below(3)).clamp(2, 511) - 1
     } else {
         columns
     }
@@ -247,7 +248,8 @@ fn random_bytes(sink: &mut dyn Sink, random: &mut Random) {
         1 => block.iter_mut().for_each(|b| *b %= 20),
         _ => {}
     }
-    let columns = 1 + random.mostly_below(5, 10, 126);
+    let most = most_columns(random);
+    let columns = 1 + random.mostly_below(5, 10, most);
     random_case(sink, random, &block, columns);
 }
 

@@ -3,6 +3,7 @@
 use super::bytes::{every, TELLING, TYPES};
 use super::chains::slice;
 use super::databases::{link, put};
+use super::gaps::WIDE;
 use super::limits::{exact, long_row};
 use super::regions::with_tail;
 use crate::runner::Sink;
@@ -85,7 +86,8 @@ fn starts(sink: &mut dyn Sink) {
 /// Headers up to the longest, in blocks that end with them, before, and after.
 fn header_lengths(sink: &mut dyn Sink) {
     for h in [2, 3, 127, 128, 510, 511, 512, 513, 514] {
-        for (wide, columns) in [(1, 1), (1, 126), (2, 57), (2, 125), (2, 126), (3, 126)] {
+        let wide_ones = WIDE.map(|columns| (2, columns));
+        for (wide, columns) in [(1, 1), (1, 126), (2, 57), (2, 125), (2, 126), (3, 126)].into_iter().chain(wide_ones) {
             let Some(header) = exact(h, wide, columns, 8) else {
                 continue;
             };

@@ -28,9 +28,18 @@ fn kind_for(random: &mut Random, hint: u8) -> u64 {
     }
 }
 
+/// The most columns of a table, mostly those of one whose header length takes a byte.
+pub fn most_columns(random: &mut Random) -> usize {
+    if random.once_in(3) {
+        510
+    } else {
+        126
+    }
+}
+
 pub fn hints(random: &mut Random) -> Vec<u8> {
     let most = match random.below(40) {
-        0 => 126,
+        0 => most_columns(random),
         1..=3 => 20,
         _ => 5,
     };

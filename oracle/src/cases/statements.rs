@@ -1,6 +1,7 @@
 //! Statements: every short one over the marks that count, every word with each change, and random ones.
 
 use super::bytes::every;
+use super::records::most_columns;
 use crate::calls::STATEMENT;
 use crate::case::Case;
 use crate::random::Random;
@@ -84,7 +85,7 @@ pub fn all(sink: &mut dyn Sink, random: &mut Random, count: usize) {
     counts(sink);
     for i in 0..count {
         let text = random_statement(random);
-        let room = if i % 4 == 0 { random.below(12) } else { 130 };
+        let room = if i % 4 == 0 { random.below(12) } else { 520 };
         put(sink, &text, room);
     }
 }
@@ -141,13 +142,13 @@ fn blanks(sink: &mut dyn Sink) {
     }
 }
 
-/// No columns, one, 126 and 127, and rooms around each count.
+/// No columns, one, 510 and 511, and rooms around each count.
 fn counts(sink: &mut dyn Sink) {
-    for count in [0, 1, 2, 3, 125, 126, 127, 128, 300] {
+    for count in [0, 1, 2, 3, 126, 127, 128, 300, 509, 510, 511, 512, 600] {
         let columns: Vec<String> = (0..count).map(|i| format!("c{i} {}", TYPES[i % TYPES.len()])).collect();
         let text = format!("CREATE TABLE t (id INTEGER PRIMARY KEY, {})", columns.join(", "));
         let due = column_list(text.as_bytes()).map_or(0, |l| hints(l).len());
-        for room in [0, 1, 2, due.saturating_sub(1), due, due + 1, 126, 127, 200] {
+        for room in [0, 1, 2, due.saturating_sub(1), due, due + 1, 126, 127, 510, 511] {
             put(sink, text.as_bytes(), room);
         }
     }
@@ -155,7 +156,8 @@ fn counts(sink: &mut dyn Sink) {
 
 fn random_statement(random: &mut Random) -> Vec<u8> {
     let mut text = String::from(random.pick(&["CREATE TABLE t (", "(", "create table x(", "t((", ""]));
-    let columns = random.mostly_below(6, 30, 140);
+    let most = 14 + most_columns(random);
+    let columns = random.mostly_below(6, 30, most);
     for i in 0..columns {
         if i > 0 {
             text.push_str(random.pick(&[",", ", ", " ,", ",\n  ", ",,", " , "]));

@@ -2,6 +2,7 @@
 
 use super::databases::{harm, payload, Database, SIZES};
 use super::numbers::{far, BAD_SIZES};
+use super::records::most_columns;
 use super::walks::{needs, random_database};
 use crate::calls::{self, RECOVER};
 use crate::case::Case;
@@ -98,7 +99,7 @@ fn bench(sink: &mut dyn Sink) {
 /// Rows of a narrow table beside a wide one, which may have none: all groups are as wide as the wide one.
 fn widths(sink: &mut dyn Sink) {
     let db = sample();
-    for wide in [1, 2, 3, 4, 20, 125, 126] {
+    for wide in [1, 2, 3, 4, 20, 125, 126, 127, 510] {
         for root in 0..=3 {
             let tables = [(1, hints(1)), (root, hints(wide)), (1, hints(3))];
             for rows in 0..=6 {
@@ -122,8 +123,9 @@ fn raw(sink: &mut dyn Sink, db: &Database, roots: &[u64], counts: &[u64], hints:
 
 fn counts(sink: &mut dyn Sink) {
     let db = sample();
-    for count in [0, 1, 2, 125, 126, 127, 128, 255, 256, 257, 1 << 32, (1 << 32) + 1, 1 << 63, u64::MAX] {
-        let held = hints((count as usize).min(300) + 1);
+    let wide = [125, 126, 127, 128, 255, 256, 257, 509, 510, 511, 512];
+    for count in [0, 1, 2, 1 << 32, (1 << 32) + 1, 1 << 63, u64::MAX].into_iter().chain(wide) {
+        let held = hints((count as usize).min(600) + 1);
         for (roots, counts) in [(&[1][..], &[count][..]), (&[1, 1], &[1, count]), (&[1, 1], &[count, 1])] {
             for length in 0..=held.len() {
                 if length < 4 || length + 2 > held.len() {
@@ -188,7 +190,7 @@ fn many(sink: &mut dyn Sink) {
 /// Every set of refusals that can hold at once, but for the size of the database, which large.rs adds.
 pub fn refusals(sink: &mut dyn Sink, db: &Database) {
     for size in [db.size as u64, 0, 511] {
-        for count in [0, 1, 127] {
+        for count in [0, 1, 127, 511] {
             for code in [0, 6] {
                 for tables in [1, 2, 1025] {
                     for flags in [0, db.pages()] {
@@ -240,7 +242,8 @@ fn roots(sink: &mut dyn Sink) {
 pub fn random_tables(random: &mut Random) -> Vec<Table> {
     let tables = random.mostly_below(4, 20, 8);
     let table = |random: &mut Random| {
-        let columns = 1 + random.mostly_below(3, 60, 126);
+        let most = most_columns(random);
+        let columns = 1 + random.mostly_below(3, 60, most);
         let root = if random.once_in(20) { random.any_width() } else { random.below(6) as u64 };
         (root, (0..columns).map(|_| random.below(6) as u8).collect())
     };

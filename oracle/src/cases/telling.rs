@@ -1,8 +1,10 @@
 //! Cases for the recording, each of which tells one rule.
 
 pub mod lists;
+pub mod rebuilding;
 pub mod rows;
 pub mod values;
+pub mod wide;
 
 use crate::runner::Sink;
 
@@ -10,4 +12,6 @@ pub fn all(sink: &mut dyn Sink) {
     values::all(sink);
     rows::all(sink);
     lists::all(sink);
+    rebuilding::all(sink);
+    wide::all(sink);
 }

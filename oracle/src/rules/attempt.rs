@@ -31,16 +31,21 @@ pub fn suits(hint: u8, kind: u64) -> bool {
 
 pub fn attempt(limits: &Limits, region: &[u8], hints: &[u8], o: usize) -> Attempt {
     let part = region.get(o..).unwrap_or(&[]);
-    let (header, width) = match read(limits, part, 0) {
+    attempt_on(limits, part, part.len(), hints)
+}
+
+/// An attempt at the first of so many bytes, of which all that it reads are given.
+pub fn attempt_on(limits: &Limits, front: &[u8], length: usize, hints: &[u8]) -> Attempt {
+    let (header, width) = match read(limits, front, 0) {
         Varint::Whole { value, width } => (value, width),
         Varint::Cut(read) => return miss(read),
     };
-    let passed = header >= limits.least_header && header <= limits.most_header && header <= part.len() as u64;
+    let passed = header >= limits.least_header && header <= limits.most_header && header <= length as u64;
     if !passed {
         return miss(width);
     }
-    match kinds(limits, part, width, header, usize::MAX) {
-        Ok((kinds, at)) => Attempt { read: at as u64, found: judge(part.len(), limits.consumed, hints, header, kinds) },
+    match kinds(limits, front, width, header, usize::MAX) {
+        Ok((kinds, at)) => Attempt { read: at as u64, found: judge(length, limits.consumed, hints, header, kinds) },
         Err(read) => miss(read),
     }
 }

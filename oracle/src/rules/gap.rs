@@ -1,9 +1,9 @@
 //! Rows out of a page's gap and of the cells in its free blocks.
 
-use crate::rules::attempt::{attempt, judge, kinds, scan, Found};
-use crate::rules::limits::Limits;
+use crate::rules::attempt::{attempt, attempt_on, judge, kinds, scan, Found};
+use crate::rules::limits::{Limits, EXACT};
 use crate::rules::page::number;
-use crate::rules::varint::whole;
+use crate::rules::varint::{whole, written};
 use std::collections::HashSet;
 use std::ops::Range;
 
@@ -42,16 +42,23 @@ impl Carved {
     }
 }
 
+/// What rows are looked for: those that suit these hints, with headers rebuilt in that way.
+#[derive(Clone, Copy)]
+pub struct Sought<'a> {
+    pub hints: &'a [u8],
+    pub rebuilding: u64,
+}
+
 /// The rows of a page whose b-tree header stands at `head`: those of the gap, then those of each block.
-pub fn rows(limits: &Limits, page: &[u8], head: usize, hints: &[u8]) -> Vec<Carved> {
+pub fn rows(limits: &Limits, page: &[u8], head: usize, sought: Sought) -> Vec<Carved> {
     let mut rows = Vec::new();
     if let Some(gap) = gap(limits, page, head) {
-        let found = scan(limits, &page[gap.clone()], hints, 0, usize::MAX).rows;
+        let found = scan(limits, &page[gap.clone()], sought.hints, 0, usize::MAX).rows;
         rows.extend(found.into_iter().map(|(o, found)| Carved { at: gap.start + o, origin: Origin::Gap, found }));
     }
     for payload in payloads(limits, page, head) {
         let start = payload.start;
-        rows.extend(block_rows(limits, &page[payload], hints).into_iter().map(|row| row.moved(start)));
+        rows.extend(block_rows(limits, &page[payload], sought).into_iter().map(|row| row.moved(start)));
     }
     rows
 }
@@ -95,14 +102,15 @@ pub fn payloads(limits: &Limits, page: &[u8], head: usize) -> Vec<Range<usize>> 
 }
 
 /// The rows of a block's payload: its cells, then the rebuilt ones that stand where no cell's row does.
-pub fn block_rows(limits: &Limits, payload: &[u8], hints: &[u8]) -> Vec<Carved> {
+pub fn block_rows(limits: &Limits, payload: &[u8], sought: Sought) -> Vec<Carved> {
     let mut rows = Vec::new();
-    each_cell(limits, payload, hints, |cell, found| {
+    let rebuilt = if sought.rebuilding == EXACT { exact } else { one_byte };
+    each_cell(limits, payload, sought.hints, |cell, found| {
         rows.extend(found.map(|found| Carved { at: cell.start, origin: Origin::Cell(cell.id), found }));
     });
     let cells: HashSet<usize> = rows.iter().map(|row| row.at).collect();
     for at in (0..payload.len()).filter(|at| !cells.contains(at)) {
-        let found = rebuilt(limits, &payload[at..], hints);
+        let found = rebuilt(limits, &payload[at..], sought.hints);
         rows.extend(found.map(|found| Carved { at, origin: Origin::Rebuilt, found }));
     }
     rows
@@ -146,8 +154,25 @@ fn row_of(limits: &Limits, payload: &[u8], cell: &Cell, hints: &[u8]) -> Option<
 
 /// An attempt on a made-up byte and these: the byte says that it and as many more as there are columns are the header.
 /// Places here count without that byte.
-fn rebuilt(limits: &Limits, part: &[u8], hints: &[u8]) -> Option<Found> {
+fn one_byte(limits: &Limits, part: &[u8], hints: &[u8]) -> Option<Found> {
     let header = hints.len() as u64;
     let (kinds, _) = kinds(limits, part, 0, header, usize::MAX).ok()?;
     judge(part.len(), limits.rebuilt_consumed, hints, header, kinds)
+}
+
+/// An attempt on a made-up length and these, of which as many types as there are columns are the rest of the header. Places here
+/// count without that length's own bytes.
+fn exact(limits: &Limits, part: &[u8], hints: &[u8]) -> Option<Found> {
+    let mut types = 0;
+    for _ in hints {
+        types += whole(limits, part, types)?.1;
+        if types > limits.type_bytes {
+            return None;
+        }
+    }
+    let own = written((limits.made_up)(types));
+    let front = [&own, &part[..types]].concat();
+    let found = attempt_on(limits, &front, own.len() + part.len(), hints).found?;
+    let behind = |place: u64| place - own.len() as u64;
+    Some(Found { header: behind(found.header), consumed: behind(found.consumed), ..found })
 }

@@ -3,6 +3,8 @@
 #[derive(Clone, Debug)]
 pub struct Limits {
     pub columns: usize,
+    /// The most columns where a header length of one byte is made up.
+    pub one_byte_columns: usize,
     pub hint: u8,
     pub region: usize,
     pub base: u64,
@@ -33,6 +35,10 @@ pub struct Limits {
     /// What confidence is multiplied with where a header is rebuilt, and how many bytes such a row has at most.
     pub rebuilt: f32,
     pub rebuilt_consumed: u64,
+    /// The most bytes of types behind a header length that is made up exactly.
+    pub type_bytes: usize,
+    /// That length for so many bytes of types.
+    pub made_up: fn(usize) -> u64,
     /// The percent of a confidence.
     pub percent: fn(f32) -> u64,
     /// The confidence of each of the three modes.
@@ -54,13 +60,18 @@ pub struct Limits {
     pub before_types: usize,
 }
 
+/// The codes of the ways in which headers are rebuilt.
+pub const ONE_BYTE: u64 = 1;
+pub const EXACT: u64 = 2;
+
 pub const WORDS_PER_ROW: usize = 8;
 pub const WORDS_PER_ENTRY: usize = 4;
 
 impl Limits {
     pub fn of_the_rules() -> Limits {
         Limits {
-            columns: 126,
+            columns: 510,
+            one_byte_columns: 126,
             hint: 5,
             region: 16_777_216,
             base: 1 << 48,
@@ -84,6 +95,8 @@ impl Limits {
             chain_steps: 1024,
             rebuilt: 0.9,
             rebuilt_consumed: 65_535,
+            type_bytes: 510,
+            made_up: |types| if types <= 126 { types as u64 + 1 } else { types as u64 + 2 },
             percent: |confidence| (confidence * 100.0) as u64,
             modes: [0.8, 0.5, 0.3],
             least_normal: 3,
@@ -107,11 +120,16 @@ impl Limits {
         first(&[(1, self.bad_count(columns)), (3, region.len() > self.region), (4, base > self.base)])
     }
 
-    /// The first refusal of a call over one region and one table.
-    pub fn region_refusal(&self, region: &[u8], hints: &[u8], base: u64) -> Option<u64> {
+    /// The same in a call that may rebuild headers.
+    pub fn bad_table(&self, columns: u64, rebuilding: Option<u64>) -> bool {
+        self.bad_count(columns) || rebuilding == Some(ONE_BYTE) && columns > self.one_byte_columns as u64
+    }
+
+    /// The first refusal of a call over one region and one table, which may rebuild headers.
+    pub fn region_refusal(&self, region: &[u8], hints: &[u8], base: u64, rebuilding: Option<u64>) -> Option<u64> {
         first(&[
-            (1, self.bad_count(hints.len() as u64)),
-            (2, hints.iter().any(|&h| h > self.hint)),
+            (1, self.bad_table(hints.len() as u64, rebuilding)),
+            (2, unknown(rebuilding) || hints.iter().any(|&h| h > self.hint)),
             (3, region.len() > self.region),
             (4, base > self.base),
         ])
@@ -121,6 +139,11 @@ impl Limits {
     pub fn page_size(&self, size: u64) -> bool {
         size.is_power_of_two() && (self.least_page..=self.most_page).contains(&size)
     }
+}
+
+/// Whether headers are to be rebuilt in a way that there is not.
+pub fn unknown(rebuilding: Option<u64>) -> bool {
+    rebuilding.is_some_and(|code| ![ONE_BYTE, EXACT].contains(&code))
 }
 
 /// The number of the first test that holds.

@@ -24,6 +24,14 @@ pub fn read(limits: &Limits, bytes: &[u8], at: usize) -> Varint {
     Varint::Whole { value: high << bits | last, width: asking + 1 }
 }
 
+/// A number below 2^14 in as few bytes as hold it.
+pub fn written(value: u64) -> Vec<u8> {
+    match u8::try_from(value) {
+        Ok(byte) if byte < 128 => vec![byte],
+        _ => vec![128 | (value >> 7) as u8, value as u8 & 127],
+    }
+}
+
 /// The value and the width of a varint that does not run off.
 pub fn whole(limits: &Limits, bytes: &[u8], at: usize) -> Option<(u64, usize)> {
     match read(limits, bytes, at) {

@@ -2,12 +2,14 @@
 
 use super::{put_counted, put_damaged, Back, Leaf, Tablet};
 use crate::calls::scan::entries;
-use crate::calls::{self, BLOCK, LEARN, MODES, UNALLOC};
+use crate::calls::{
+    self, BLOCK, GAPS, GAP_PAGE, GAP_SLICE, LEARN, MODES, RECOVER, RECOVER_PAGE, RECOVER_SLICE, UNALLOC,
+};
 use crate::case::Case;
 use crate::cases::databases::LEAF;
 use crate::cases::regions::lists;
 use crate::rules::attempt::attempt;
-use crate::rules::limits::{Limits, WORDS_PER_ENTRY, WORDS_PER_ROW};
+use crate::rules::limits::{Limits, EXACT, ONE_BYTE, WORDS_PER_ENTRY, WORDS_PER_ROW};
 use crate::rules::page::{chain, number};
 use crate::rules::varint::whole;
 use crate::runner::{Runner, Sink};
@@ -28,17 +30,42 @@ fn fitted(runner: &Runner, mut case: Case, width: usize) -> Case {
     case
 }
 
+/// A carver of pages: its calls over tables, on a page by its number and on a slice, and its way of rebuilding headers.
+pub struct Carver {
+    of_tables: u8,
+    of_page: u8,
+    of_slice: u8,
+    way: Option<u64>,
+}
+
+impl Carver {
+    fn numbers(&self, others: &[u64]) -> Vec<u64> {
+        self.way.iter().chain(others).copied().collect()
+    }
+}
+
+const ONE_BYTE_GAPS: Carver = Carver { of_tables: GAPS, of_page: GAP_PAGE, of_slice: GAP_SLICE, way: Some(ONE_BYTE) };
+
+/// Freed blocks, and free space in both ways.
+pub const CARVERS: [Carver; 3] = [
+    Carver { of_tables: RECOVER, of_page: RECOVER_PAGE, of_slice: RECOVER_SLICE, way: None },
+    ONE_BYTE_GAPS,
+    Carver { way: Some(EXACT), ..ONE_BYTE_GAPS },
+];
+
 /// What a carver of pages finds on all leaves of the table. Each page is given by its number, too, behind the first.
-pub fn table(runner: &mut Runner, tablet: &Tablet, db: &[u8], (of_tables, of_page): (u8, u8)) -> Back {
+pub fn table(runner: &mut Runner, tablet: &Tablet, db: &[u8], carver: &Carver) -> Back {
     let mut back = Back::default();
     let (width, pages) = (tablet.hints.len(), db.len() / tablet.page);
-    let case = Case::new(of_tables, &[tablet.page as u64], &[db, &tablet.hints], &[pages, STACK, 0, 0]);
+    let size = tablet.page as u64;
+    let lists = [pages, STACK, 0, 0];
+    let case = Case::new(carver.of_tables, &carver.numbers(&[size]), &[db, &tablet.hints], &lists);
     let case = fitted(runner, case.with_words(&[&[ROOT], &[width as u64]]), width);
     put_counted(runner, tablet, case, width, &mut back);
     let (first, others) = db.split_at(tablet.page);
     for page in others.chunks_exact(tablet.page) {
         let two = [first, page].concat();
-        let case = Case::new(of_page, &[tablet.page as u64, 2], &[&two, &tablet.hints], &[0, 0]);
+        let case = Case::new(carver.of_page, &carver.numbers(&[size, 2]), &[&two, &tablet.hints], &[0, 0]);
         let case = fitted(runner, case, width);
         runner.put(case);
     }
@@ -46,11 +73,12 @@ pub fn table(runner: &mut Runner, tablet: &Tablet, db: &[u8], (of_tables, of_pag
 }
 
 /// What it finds on each leaf by itself.
-pub fn leaves(runner: &mut Runner, tablet: &Tablet, pages: &[Leaf], of_slice: u8) -> Back {
+pub fn leaves(runner: &mut Runner, tablet: &Tablet, pages: &[Leaf], carver: &Carver) -> Back {
     let mut back = Back::default();
     let width = tablet.hints.len();
     for page in pages.iter().filter(|page| page.bytes[page.header] == LEAF) {
-        let case = Case::new(of_slice, &[page.header as u64, page.at as u64], &[page.bytes, &tablet.hints], &[0, 0]);
+        let numbers = carver.numbers(&[page.header as u64, page.at as u64]);
+        let case = Case::new(carver.of_slice, &numbers, &[page.bytes, &tablet.hints], &[0, 0]);
         let case = fitted(runner, case, width);
         put_counted(runner, tablet, case, width, &mut back);
     }
@@ -66,9 +94,12 @@ pub fn modes(runner: &mut Runner, tablet: &Tablet, pages: &[Leaf]) -> Back {
             let (base, bytes) = ((page.at + block.start) as u64, &page.bytes[block.start..][..block.size]);
             let case = fitted(runner, Case::new(MODES, &[base, width as u64], &[bytes], &[0, 0]), width);
             put_counted(runner, tablet, case, width, &mut back);
-            let case = fitted(runner, Case::new(BLOCK, &[base + 4], &[&bytes[4..], &tablet.hints], &[0, 0]), width);
-            put_damaged(runner, &case, base);
-            runner.put(case);
+            for way in [ONE_BYTE, EXACT] {
+                let case = Case::new(BLOCK, &[way, base + 4], &[&bytes[4..], &tablet.hints], &[0, 0]);
+                let case = fitted(runner, case, width);
+                put_damaged(runner, &case, base);
+                runner.put(case);
+            }
         }
     }
     back

@@ -1,6 +1,7 @@
 // Calls at the edges of their rules, where no recorded case reaches: a line a case, to be held beside docs/RULES.md.
 mod lists;
 mod reals;
+mod rebuilds;
 mod records;
 mod shares;
 mod sheets;
@@ -16,4 +17,7 @@ fn main() {
     lists::searches();
     records::scans();
     records::long_rows();
+    rebuilds::counts();
+    rebuilds::codes();
+    rebuilds::long_rows();
 }

@@ -45,6 +45,8 @@ fn share(suited: u16, columns: u16) {
 pub fn all() {
     share(0, 1);
     share(1, 126);
+    share(1, 127);
+    share(1, 510);
     share(1, 100);
     share(1, 3);
     // Just below 53, and, rebuilt, just below 75.

@@ -1,2 +1,3 @@
+mod Coded
 pub mod Unique
 mod Words

@@ -8,8 +8,11 @@ use mathlib.Core.List.{List, [], _∷_}
 use lib.ListN.{length}
 use Rattle.carve.specs.Modes.{carveRows, carveCols, carveNumber, carveWritten}
 use Rattle.carving.specs.Calls.{sliceRows, sliceCols, sliceNumber, sliceWritten, numberedRows, numberedCols, numberedNumber, numberedWritten}
+use Rattle.carving.specs.declared.inner.Carving.{Carving}
 use Rattle.carving.specs.declared.inner.Carving.the-variants.{Freeblocks, Gaps, Payload}
 use Rattle.phsarodil.specs.Door.{scanWords}
+use Rattle.phsarodil.specs.Rebuildings.{named, byName, unnamedNumber}
+use Rattle.rebuild.specs.declared.rebuilding.Rebuilding.{Rebuilding}
 use Rattle.recording.specs.Recording.{number, slice, secondSlice, freshWord, firstHolds, secondHolds, answered, wordsIn}
 use Rattle.rowcases.specs.declared.rows.Attempts.{Attempts}
 use Rattle.rowcases.specs.declared.rows.Attempts.the-variants.{One, All, By}
@@ -17,6 +20,7 @@ use Rattle.rowcases.specs.declared.rows.Carver.{Carver}
 use Rattle.rowcases.specs.declared.rows.Carver.the-variants.{PageFreeblocks, SliceFreeblocks, PageGap, SliceGap, Cells, Modes, Unallocated}
 use Rattle.scan.specs.Once.{onceRows, onceCols, onceNumber, onceWritten}
 use Rattle.scan.specs.Scan.{scanRows, scanCols, scanNumber}
+use Rattle.sheet.specs.Limits.{countFits}
 use Rattle.unalloc.specs.Learned.{learnedRows, learnedCols, learnedNumber, learnedWritten}
 
 -- what a call returns and leaves: its number, its words, and both lists
@@ -39,52 +43,45 @@ pub record Carved : Type 0 where
   pub rows : List ℕ
   pub cols : List ℕ
 
--- by what the two numbers are: a page's size and number, the place of a slice's header and the base, the base alone, the base and how many columns
--- there are; learned types are recorded as bytes
-abbrev pub carvedBy : Carver → List ℕ → List ℕ → ℕ → ℕ → List ℕ → List ℕ → Carved
-carvedBy PageFreeblocks s hints size page rows cols =
+-- a page by its number, and a slice with the place of its header
+abbrev pub onNumber : List ℕ → List ℕ → ℕ → ℕ → List ℕ → List ℕ → Carving → Carved
+onNumber s hints size page rows cols how =
     record {
-      number = numberedNumber Freeblocks s size page hints (length rows) (length cols);
-      written = numberedWritten Freeblocks s size page hints (length rows) (length cols);
-      rows = numberedRows Freeblocks s size page hints rows cols;
-      cols = numberedCols Freeblocks s size page hints rows cols;
+      number = numberedNumber how s size page hints (length rows) (length cols);
+      written = numberedWritten how s size page hints (length rows) (length cols);
+      rows = numberedRows how s size page hints rows cols;
+      cols = numberedCols how s size page hints rows cols;
     }
-carvedBy SliceFreeblocks s hints head base rows cols =
+
+abbrev pub onSlice : List ℕ → List ℕ → ℕ → ℕ → List ℕ → List ℕ → Carving → Carved
+onSlice s hints head base rows cols how =
     record {
-      number = sliceNumber Freeblocks s head base hints (length rows) (length cols);
-      written = sliceWritten Freeblocks s head base hints (length rows) (length cols);
-      rows = sliceRows Freeblocks s head base hints rows cols;
-      cols = sliceCols Freeblocks s head base hints rows cols;
+      number = sliceNumber how s head base hints (length rows) (length cols);
+      written = sliceWritten how s head base hints (length rows) (length cols);
+      rows = sliceRows how s head base hints rows cols;
+      cols = sliceCols how s head base hints rows cols;
     }
-carvedBy PageGap s hints size page rows cols =
-    record {
-      number = numberedNumber Gaps s size page hints (length rows) (length cols);
-      written = numberedWritten Gaps s size page hints (length rows) (length cols);
-      rows = numberedRows Gaps s size page hints rows cols;
-      cols = numberedCols Gaps s size page hints rows cols;
-    }
-carvedBy SliceGap s hints head base rows cols =
-    record {
-      number = sliceNumber Gaps s head base hints (length rows) (length cols);
-      written = sliceWritten Gaps s head base hints (length rows) (length cols);
-      rows = sliceRows Gaps s head base hints rows cols;
-      cols = sliceCols Gaps s head base hints rows cols;
-    }
-carvedBy Cells s hints base none rows cols =
-    record {
-      number = sliceNumber Payload s 0 base hints (length rows) (length cols);
-      written = sliceWritten Payload s 0 base hints (length rows) (length cols);
-      rows = sliceRows Payload s 0 base hints rows cols;
-      cols = sliceCols Payload s 0 base hints rows cols;
-    }
-carvedBy Modes s hints base columns rows cols =
+
+-- in the way of rebuilding that a code names; one that names none leaves the lists as they were
+abbrev pub byCode : ℕ → List ℕ → List ℕ → List ℕ → (Rebuilding → Carved) → Carved
+byCode code hints rows cols call = byName (named code) call (record { number = unnamedNumber (countFits (length hints)); written = 0; rows = rows; cols = cols })
+
+-- by what the numbers are: a page's size and number, the place of a slice's header and the base, the base alone, the base and how many columns
+-- there are; a call that rebuilds headers has its code before them; learned types are recorded as bytes
+abbrev pub carvedBy : Carver → List ℕ → List ℕ → ℕ → ℕ → ℕ → List ℕ → List ℕ → Carved
+carvedBy PageFreeblocks s hints size page none rows cols = onNumber s hints size page rows cols Freeblocks
+carvedBy SliceFreeblocks s hints head base none rows cols = onSlice s hints head base rows cols Freeblocks
+carvedBy PageGap s hints code size page rows cols = byCode code hints rows cols (λ how. onNumber s hints size page rows cols (Gaps how))
+carvedBy SliceGap s hints code head base rows cols = byCode code hints rows cols (λ how. onSlice s hints head base rows cols (Gaps how))
+carvedBy Cells s hints code base none rows cols = byCode code hints rows cols (λ how. onSlice s hints 0 base rows cols (Payload how))
+carvedBy Modes s hints base columns none rows cols =
     record {
       number = carveNumber s base columns (length rows) (length cols);
       written = carveWritten s base columns (length rows) (length cols);
       rows = carveRows s base columns rows cols;
       cols = carveCols s base columns rows cols;
     }
-carvedBy Unallocated s types base none rows cols =
+carvedBy Unallocated s types base none more rows cols =
     record {
       number = learnedNumber s (wordsIn types) base (length rows) (length cols);
       written = learnedWritten s (wordsIn types) base (length rows) (length cols);
@@ -97,26 +94,26 @@ abbrev pub wordy : Carved → List ℕ → Left
 wordy l more = record { number = l .number; words = l .written ∷ more; rows = l .rows; cols = l .cols }
 
 -- ---- all calls: one attempt and all of a region, where the numbers are the base and a place, and those above, whose other words are recorded as 0
-abbrev pub attempted : Attempts → List ℕ → List ℕ → ℕ → ℕ → List ℕ → List ℕ → Left
-attempted One s hints base at rows cols =
+abbrev pub attempted : Attempts → List ℕ → List ℕ → ℕ → ℕ → ℕ → List ℕ → List ℕ → Left
+attempted One s hints base at none rows cols =
     record {
       number = onceNumber s hints base at (length rows) (length cols);
       words = onceWritten s hints base at (length rows) (length cols) ∷ 0 ∷ 0 ∷ [];
       rows = onceRows s hints base at rows cols;
       cols = onceCols s hints base at rows cols;
     }
-attempted All s hints base at rows cols =
+attempted All s hints base at none rows cols =
     record {
       number = scanNumber s hints base at (length rows) (length cols);
       words = scanWords s hints base at (length rows) (length cols);
       rows = scanRows s hints base at rows cols;
       cols = scanCols s hints base at rows cols;
     }
-attempted (By how) s hints a b rows cols = wordy (carvedBy how s hints a b rows cols) (0 ∷ 0 ∷ [])
+attempted (By how) s hints a b c rows cols = wordy (carvedBy how s hints a b c rows cols) (0 ∷ 0 ∷ [])
 
 -- a call with what the case gives: cells lent at 64 and 72, cells written at 80 and 88
 abbrev pub onCase : Attempts → List ℕ → List ℕ → List ℕ → List ℕ → Left
-onCase how h b rows cols = attempted how (slice h b) (secondSlice h b) (number 0 h) (number 1 h) rows cols
+onCase how h b rows cols = attempted how (slice h b) (secondSlice h b) (number 0 h) (number 1 h) (number 2 h) rows cols
 
 abbrev pub leftAgrees : List ℕ → List ℕ → Left → Bool
 leftAgrees h b l = answered h (l .number) (l .words) && firstHolds freshWord h b (l .rows) && secondHolds h b (l .cols)

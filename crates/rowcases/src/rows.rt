@@ -55,35 +55,45 @@ fn unallocated(
     out: &mut [u64; 1],
 ) -> u64
     requires { ⌜ length (now types) ≤ mostSize ⌝ }
-    ensures { λ r. ⌜ Leaves (wordy (carvedBy Unallocated (now (region .entry)) (now (types .entry)) base 0 (now (rows .entry)) (now (cols .entry))) []) r (now (out .exit)) (now (rows .exit)) (now (cols .exit)) ⌝ }
+    ensures { λ r. ⌜ Leaves (wordy (carvedBy Unallocated (now (region .entry)) (now (types .entry)) base 0 0 (now (rows .entry)) (now (cols .entry))) []) r (now (out .exit)) (now (rows .exit)) (now (cols .exit)) ⌝ }
 {
     let words = words_in(types);
     let n = types.len() / 8;
     phs_carve_unallocated(region, &words[..n], base, rows, cols, out)
 }
 
-// What the two numbers are, each call says, and so whether it has hints.
+// What the numbers are, each call says, and so whether it has hints.
 fn carve(
     how: Carver,
     bytes: &[u8],
     hints: &[u8],
     a: u64,
     b: u64,
+    c: u64,
     rows: &mut [u64],
     cols: &mut [u64],
     out: &mut [u64; 1],
 ) -> u64
     requires { ⌜ length (now hints) ≤ mostSize ⌝ }
-    ensures { λ r. ⌜ Leaves (wordy (carvedBy how (now (bytes .entry)) (now (hints .entry)) a b (now (rows .entry)) (now (cols .entry))) []) r (now (out .exit)) (now (rows .exit)) (now (cols .exit)) ⌝ }
+    ensures { λ r. ⌜ Leaves (wordy (carvedBy how (now (bytes .entry)) (now (hints .entry)) a b c (now (rows .entry)) (now (cols .entry))) []) r (now (out .exit)) (now (rows .exit)) (now (cols .exit)) ⌝ }
 {
     match how {
         Carver::PageFreeblocks => phs_recover_page_freeblocks(bytes, a, b, hints, rows, cols, out),
         Carver::SliceFreeblocks => {
             phs_recover_slice_freeblocks(bytes, a as usize, b, hints, rows, cols, out)
         }
-        Carver::PageGap => phs_scan_page_gap(bytes, a, b, hints, rows, cols, out),
-        Carver::SliceGap => phs_scan_single_page_gap(bytes, a as usize, b, hints, rows, cols, out),
-        Carver::Cells => phs_parse_cells_from_freeblock(bytes, a, hints, rows, cols, out),
+        Carver::PageGap => phs_scan_page_gap(a, bytes, b, c, hints, rows, cols, out),
+        Carver::SliceGap => phs_scan_single_page_gap(
+            a,
+            bytes,
+            b as usize,
+            c,
+            hints,
+            rows,
+            cols,
+            out,
+        ),
+        Carver::Cells => phs_parse_cells_from_freeblock(a, bytes, b, hints, rows, cols, out),
         Carver::Modes => phs_carve_freeblock(bytes, a, b as usize, rows, cols, out),
         Carver::Unallocated => unallocated(bytes, hints, a, rows, cols, out),
     }
@@ -96,15 +106,16 @@ fn carve_in_three(
     hints: &[u8],
     a: u64,
     b: u64,
+    c: u64,
     rows: &mut [u64],
     cols: &mut [u64],
     out: &mut [u64; 3],
 ) -> u64
     requires { ⌜ length (now hints) ≤ mostSize ⌝ }
-    ensures { λ r. ⌜ Leaves (wordy (carvedBy how (now (bytes .entry)) (now (hints .entry)) a b (now (rows .entry)) (now (cols .entry))) (0 ∷ 0 ∷ [])) r (now (out .exit)) (now (rows .exit)) (now (cols .exit)) ⌝ }
+    ensures { λ r. ⌜ Leaves (wordy (carvedBy how (now (bytes .entry)) (now (hints .entry)) a b c (now (rows .entry)) (now (cols .entry))) (0 ∷ 0 ∷ [])) r (now (out .exit)) (now (rows .exit)) (now (cols .exit)) ⌝ }
 {
     let mut written = [0; 1];
-    let number = carve(how, bytes, hints, a, b, rows, cols, &mut written);
+    let number = carve(how, bytes, hints, a, b, c, rows, cols, &mut written);
     *out = [written[0], 0, 0];
     number
 }
@@ -115,17 +126,18 @@ fn attempt(
     hints: &[u8],
     a: u64,
     b: u64,
+    c: u64,
     rows: &mut [u64],
     cols: &mut [u64],
     out: &mut [u64; 3],
 ) -> u64
     requires { ⌜ length (now hints) ≤ mostSize ⌝ }
-    ensures { λ r. ⌜ Leaves (attempted how (now (bytes .entry)) (now (hints .entry)) a b (now (rows .entry)) (now (cols .entry))) r (now (out .exit)) (now (rows .exit)) (now (cols .exit)) ⌝ }
+    ensures { λ r. ⌜ Leaves (attempted how (now (bytes .entry)) (now (hints .entry)) a b c (now (rows .entry)) (now (cols .entry))) r (now (out .exit)) (now (rows .exit)) (now (cols .exit)) ⌝ }
 {
     match how {
         Attempts::One => phs_try_parse_record(bytes, hints, a, b as usize, rows, cols, out),
         Attempts::All => phs_scan_region(bytes, hints, a, b as usize, rows, cols, out),
-        Attempts::By(carver) => carve_in_three(carver, bytes, hints, a, b, rows, cols, out),
+        Attempts::By(carver) => carve_in_three(carver, bytes, hints, a, b, c, rows, cols, out),
     }
 }
 
@@ -145,7 +157,8 @@ fn attempt_of(
     let hints = part(body, first, size_at(head, LENGTHS + 8));
     let a = word_at(head, NUMBERS);
     let b = word_at(head, NUMBERS + 8);
-    attempt(how, bytes, hints, a, b, rows, cols, out)
+    let c = word_at(head, NUMBERS + 16);
+    attempt(how, bytes, hints, a, b, c, rows, cols, out)
 }
 
 // The call on lists as they are lent.

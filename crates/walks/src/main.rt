@@ -1,5 +1,6 @@
 // Walks and what is carved on them, over a tablet that is made up: a line a case, and a line for each row, to be held beside docs/RULES.md.
 mod leaves;
+mod modes;
 mod rows;
 mod tablet;
 
@@ -12,4 +13,6 @@ fn main() {
     rows::gaps(&db);
     rows::pages(&db);
     rows::large_page();
+    modes::both();
+    modes::wide(&db);
 }

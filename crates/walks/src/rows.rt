@@ -74,13 +74,21 @@ pub fn freeblocks(db: &[u8]) {
     blocks(b"a hint left over:", db, 2, 7, 1);
 }
 
-fn gaps_in(name: &[u8], db: &[u8], stack: &mut [u64], rows: &mut [u64], cols: &mut [u64]) {
+fn gaps_in(
+    name: &[u8],
+    code: u64,
+    db: &[u8],
+    stack: &mut [u64],
+    rows: &mut [u64],
+    cols: &mut [u64],
+) {
     let mut flags = [7; 6];
     let mut out = [9; 1];
     let roots = [1, 6];
     let counts = [2, 3];
     let hints = [0, 2, 1, 3, 5];
     let number = phs_scan_page_gaps(
+        code,
         db,
         512,
         &roots,
@@ -98,7 +106,7 @@ fn gaps_in(name: &[u8], db: &[u8], stack: &mut [u64], rows: &mut [u64], cols: &m
     say::rows(rows, cols, 12);
 }
 
-fn free_space(name: &[u8], db: &[u8], depth: usize, room: usize)
+fn free_space(name: &[u8], code: u64, db: &[u8], depth: usize, room: usize)
     requires { ⌜ (depth ≤ 7) × (room ≤ 20) ⌝ }
 {
     let mut stack = [8; 7];
@@ -108,6 +116,7 @@ fn free_space(name: &[u8], db: &[u8], depth: usize, room: usize)
     let cells = 12 * room;
     gaps_in(
         name,
+        code,
         db,
         &mut stack[..depth],
         &mut rows[..words],
@@ -115,11 +124,13 @@ fn free_space(name: &[u8], db: &[u8], depth: usize, room: usize)
     );
 }
 
+// In the one-byte mode; where every type takes one byte, the exact mode has the same rows.
 pub fn gaps(db: &[u8]) {
-    free_space(b"room for 20:", db, 7, 20);
-    free_space(b"room for 1:", db, 7, 1);
-    free_space(b"room for 6:", db, 7, 6);
-    free_space(b"a stack of 6:", db, 6, 8);
+    free_space(b"room for 20:", 1, db, 7, 20);
+    free_space(b"room for 1:", 1, db, 7, 1);
+    free_space(b"room for 6:", 1, db, 7, 6);
+    free_space(b"a stack of 6:", 1, db, 6, 8);
+    free_space(b"exact, room for 6:", 2, db, 7, 6);
 }
 
 // Of a call on one table of two columns.
@@ -165,7 +176,7 @@ pub fn large_page() {
     let mut cols = [9; 16];
     let mut out = [9; 1];
     let hints = [0, 2];
-    let number = phs_scan_single_page_gap(&page, 0, 0, &hints, &mut rows, &mut cols, &mut out);
+    let number = phs_scan_single_page_gap(1, &page, 0, 0, &hints, &mut rows, &mut cols, &mut out);
     say_single(
         b"free space of a page of 65536 bytes:",
         number,

@@ -30,8 +30,14 @@ add-word-at c = search needs
 word-at-requires-2 : tie.Need-word-at-requires-2
 word-at-requires-2 c κs = search needs
 
+add-word-at-2 : tie.Need-add-word-at-2
+add-word-at-2 c = search needs
+
+word-at-requires-3 : tie.Need-word-at-requires-3
+word-at-requires-3 c κs = search needs
+
 attempt-requires : tie.Need-attempt-requires
-attempt-requires c κs = rw (c .before .before .before .before .before .part2 .ensures) (le-trans (part-short _ _ _) (c .before .before .before .before .before .before .size-at2 .ensures .1))
+attempt-requires c κs = rw (c .before .before .before .before .before .before .part2 .ensures) (le-trans (part-short _ _ _) (c .before .before .before .before .before .before .before .size-at2 .ensures .1))
 
 same-length : tie.Need-same-length
 same-length c = search needs
@@ -41,9 +47,10 @@ same-length-2 c = search needs
 
 returns : tie.Need-returns
 returns c =
-    let g = c .before .before .before .before .before .before .before .before in
+    let third = c .before .before .before .before .before .before .before .before in
+    let g = third .before in
     rw
-    (g .before .before .part2 .ensures, g .before .before .before .before .part .ensures, g .before .before .before .size-at2 .ensures .0, g .before .before .before .before .before .size-at .ensures .0, g .before .word-at .ensures, g .word-at2 .ensures)
+    (g .before .before .part2 .ensures, g .before .before .before .before .part .ensures, g .before .before .before .size-at2 .ensures .0, g .before .before .before .before .before .size-at .ensures .0, g .before .word-at .ensures, g .word-at2 .ensures, third .word-at3 .ensures)
     at
     (c .before .before .before .before .attempt .ensures)
 
@@ -59,6 +66,8 @@ attempt-of-spec =
     word-at-requires
     add-word-at
     word-at-requires-2
+    add-word-at-2
+    word-at-requires-3
     attempt-requires
     same-length
     same-length-2

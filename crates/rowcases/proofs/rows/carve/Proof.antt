@@ -1,6 +1,11 @@
 -- `rowcases::rows::carve` meets its contract: each arm is the call's own contract.
 -- Assumes nothing.
+use mathlib.Core.List.{[]}
 use borrow.Author.Needs.{needs}
+use denote.Ref.{now}
+use Rattle.carving.specs.declared.inner.Carving.the-variants.{Gaps, Payload}
+use Rattle.rowcases.specs.Calls.{onNumber, onSlice}
+use Rattle.rowcases.proofs.Coded.{coded-leaves}
 use Rattle.rowcases.proofs.rows.carve.Statement.{statement}
 use Rattle.rowcases.proofs.rows.carve.Tie as tie
 
@@ -71,7 +76,7 @@ same-length-6 : tie.Need-same-length-6
 same-length-6 c = search needs
 
 returns-3 : tie.Need-returns-3
-returns-3 c = let e = c .before .before .before .before .phs-scan-page-gap .ensures in rw (c .before .before .before .before .before .before .before .before .enum-told3 .given .1) (record { number-is = e .0; words-are = e .1 .0; rows-are = e .1 .1 .0; cols-are = e .1 .1 .1 })
+returns-3 c = let a = c .before .before .before .before .before .before .before .before .before .before .before .before .before .before .args in let e = c .before .before .before .before .phs-scan-page-gap .ensures in rw (c .before .before .before .before .before .before .before .before .enum-told3 .given .1) (coded-leaves (a .a) (now (a .hints)) (now (a .rows)) (now (a .cols)) (λ how. onNumber (now (a .bytes)) (now (a .hints)) (a .b) (a .c) (now (a .rows)) (now (a .cols)) (Gaps how)) [] _ _ _ _ (e .0) (e .1 .0) (e .1 .1 .0) (e .1 .1 .1))
 
 same-length-7 : tie.Need-same-length-7
 same-length-7 c = search needs
@@ -80,7 +85,7 @@ same-length-8 : tie.Need-same-length-8
 same-length-8 c = search needs
 
 returns-4 : tie.Need-returns-4
-returns-4 c = let e = c .before .before .before .before .phs-scan-single-page-gap .ensures in rw (c .before .before .before .before .before .before .before .before .enum-told4 .given .1) (record { number-is = e .0; words-are = e .1 .0; rows-are = e .1 .1 .0; cols-are = e .1 .1 .1 })
+returns-4 c = let a = c .before .before .before .before .before .before .before .before .before .before .before .before .before .before .args in let e = c .before .before .before .before .phs-scan-single-page-gap .ensures in rw (c .before .before .before .before .before .before .before .before .enum-told4 .given .1) (coded-leaves (a .a) (now (a .hints)) (now (a .rows)) (now (a .cols)) (λ how. onSlice (now (a .bytes)) (now (a .hints)) (a .b) (a .c) (now (a .rows)) (now (a .cols)) (Gaps how)) [] _ _ _ _ (e .0) (e .1 .0) (e .1 .1 .0) (e .1 .1 .1))
 
 same-length-9 : tie.Need-same-length-9
 same-length-9 c = search needs
@@ -89,7 +94,7 @@ same-length-10 : tie.Need-same-length-10
 same-length-10 c = search needs
 
 returns-5 : tie.Need-returns-5
-returns-5 c = let e = c .before .before .before .before .phs-parse-cells-from-freeblock .ensures in rw (c .before .before .before .before .before .before .before .before .enum-told5 .given .1) (record { number-is = e .0; words-are = e .1 .0; rows-are = e .1 .1 .0; cols-are = e .1 .1 .1 })
+returns-5 c = let a = c .before .before .before .before .before .before .before .before .before .before .before .before .before .before .args in let e = c .before .before .before .before .phs-parse-cells-from-freeblock .ensures in rw (c .before .before .before .before .before .before .before .before .enum-told5 .given .1) (coded-leaves (a .a) (now (a .hints)) (now (a .rows)) (now (a .cols)) (λ how. onSlice (now (a .bytes)) (now (a .hints)) 0 (a .b) (now (a .rows)) (now (a .cols)) (Payload how)) [] _ _ _ _ (e .0) (e .1 .0) (e .1 .1 .0) (e .1 .1 .1))
 
 same-length-11 : tie.Need-same-length-11
 same-length-11 c = search needs

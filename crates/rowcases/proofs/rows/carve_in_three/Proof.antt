@@ -7,8 +7,8 @@ use Rattle.rowcases.proofs.rows.carve_in_three.Tie as tie
 carve-requires : tie.Need-carve-requires
 carve-requires c κs = search needs
 
-array-read-t18 : tie.Need-array-read-t18
-array-read-t18 c = search needs
+array-read-t19 : tie.Need-array-read-t19
+array-read-t19 c = search needs
 
 same-length : tie.Need-same-length
 same-length c = search needs
@@ -23,4 +23,4 @@ returns c =
 
 pub carve-in-three-spec : {M : Type 1} → statement M
 carve-in-three-spec =
-    tie.close (tie.spec carve-requires array-read-t18 same-length same-length-2 returns)
+    tie.close (tie.spec carve-requires array-read-t19 same-length same-length-2 returns)

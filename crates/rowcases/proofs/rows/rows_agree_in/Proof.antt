@@ -13,7 +13,7 @@ use Rattle.rowcases.proofs.rows.rows_agree_in.Tie as tie
 
 -- as many words as there are cells
 words : (c : tie.After-out2) → 3 ≡ length (c .before .before .before .before .before .attempt-of .last .1 .1 .1 .1 .1 .0)
-words c = sym (ap length (c .before .before .before .before .before .attempt-of .ensures .words-are) ∙ attempts-three (c .before .before .before .before .before .before .before .before .before .before .before .before .before .args .how) _ _ _ _ _ _)
+words c = sym (ap length (c .before .before .before .before .before .attempt-of .ensures .words-are) ∙ attempts-three (c .before .before .before .before .before .before .before .before .before .before .before .before .before .args .how) _ _ _ _ _ _ _)
 
 -- the answer and the lists are the call's
 told : (c : tie.After-answered) →

@@ -20,9 +20,10 @@ const LARGEST_FILE: usize = 3_000_000;
 /// Slices and cells in all of a case that is one of many.
 const LARGEST_OF_MANY: usize = 1200;
 
-/// Cases of one kind: the first few, and then ever fewer of the many.
+/// Cases of one kind: the first few, and then ever fewer of the many, the sooner the larger they are.
 const FIRST: usize = 6;
-const GROWTH: f64 = 1.7;
+const GROWTH: f64 = 2.0;
+const GROWTH_BY_SIZE: f64 = 1.0 / 500.0;
 
 struct Recorder {
     file: Vec<u8>,
@@ -58,7 +59,7 @@ impl Recorder {
         let (seen, next) = self.kinds.entry((case.call, answer.number, found)).or_insert((0, 0.0));
         *seen += 1;
         if *seen <= FIRST || *seen as f64 >= *next {
-            *next = *seen as f64 * GROWTH;
+            *next = *seen as f64 * (GROWTH + case.size() as f64 * GROWTH_BY_SIZE);
             return true;
         }
         false

@@ -25,7 +25,7 @@ pub fn all(sink: &mut dyn Sink, random: &mut Random, count: usize) {
 pub fn to_be_recorded(sink: &mut dyn Sink) {
     for h in [1, 2, 3, 511, 512, 513] {
         for wide in 1..=3 {
-            for columns in [1, 57, 126, 510] {
+            for columns in [1, 57, 126] {
                 if let Some(header) = exact(h, wide, columns, 0) {
                     scan(sink, &header, &vec![0; columns], 1);
                     attempt(sink, &header, &vec![5; columns], 0);
@@ -33,8 +33,28 @@ pub fn to_be_recorded(sink: &mut dyn Sink) {
             }
         }
     }
-    bases(sink);
-    refusals(sink, &[2, 13, 0]);
+    let top = 1 << 48;
+    for (columns, hint, base) in [
+        (0, 0, top + 1),
+        (1, 0, 0),
+        (1, 0, top),
+        (1, 0, top + 1),
+        (1, 6, top + 1),
+        (2, 255, 0),
+        (510, 0, 0),
+        (510, 6, 0),
+        (511, 0, 0),
+        (511, 6, top + 1),
+    ] {
+        // The last hint is the bad one.
+        let mut hints = vec![0; columns];
+        hints.last_mut().into_iter().for_each(|last| *last = hint);
+        for call in [ATTEMPT, SCAN] {
+            for rows in [0, 1] {
+                sink.put(Case::new(call, &[base, 1], &[&[0, 2, 9, 0], &hints], &lists(rows, 1)));
+            }
+        }
+    }
 }
 
 /// The widths of so many types in so many bytes, each from 1 to 9; none where they do not go in.

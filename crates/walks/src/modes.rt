@@ -1,7 +1,7 @@
 // The two modes of rebuilding (11.6 and 11.9), 1 one-byte and 2 exact: on a page whose one freed block has lost its header, with a type that is padded
 // to two bytes; and on tables of which one is too wide for the one-byte mode (1.1).
+use crate::rows::gaps_of;
 use phsarodil::gaps::phs_scan_page_gap;
-use phsarodil::gaps::phs_scan_page_gaps;
 use phsarodil::gaps::phs_scan_single_page_gap;
 use shown::say;
 
@@ -62,11 +62,11 @@ fn by_table(mode: &[u8], code: u64, db: &[u8]) {
     let mut stack = [8; 1];
     let mut rows = [9; 8];
     let mut cols = [9; 8];
-    let mut out = [9; 1];
-    let number = phs_scan_page_gaps(
+    say::text(b"a padded type, the table of root 1, ");
+    gaps_of(
+        mode,
         code,
         db,
-        512,
         &[1],
         &[2],
         &[0, 2],
@@ -74,9 +74,8 @@ fn by_table(mode: &[u8], code: u64, db: &[u8]) {
         &mut stack,
         &mut rows,
         &mut cols,
-        &mut out,
     );
-    said(b"the table of root 1, ", mode, number, out[0], &rows, &cols);
+    say::rows(&rows, &cols, 8);
 }
 
 fn in_mode(mode: &[u8], code: u64) {
@@ -98,11 +97,11 @@ fn wide_table(mode: &[u8], code: u64, db: &[u8]) {
     let mut stack = [8; 7];
     let mut rows = [9; 16];
     let mut cols = [9; 1_016];
-    let mut out = [9; 1];
-    let number = phs_scan_page_gaps(
+    say::text(b"a table of 3 columns and one of 127, ");
+    gaps_of(
+        mode,
         code,
         db,
-        512,
         &[6, 6],
         &[3, 127],
         &[5; 130],
@@ -110,16 +109,7 @@ fn wide_table(mode: &[u8], code: u64, db: &[u8]) {
         &mut stack,
         &mut rows,
         &mut cols,
-        &mut out,
     );
-    say::text(b"a table of 3 columns and one of 127, ");
-    say::text(mode);
-    say::answer(number, &[out[0]]);
-    say::text(b", flags");
-    say::bytes(&flags);
-    say::text(b", stack");
-    say::words(&stack);
-    say::text(b"\n");
 }
 
 pub fn wide(db: &[u8]) {

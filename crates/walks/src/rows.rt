@@ -74,6 +74,37 @@ pub fn freeblocks(db: &[u8]) {
     blocks(b"a hint left over:", db, 2, 7, 1);
 }
 
+// The same of the free space of any tables.
+pub fn gaps_of(
+    name: &[u8],
+    code: u64,
+    db: &[u8],
+    roots: &[u64],
+    counts: &[u64],
+    hints: &[u8],
+    flags: &mut [u8],
+    stack: &mut [u64],
+    rows: &mut [u64],
+    cols: &mut [u64],
+) {
+    let mut out = [9; 1];
+    let number = phs_scan_page_gaps(
+        code,
+        db,
+        512,
+        roots,
+        counts,
+        hints,
+        flags,
+        stack,
+        rows,
+        cols,
+        &mut out,
+    );
+    say::text(name);
+    say_walk(number, out[0], flags, stack);
+}
+
 fn gaps_in(
     name: &[u8],
     code: u64,
@@ -83,26 +114,19 @@ fn gaps_in(
     cols: &mut [u64],
 ) {
     let mut flags = [7; 6];
-    let mut out = [9; 1];
-    let roots = [1, 6];
-    let counts = [2, 3];
-    let hints = [0, 2, 1, 3, 5];
-    let number = phs_scan_page_gaps(
+    say::text(b"free space of two tables, ");
+    gaps_of(
+        name,
         code,
         db,
-        512,
-        &roots,
-        &counts,
-        &hints,
+        &[1, 6],
+        &[2, 3],
+        &[0, 2, 1, 3, 5],
         &mut flags,
         stack,
         rows,
         cols,
-        &mut out,
     );
-    say::text(b"free space of two tables, ");
-    say::text(name);
-    say_walk(number, out[0], &flags, stack);
     say::rows(rows, cols, 12);
 }
 

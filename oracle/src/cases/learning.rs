@@ -149,6 +149,14 @@ pub fn states(sink: &mut dyn Sink) {
     });
 }
 
+/// Every row of up to three entries, each used or not; a used one behind one that is not is bad.
+pub fn unused(sink: &mut dyn Sink) {
+    every(&[2, 3], 3, |states| {
+        let entries: Vec<u64> = states.iter().flat_map(|&state| [u64::from(state), 0, 0, 0]).collect();
+        put(sink, &BYTES, states.len() as u64, &entries, 3);
+    });
+}
+
 /// Each word of an entry off by a little and by much, in the first and in the last row.
 fn bad_words(sink: &mut dyn Sink) {
     let good: Vec<u64> = ENTRIES.concat();

@@ -6,6 +6,7 @@ pub mod rows;
 pub mod values;
 pub mod wide;
 
+use super::learning;
 use crate::runner::Sink;
 
 pub fn all(sink: &mut dyn Sink) {
@@ -14,4 +15,5 @@ pub fn all(sink: &mut dyn Sink) {
     lists::all(sink);
     rebuilding::all(sink);
     wide::all(sink);
+    learning::unused(sink);
 }

@@ -68,6 +68,9 @@ fn others(sink: &mut dyn Sink) {
             decode(sink, kind, &bytes, offset);
         }
     }
+    for real in [f64::INFINITY, f64::NEG_INFINITY] {
+        decode(sink, 7, &real.to_be_bytes(), 0);
+    }
 }
 
 fn hints(sink: &mut dyn Sink) {

@@ -1,6 +1,9 @@
 // One page, for our own crates.
-use crate::chain::carve_blocks;
-use crate::region::carve_gap;
+mod chain;
+mod region;
+
+use crate::inner::chain::carve_blocks;
+use crate::inner::region::carve_gap;
 use hit::inner::Lent;
 use hit::inner::Spot;
 use rebuild::rebuilding::Rebuilding;

@@ -1,4 +1,2 @@
 // Rows in the free space of a page.
-mod chain;
 pub mod inner;
-mod region;

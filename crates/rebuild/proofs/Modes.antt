@@ -2,17 +2,17 @@
 -- Assumes nothing.
 use Prim.Native.Nat.{ℕ, zero, suc, _+_, _-_, _≤_, _<_}
 use mathlib.Core.Path.{_≡_, refl, sym, ap, _∙_}
-use mathlib.Core.List.{List}
+use mathlib.Core.List.{List, _∷_}
 use native.Mathlib.Nat.{add-zero}
 use native.Mathlib.Omega.{arith}
 use borrow.Author.Tests.{le-leb}
-use lib.ListN.{length, getD}
+use lib.ListN.{length, drop, getD}
 use Rattle.attempt.proofs.Agreeing.{types-same}
 use Rattle.attempt.proofs.Shifts.{given}
 use Rattle.attempt.proofs.Types.{types-step, types-cut, types-none, stops}
-use Rattle.attempt.specs.Attempt.{ended, typesFrom, Tried}
+use Rattle.attempt.specs.Attempt.{ended, typesFrom, Tried, attemptAt}
 use Rattle.attempt.specs.Inner.{headerTypes}
-use Rattle.rebuild.specs.Header.{mostTypeBytes, ownBytes, Guess, noHeader, takes, exactTypes, exactPlaces, takenFrom, guessed, rebuilt}
+use Rattle.rebuild.specs.Header.{oneByteTypes, mostTypeBytes, ownBytes, Guess, noHeader, takes, exactTypes, exactPlaces, takenFrom, guessed, without, rebuilt}
 use Rattle.rebuild.specs.declared.rebuilding.Rebuilding.the-variants.{OneByte, Exact}
 use Rattle.rebuild.proofs.From.{header-is, guess-small}
 use Rattle.rebuild.proofs.Laws.{seenFrom, shortOnly, behind-is, rebuilt-with, rebuilt-cut, rebuilt-none, one-byte-guess}
@@ -26,6 +26,11 @@ use Rattle.sheet.specs.Limits.{mostColumns}
 
 abbrev stopAt : ℕ → ℕ
 stopAt v = v + suc mostTypeBytes
+
+-- THE LAW: the one-byte mode is literally an attempt on one made-up byte, columns + 1, before the bytes from v on
+pub one-byte-is : (d hints : List ℕ) (v : ℕ) → length hints ≤ oneByteTypes → rebuilt OneByte d hints v ≡ without 1 (attemptAt ((length hints + 1) ∷ drop v d) hints 0)
+unfolding rebuilt guessed
+one-byte-is d hints v few = rw (le-leb (length hints) oneByteTypes few)
 
 -- ---- types of one byte each
 module _ (d : List ℕ) (v n : ℕ) (few : n ≤ mostColumns) (low : (p : ℕ) → v ≤ p → p < v + n → getD d p 0 < 128) where

@@ -12,8 +12,8 @@ use Rattle.attempt.specs.declared.inner.Find.{Find}
 use Rattle.attempt.specs.declared.inner.Verdict.{Verdict}
 use Rattle.attempt.specs.declared.inner.Verdict.the-variants.{Hit, Miss}
 use Rattle.rebuild.specs.Header.{mostTypeBytes, exactTypes, rebuilt}
-use Rattle.rebuild.specs.declared.exact.Columns.{Columns}
-use Rattle.rebuild.specs.declared.exact.Columns.the-variants.{Take, Nothing as NoColumns}
+use Rattle.rebuild.specs.declared.inner.columns.Columns.{Columns}
+use Rattle.rebuild.specs.declared.inner.columns.Columns.the-variants.{Take, Nothing as NoColumns}
 use Rattle.rebuild.specs.declared.inner.Rebuilt.{Rebuilt}
 use Rattle.rebuild.specs.declared.inner.Rebuilt.the-variants.{Found as Row, Nothing}
 use Rattle.rebuild.specs.declared.rebuilding.Rebuilding.{Rebuilding}

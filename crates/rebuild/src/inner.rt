@@ -1,6 +1,8 @@
 // What stands at a start of a payload, for our own crates: callers show by proof that it lies there, and that the table is not too wide.
-use crate::exact::Columns;
-use crate::exact::walk_columns;
+mod columns;
+
+use crate::inner::columns::Columns;
+use crate::inner::columns::walk_columns;
 use crate::rebuilding::ONE_BYTE_TYPES;
 use crate::rebuilding::Rebuilding;
 use attempt::inner::Find;

@@ -1,4 +1,3 @@
 // Headers whose length is lost: it is made up, and the types stand where the bytes begin.
-mod exact;
 pub mod inner;
 pub mod rebuilding;

@@ -1,4 +1,4 @@
--- `gap::chain::carve_blocks` meets its contract: what the loop has carved, with what the chain still has, are the hits of all its blocks (`Along`).
+-- `gap::inner::chain::carve_blocks` meets its contract: what the loop has carved, with what the chain still has, are the hits of all its blocks (`Along`).
 -- Assumes nothing.
 use Prim.Native.Nat.{_-_, _<_}
 use mathlib.Core.Path.{_≡_, sym, _∙_}
@@ -11,8 +11,8 @@ use Rattle.gap.specs.Gap.{blockThen, chainEnds, chainFrom, chain}
 use Rattle.gap.specs.Inner.{larger}
 use Rattle.cells.proofs.Along.{Along, along-start, along-long, along-ready, along-end, along-on, along-full}
 use Rattle.gap.proofs.Chaining.{hitsOf, lies, chain-start, chain-step, chain-end, chain-out}
-use Rattle.gap.proofs.chain.carve_blocks.Statement.{statement}
-use Rattle.gap.proofs.chain.carve_blocks.Tie as tie
+use Rattle.gap.proofs.inner.chain.carve_blocks.Statement.{statement}
+use Rattle.gap.proofs.inner.chain.carve_blocks.Tie as tie
 use Rattle.page.specs.Page.{blockNext}
 
 abbrev Inv-loop : tie.InvT-loop

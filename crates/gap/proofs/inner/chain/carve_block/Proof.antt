@@ -1,11 +1,11 @@
--- `gap::chain::carve_block` meets its contract: each way out is a law of `proofs/Chaining.antt`.
+-- `gap::inner::chain::carve_block` meets its contract: each way out is a law of `proofs/Chaining.antt`.
 -- Assumes nothing.
 use native.Mathlib.Omega.{arith}
 use borrow.Author.Needs.{needs}
 use denote.Ref.{now}
 use Rattle.gap.proofs.Chaining.{block-small, block-past, block-hits}
-use Rattle.gap.proofs.chain.carve_block.Statement.{statement}
-use Rattle.gap.proofs.chain.carve_block.Tie as tie
+use Rattle.gap.proofs.inner.chain.carve_block.Statement.{statement}
+use Rattle.gap.proofs.inner.chain.carve_block.Tie as tie
 use Rattle.walk.proofs.Carving.{carves-none}
 
 block-size-requires : tie.Need-block-size-requires

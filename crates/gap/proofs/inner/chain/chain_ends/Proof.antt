@@ -1,11 +1,11 @@
--- `gap::chain::chain_ends` meets its contract: the two tests of `chainEnds`, one after the other.
+-- `gap::inner::chain::chain_ends` meets its contract: the two tests of `chainEnds`, one after the other.
 -- Assumes nothing.
 use mathlib.Core.Path.{sym}
 use native.Mathlib.Omega.{arith}
 use borrow.Author.Needs.{needs}
 use Rattle.gap.proofs.Chaining.{ends-zero, ends-by}
-use Rattle.gap.proofs.chain.chain_ends.Statement.{statement}
-use Rattle.gap.proofs.chain.chain_ends.Tie as tie
+use Rattle.gap.proofs.inner.chain.chain_ends.Statement.{statement}
+use Rattle.gap.proofs.inner.chain.chain_ends.Tie as tie
 
 returns : tie.Need-returns
 returns c = sym (ends-zero _ _ (omega (arith, c .if1 .taken)))

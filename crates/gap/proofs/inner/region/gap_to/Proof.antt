@@ -1,9 +1,9 @@
--- `gap::region::gap_to` meets its contract.
+-- `gap::inner::region::gap_to` meets its contract.
 -- Assumes nothing.
 use borrow.Author.Needs.{needs}
 use borrow.Author.Tests.{eq-eqb, ne-eqb}
-use Rattle.gap.proofs.region.gap_to.Statement.{statement}
-use Rattle.gap.proofs.region.gap_to.Tie as tie
+use Rattle.gap.proofs.inner.region.gap_to.Statement.{statement}
+use Rattle.gap.proofs.inner.region.gap_to.Tie as tie
 
 content-start-requires : tie.Need-content-start-requires
 content-start-requires c κs = search needs

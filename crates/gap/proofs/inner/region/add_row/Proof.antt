@@ -1,10 +1,10 @@
--- `gap::region::add_row` meets its contract: the row is the definition's, and `add_hit` writes it with its columns.
+-- `gap::inner::region::add_row` meets its contract: the row is the definition's, and `add_hit` writes it with its columns.
 -- Assumes nothing.
 use borrow.Author.Needs.{needs}
 use denote.Ref.{now}
 use Rattle.gap.proofs.Regions.{row-is}
-use Rattle.gap.proofs.region.add_row.Statement.{statement}
-use Rattle.gap.proofs.region.add_row.Tie as tie
+use Rattle.gap.proofs.inner.region.add_row.Statement.{statement}
+use Rattle.gap.proofs.inner.region.add_row.Tie as tie
 
 cast-suited-share : tie.Need-cast-suited-share
 cast-suited-share c = search needs

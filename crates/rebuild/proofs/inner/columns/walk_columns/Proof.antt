@@ -1,4 +1,4 @@
--- `rebuild::exact::walk_columns` meets its contract: what the loop has read, with what is to come, are all types (`Reading`).
+-- `rebuild::inner::columns::walk_columns` meets its contract: what the loop has read, with what is to come, are all types (`Reading`).
 -- Assumes nothing.
 use Prim.Native.Nat.{_+_, _-_, _≤_}
 use mathlib.Core.Path.{_≡_, sym, _∙_}
@@ -11,8 +11,8 @@ use Rattle.record.proofs.Laws.{varint-lies}
 use Rattle.record.specs.Varint.{varintAt}
 use Rattle.record.specs.declared.varint.Varint.the-variants.{Value}
 use borrow.Author.Needs.{needs}
-use Rattle.rebuild.proofs.exact.walk_columns.Statement.{statement}
-use Rattle.rebuild.proofs.exact.walk_columns.Tie as tie
+use Rattle.rebuild.proofs.inner.columns.walk_columns.Statement.{statement}
+use Rattle.rebuild.proofs.inner.columns.walk_columns.Tie as tie
 
 abbrev Inv-loop : tie.InvT-loop
 Inv-loop payload hints v last at₀ count₀ matched₀ total₀ at count matched total =

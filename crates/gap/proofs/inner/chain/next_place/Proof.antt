@@ -1,10 +1,10 @@
--- `gap::chain::next_place` meets its contract.
+-- `gap::inner::chain::next_place` meets its contract.
 -- Assumes nothing.
 use native.Mathlib.Omega.{arith}
 use borrow.Author.Needs.{needs}
 use borrow.Author.Tests.{le-leb, lt-leb}
-use Rattle.gap.proofs.chain.next_place.Statement.{statement}
-use Rattle.gap.proofs.chain.next_place.Tie as tie
+use Rattle.gap.proofs.inner.chain.next_place.Statement.{statement}
+use Rattle.gap.proofs.inner.chain.next_place.Tie as tie
 
 block-next-requires : tie.Need-block-next-requires
 block-next-requires c κs = search needs

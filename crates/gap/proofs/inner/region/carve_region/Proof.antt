@@ -1,4 +1,4 @@
--- `gap::region::carve_region` meets its contract: what the loop has carved, with what is left of the run, are the hits of the whole run (`Scanning`).
+-- `gap::inner::region::carve_region` meets its contract: what the loop has carved, with what is left of the run, are the hits of the whole run (`Scanning`).
 -- Assumes nothing.
 use Prim.Native.Nat.{_+_, _-_, _≤_, _<_}
 use mathlib.Core.Path.{_∙_}
@@ -11,8 +11,8 @@ use Rattle.cells.proofs.Along.{along-long, along-ready}
 use Rattle.filter.proofs.Laws.{no-run}
 use Rattle.filter.specs.Inner.{IsHigh, RowIs, ThroughIs}
 use Rattle.gap.proofs.Regions.{Scanning, scanning-start, scanning-passed, scanning-through, scanning-found, scanning-full}
-use Rattle.gap.proofs.region.carve_region.Statement.{statement}
-use Rattle.gap.proofs.region.carve_region.Tie as tie
+use Rattle.gap.proofs.inner.region.carve_region.Statement.{statement}
+use Rattle.gap.proofs.inner.region.carve_region.Tie as tie
 use Rattle.sheet.specs.Limits.{largestRegion}
 
 abbrev Inv-loop : tie.InvT-loop

@@ -1,11 +1,11 @@
--- `gap::region::carve_gap` meets its contract: each way out is a law of `proofs/Gaps.antt`.
+-- `gap::inner::region::carve_gap` meets its contract: each way out is a law of `proofs/Gaps.antt`.
 -- Assumes nothing.
 use mathlib.Core.Path.{sym, _∙_}
 use borrow.Author.Needs.{needs}
 use denote.Ref.{now}
 use Rattle.gap.proofs.Gaps.{gap-none, gap-past, gap-zero, gap-some}
-use Rattle.gap.proofs.region.carve_gap.Statement.{statement}
-use Rattle.gap.proofs.region.carve_gap.Tie as tie
+use Rattle.gap.proofs.inner.region.carve_gap.Statement.{statement}
+use Rattle.gap.proofs.inner.region.carve_gap.Tie as tie
 use Rattle.walk.proofs.Carving.{carves-none}
 
 gap-from-requires : tie.Need-gap-from-requires

@@ -1,4 +1,4 @@
--- `gap::region::all_zero` meets its contract: the bytes from i on decide.
+-- `gap::inner::region::all_zero` meets its contract: the bytes from i on decide.
 -- Assumes nothing.
 use Prim.Native.Nat.{_-_, _≤_}
 use mathlib.Core.Path.{_≡_, refl, sym, _∙_}
@@ -6,8 +6,8 @@ use borrow.Author.Needs.{needs}
 use lib.ListN.{length, drop}
 use Rattle.gap.specs.Gap.{allZero}
 use Rattle.gap.proofs.Gaps.{zero-step, zero-not, zero-end}
-use Rattle.gap.proofs.region.all_zero.Statement.{statement}
-use Rattle.gap.proofs.region.all_zero.Tie as tie
+use Rattle.gap.proofs.inner.region.all_zero.Statement.{statement}
+use Rattle.gap.proofs.inner.region.all_zero.Tie as tie
 
 abbrev Inv-loop : tie.InvT-loop
 Inv-loop bytes i₀ i = (i ≤ length bytes) × (allZero bytes ≡ allZero (drop i bytes))

@@ -1,5 +1,6 @@
 pub mod Agreeing
 mod Bodies
+pub mod Fuel
 pub mod Judging
 pub mod Laws
 pub mod ReadBack

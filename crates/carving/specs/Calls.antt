@@ -9,7 +9,7 @@ use Rattle.carving.specs.declared.inner.Carving.{Carving}
 use Rattle.carving.specs.declared.inner.Carving.the-variants.{Freeblocks, Gaps, Payload}
 use Rattle.cells.specs.Cells.{payloadHits}
 use Rattle.freeblock.specs.Freeblock.{pageHits}
-use Rattle.gap.specs.Gap.{gapHits, pageHits as gapPageHits}
+use Rattle.gap.specs.Gap.{pageHits as gapPageHits}
 use Rattle.hit.specs.declared.inner.Spot.{Spot}
 use Rattle.page.specs.Page.{startOf, pageOf, headOf, pageChecks}
 use Rattle.rebuild.specs.Header.{mostBy}
@@ -38,7 +38,7 @@ tooWide how columns = record { refusal = ColumnCount; holds = ltb (widthBy how) 
 -- and 11.9 for the payload of one block
 unfoldable pub hitsBy : Carving → List ℕ → ℕ → List ℕ → Spot → List Hit
 hitsBy Freeblocks page head hints spot = pageHits page head hints spot
-hitsBy (Gaps how) page head hints spot = gapPageHits gapHits how page head hints spot
+hitsBy (Gaps how) page head hints spot = gapPageHits how page head hints spot
 hitsBy (Payload how) page head hints spot = payloadHits how spot 0 page hints
 
 -- a page of a database: offsets and entries are said of the database

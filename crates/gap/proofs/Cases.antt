@@ -78,7 +78,7 @@ computed (gap page head is to) = gapped (hasGap page head) (gapTo page head)
 computed (steps k page bs) = places (chainFrom k page 8)
 computed (blocks page bs) = places (chain page 0)
 computed (onPage how page head spot o) =
-    let hits = pageHits gapHits how page head hints spot in
+    let hits = pageHits how page head hints spot in
     carved (record { rows = rowsWords (rowsOf hits); cols = groupsWords (length hints) hits })
 
 expected : Case → Answer

@@ -54,25 +54,25 @@ module _ (page : List ℕ) (head : ℕ) (hints : List ℕ) (spot : Spot) (from t
 
 -- ---- a page
 module _ (how : Rebuilding) (page : List ℕ) (head : ℕ) (hints : List ℕ) (spot : Spot) where
-  pub page-short : length page < head + 8 → pageHits gapHits how page head hints spot ≡ []
+  pub page-short : length page < head + 8 → pageHits how page head hints spot ≡ []
   unfolding pageHits
   page-short h = simp (lt-ltb (length page) (head + 8) h)
 
   page-whole : head + 8 ≤ length page
-      → pageHits gapHits how page head hints spot ≡ gapHits page head hints spot ++ blocksHits how page hints spot (chain page head)
+      → pageHits how page head hints spot ≡ gapHits page head hints spot ++ blocksHits how page hints spot (chain page head)
   unfolding pageHits
   page-whole h = simp (le-ltb (length page) (head + 8) h)
 
   module _ (lent : Lent) (n : ℕ) (rows cols rows′ cols′ : List ℕ) (h : head + 8 ≤ length page) where
     pub page-full : Carves (lent .width) (lent .room) n (gapHits page head hints spot) false rows cols over rows′ cols′
-        → Carves (lent .width) (lent .room) n (pageHits gapHits how page head hints spot) false rows cols over rows′ cols′
+        → Carves (lent .width) (lent .room) n (pageHits how page head hints spot) false rows cols over rows′ cols′
     page-full x =
         rw (page-whole h)
         (carves-stop (lent .width) (lent .room) n (gapHits page head hints spot) (blocksHits how page hints spot (chain page head)) rows cols rows′ cols′ false false x)
 
     pub page-more : (m : ℕ) (r : Told) (rows″ cols″ : List ℕ) → Carves (lent .width) (lent .room) n (gapHits page head hints spot) false rows cols (on m) rows′ cols′
         → Carves (lent .width) (lent .room) m (blocksHits how page hints spot (chain page head)) false rows′ cols′ r rows″ cols″
-        → Carves (lent .width) (lent .room) n (pageHits gapHits how page head hints spot) false rows cols r rows″ cols″
+        → Carves (lent .width) (lent .room) n (pageHits how page head hints spot) false rows cols r rows″ cols″
     page-more m r rows″ cols″ x y =
         rw (page-whole h)
         (carves-more (lent .width) (lent .room) n (gapHits page head hints spot) (blocksHits how page hints spot (chain page head)) rows cols rows′ cols′ m false r rows″ cols″ x y)

@@ -108,7 +108,7 @@ module _ (slice : List ℕ) (spot : Spot) (page hints : List ℕ) (part : PartOf
         (inSlice (spot .start + (b .at + 4)) (payloadValues how (payloadOf page b) hints)) (blocksValues how (spot .start) page hints bs) (r .0) (all-blocks bs (r .1))
 
     -- THE LAW: so all rows of the page
-    pub page-reads : (head : ℕ) → AllRead slice (length hints) (pageHits gapHits how page head hints spot) (pageValues how (spot .start) page head hints)
+    pub page-reads : (head : ℕ) → AllRead slice (length hints) (pageHits how page head hints spot) (pageValues how (spot .start) page head hints)
     unfolding pageHits pageValues
     page-reads head = go (ltb (length page) (head + 8))
       where

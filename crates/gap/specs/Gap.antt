@@ -37,10 +37,6 @@ unfoldable pub allZero : List ℕ → Bool
 allZero [] = true
 allZero (b ∷ bs) = eqb b 0 && allZero bs
 
--- what is made of a page beside its blocks
-abbrev pub Region : Type 0
-Region = List ℕ → ℕ → List ℕ → Spot → List Hit
-
 -- Rule 11.2: the row at o of a region that begins at `from` in its page
 abbrev pub regionHit : Spot → ℕ → ℕ → ℕ → Found → Hit
 regionHit spot columns from o x =
@@ -57,7 +53,7 @@ unfoldable pub regionHits : Spot → ℕ → List ℕ → List ℕ → List Hit
 regionHits spot from s hints = runHits spot (length hints) from (scanFrom (length s) s hints (length s) 0 0)
 
 -- Rule 11.1: a gap of zeros is left out
-unfoldable pub gapHits : Region
+unfoldable pub gapHits : List ℕ → ℕ → List ℕ → Spot → List Hit
 gapHits page head hints spot = cond (hasGap page head && not (allZero (gapOf page head))) (regionHits spot (gapFrom page head) (gapOf page head) hints) []
 
 -- ---- the chain
@@ -88,6 +84,6 @@ blocksHits how page hints spot [] = []
 blocksHits how page hints spot (b ∷ bs) = payloadHits how spot (b .at + 4) (payloadOf page b) hints ++ blocksHits how page hints spot bs
 
 -- Rule 11.8: a page that ends in its header has nothing
-unfoldable pub pageHits : Region → Rebuilding → List ℕ → ℕ → List ℕ → Spot → List Hit
-pageHits region how page head hints spot =
-    cond (ltb (length page) (head + 8)) [] (region page head hints spot ++ blocksHits how page hints spot (chain page head))
+unfoldable pub pageHits : Rebuilding → List ℕ → ℕ → List ℕ → Spot → List Hit
+pageHits how page head hints spot =
+    cond (ltb (length page) (head + 8)) [] (gapHits page head hints spot ++ blocksHits how page hints spot (chain page head))

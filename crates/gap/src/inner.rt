@@ -11,7 +11,7 @@ use walk::inner::Carved;
 ghost use mathlib.Core.Bool.{false};
 ghost use Prim.Native.Nat.{_≤_};
 ghost use lib.ListN.{length};
-ghost use Rattle.gap.specs.Gap.{gapHits, pageHits};
+ghost use Rattle.gap.specs.Gap.{pageHits};
 ghost use Rattle.hit.specs.Inner.{Ready};
 ghost use Rattle.rebuild.specs.Header.{mostBy};
 ghost use Rattle.walk.specs.Inner.{carvedAs, Carves};
@@ -30,7 +30,7 @@ pub fn carve_page(
 ) -> Carved
     requires { ⌜ length (now hints) ≤ mostBy how ⌝ }
     requires { ⌜ Ready (length (now page)) (length (now hints)) spot lent n (length (now rows)) (length (now cols)) ⌝ }
-    ensures { λ r. ⌜ Carves (lent .width) (lent .room) n (pageHits gapHits how (now (page .entry)) head (now (hints .entry)) spot) false (now (rows .entry)) (now (cols .entry)) (carvedAs r) (now (rows .exit)) (now (cols .exit)) ⌝ }
+    ensures { λ r. ⌜ Carves (lent .width) (lent .room) n (pageHits how (now (page .entry)) head (now (hints .entry)) spot) false (now (rows .entry)) (now (cols .entry)) (carvedAs r) (now (rows .exit)) (now (cols .exit)) ⌝ }
 {
     // The header's place may be any number, so nothing is added to it here.
     if head > page.len() {

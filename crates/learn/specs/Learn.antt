@@ -11,11 +11,11 @@ use Rattle.record.specs.declared.entry.EntryRead.{EntryRead}
 use Rattle.record.specs.declared.entry.EntryRead.the-variants.{Of, Refused as Bad}
 use Rattle.sheet.specs.Filled.{filledBy, writtenAfter, laid}
 use Rattle.sheet.specs.Limits.{wordsPerEntry, largestRegion, countFits}
-use Rattle.sheet.specs.Refusal.{Check, firstHeld, after, afterOrKept}
+use Rattle.sheet.specs.Refusal.{Check, firstHeld, refusalNumber, after, afterOrKept}
 use Rattle.sheet.specs.Sheet.{entriesIn}
 use Rattle.sheet.specs.declared.filled.Filled.{Filled}
 use Rattle.sheet.specs.declared.filled.Filled.the-variants.{Refused}
-use Rattle.sheet.specs.declared.refusal.Refusal.the-variants.{ColumnCount, Malformed, TooLarge}
+use Rattle.sheet.specs.declared.refusal.Refusal.the-variants.{ColumnCount, Malformed, TooLarge, NoRoom}
 use Rattle.learn.specs.Types.{valueType, commonestOf}
 
 -- the most rows to learn from
@@ -126,10 +126,10 @@ learned s width words = hintsOf s (rowsOf width words)
 -- Rule 13.1: the number that the call answers with; 0 stands for none
 unfoldable pub learnNumber : List ℕ → ℕ → List ℕ → ℕ → ℕ
 learnNumber s width words room =
-    cond (miscounted width) 1
-    (cond (malformed s width words) 2
-    (cond (tooLarge s width words) 3
-    (cond (ltb room (length (learned s width words))) 9 0)))
+    cond (miscounted width) (refusalNumber ColumnCount)
+    (cond (malformed s width words) (refusalNumber Malformed)
+    (cond (tooLarge s width words) (refusalNumber TooLarge)
+    (cond (ltb room (length (learned s width words))) (refusalNumber NoRoom) 0)))
 
 -- and how many hints it says are written
 unfoldable pub learnWritten : List ℕ → ℕ → List ℕ → ℕ → ℕ

@@ -96,6 +96,6 @@ pagedNumber (Refused r) = refusalNumber r
 
 unfoldable pub pageRefusal : ℕ → ℕ → ℕ → ℕ
 pageRefusal len size p =
-    cond (ltb largestRegion len) 3
-    (cond (not (sizeFits size)) 5
-    (cond (not (hasPage len size p)) 6 0))
+    cond (ltb largestRegion len) (refusalNumber TooLarge)
+    (cond (not (sizeFits size)) (refusalNumber PageSize)
+    (cond (not (hasPage len size p)) (refusalNumber NoSuchPage) 0))

@@ -2,6 +2,7 @@
 -- Assumes nothing.
 use mathlib.Core.Path.{_≡_, sym, _∙_}
 use denote.Ref.{now}
+use Rattle.record.proofs.entry.Entry.is_bad.Reads as is-bad
 use Rattle.record.proofs.entry.Entry.read.Reads as read
 use Rattle.record.proofs.entry.Entry.view.Reads as view
 use Rattle.record.proofs.record.Value.len.Reads as value-len
@@ -9,6 +10,7 @@ use Rattle.record.proofs.record.Value.start.Reads as value-start
 use Rattle.record.proofs.record.body_length.Reads as body-length
 use Rattle.record.proofs.record.decode_serial_type.Reads as decode-serial-type
 use Rattle.record.proofs.varint.Cursor.header_length.Reads as header-length
+use Rattle.record.proofs.varint.Cursor.often_short.Reads as often-short
 use Rattle.record.proofs.varint.Cursor.serial_type.Reads as serial-type
 use Rattle.record.proofs.varint.Cursor.varint.Reads as varint
 use Rattle.record.proofs.varint.read_varint.Reads as read-varint
@@ -23,6 +25,9 @@ Fixes {K} {A} {R} {S} Post = (k : K) (a : A k) (x y : R k) (s t : S k) → Post 
 
 pub varint-fixed : Fixes varint.Post
 varint-fixed k a x y s t p q = p ∙ sym q
+
+pub often-short-fixed : Fixes often-short.Post
+often-short-fixed k a x y s t p q = p ∙ sym q
 
 pub header-length-fixed : Fixes header-length.Post
 header-length-fixed k a x y s t p q = p ∙ sym q
@@ -47,6 +52,9 @@ value-len-fixed k a x y s t p q = p ∙ sym q
 
 pub read-fixed : Fixes read.Post
 read-fixed k a x y s t p q = p .0 ∙ sym (q .0)
+
+pub is-bad-fixed : Fixes is-bad.Post
+is-bad-fixed k a x y s t p q = p ∙ sym q
 
 -- of a part of a slice: its bytes
 pub view-fixed : FixesSeen view.Post (λ k r s. now r)

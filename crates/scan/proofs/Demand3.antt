@@ -13,7 +13,8 @@ use Rattle.attempt.specs.Places.{mostPlaces}
 use Rattle.scan.specs.Scan.{finishedPlaces, triedOffsets, numberOf, writtenOf, placeOf, readOf}
 use Rattle.scan.specs.Sheet.{Sheet, sheetOf, Asked, asked, askedChecked, askedRun, askedSheet, askedCount, Alike}
 use Rattle.scan.proofs.Leaving.{sheet-left, count-left}
-use Rattle.scan.proofs.SameRun.{same-sheet, finished-few}
+use Rattle.scan.proofs.Laws.{count-passed}
+use Rattle.scan.proofs.SameRun.{same-sheet}
 use Rattle.sheet.specs.declared.refusal.Checked.the-variants.{Passed}
 use Rattle.scan.proofs.schema_sig.scan_region.Kinds as kinds
 use Rattle.scan.proofs.schema_sig.scan_region.Reads as scan-region
@@ -48,5 +49,4 @@ module _ (k : Lfts 4) where
   pub counts-places : (a : Dens k kinds.ps) (x : resT kinds.r k .Denot) (s : AtExit (endedOf 4 kinds.ps kinds.r) k) → scan-region.Post k a x s → askedChecked (question a) ≡ Passed →
       let t = askedRun (question a) in
       (readOf x ≡ length (finishedPlaces (now (a .0)) t)) × (length (finishedPlaces (now (a .0)) t) ≤ mostPlaces * triedOffsets t)
-  unfolding askedCount
-  counts-places a x s p e = (rw e at (sheet-is a x s p .1), finished-few (now (a .0)) (askedRun (question a)))
+  counts-places a x s p e = count-passed (question a) (readOf x) (sheet-is a x s p .1) e

@@ -2,6 +2,7 @@ mod Answers
 mod Cases
 mod Checks
 pub mod Demand3
+pub mod Fuel
 pub mod Laws
 pub mod Leaving
 mod OneAttempt

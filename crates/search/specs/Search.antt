@@ -7,10 +7,10 @@ use lib.Dec.{eqb, ltb}
 use lib.ListN.{length, drop}
 use Rattle.sheet.specs.Filled.{filledBy, writtenAfter, laid}
 use Rattle.sheet.specs.Limits.{largestRegion}
-use Rattle.sheet.specs.Refusal.{Check, firstHeld, after, afterOrKept}
+use Rattle.sheet.specs.Refusal.{Check, firstHeld, refusalNumber, after, afterOrKept}
 use Rattle.sheet.specs.declared.filled.Filled.{Filled}
 use Rattle.sheet.specs.declared.filled.Filled.the-variants.{Refused}
-use Rattle.sheet.specs.declared.refusal.Refusal.the-variants.{TooLarge}
+use Rattle.sheet.specs.declared.refusal.Refusal.the-variants.{TooLarge, NoRoom}
 
 -- ---- places
 
@@ -46,7 +46,9 @@ tooLarge haystack = ltb largestRegion (length haystack)
 
 -- Rule 1.1: the number that the call answers with; 0 stands for none
 unfoldable pub searchNumber : List ℕ → List ℕ → ℕ → ℕ
-searchNumber haystack pattern room = cond (tooLarge haystack) 3 (cond (ltb room (length (placesOf haystack pattern))) 9 0)
+searchNumber haystack pattern room =
+    cond (tooLarge haystack) (refusalNumber TooLarge)
+    (cond (ltb room (length (placesOf haystack pattern))) (refusalNumber NoRoom) 0)
 
 -- and how many places it says are written
 unfoldable pub searchWritten : List ℕ → List ℕ → ℕ → ℕ

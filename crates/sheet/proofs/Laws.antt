@@ -12,6 +12,7 @@ use lib.Dec.{leb, ltb, eqb, lit≤}
 use lib.ListN.{length, drop, set, getD, length-append, length-drop}
 use lib.Seq.{sets, sets-eq, take-append-seam, drop-append-add, drop-cons, drop-drop}
 use Rattle.record.proofs.Numbers.{by-order}
+use Rattle.record.specs.Entry.{badNumber}
 use Rattle.sheet.specs.Columns.{columnWords, unusedWords, roomOf}
 use Rattle.sheet.specs.Filled.{filledNumber, filledWritten, filledBy, writtenAfter}
 use Rattle.sheet.specs.Limits.{mostColumns, wordsPerRow, wordsPerEntry, largestRegion, largestBase, highestHint, countFits, hintsKnown}
@@ -28,6 +29,10 @@ use Rattle.sheet.specs.declared.refusal.Refusal.the-variants.{ColumnCoun
 use Rattle.sheet.specs.declared.row.Row.{Row}
 
 -- ---- refusals and hints
+-- the number that `record`, below this crate, has of its own
+pub bad-number : badNumber ≡ refusalNumber Malformed
+bad-number = refl
+
 -- THE LAW: refusals are numbered from 1 to 9, which is why 0 can stand for none
 pub number-range : (r : Refusal) → (1 ≤ refusalNumber r) × (refusalNumber r ≤ 9)
 number-range ColumnCount = (lit≤ tt, lit≤ tt)

@@ -9,7 +9,7 @@ use Rattle.sheet.specs.Refusal.{refusalNumber}
 use Rattle.sheet.specs.Sheet.{overlay}
 use Rattle.sheet.specs.declared.filled.Filled.{Filled}
 use Rattle.sheet.specs.declared.filled.Filled.the-variants.{Done, Full, Refused}
-use Rattle.sheet.specs.declared.refusal.Refusal.the-variants.{NoRoom}
+use Rattle.sheet.specs.declared.refusal.Refusal.the-variants.{ColumnCount, NoColumnList, NoRoom}
 
 -- Rule 1.1: the number of an answer; 0 stands for none
 abbrev pub filledNumber : Filled → ℕ
@@ -29,7 +29,8 @@ filledBy n room = cond (leb n room) (Done n) (Full room)
 
 -- and how many are written by a call that gives this number: none after 1 to 7, else as many as fit
 abbrev pub writtenAfter : ℕ → ℕ → ℕ → ℕ
-writtenAfter number n room = cond (leb 1 number && leb number 7) 0 (min n room)
+writtenAfter number n room =
+    cond (leb (refusalNumber ColumnCount) number && leb number (refusalNumber NoColumnList)) 0 (min n room)
 
 -- Rule 1.2: the first things over what a list held, as many as it has cells
 abbrev pub laid : {A : Type 0} → List A → List A → List A

@@ -9,10 +9,10 @@ use lib.ListN.{length}
 use Rattle.statement.specs.Words.{bytes, trim, has, behindFirst, beforeLast, pieces, secondWord, holds, startsWithOne, equalsOne}
 use Rattle.sheet.specs.Filled.{filledBy, writtenAfter, laid}
 use Rattle.sheet.specs.Limits.{integerHint, realHint, textHint, blobHint, anyHint, countFits}
-use Rattle.sheet.specs.Refusal.{Check, firstHeld, after, afterOrKept}
+use Rattle.sheet.specs.Refusal.{Check, firstHeld, refusalNumber, after, afterOrKept}
 use Rattle.sheet.specs.declared.filled.Filled.{Filled}
 use Rattle.sheet.specs.declared.filled.Filled.the-variants.{Refused}
-use Rattle.sheet.specs.declared.refusal.Refusal.the-variants.{ColumnCount, TooLarge, NoColumnList}
+use Rattle.sheet.specs.declared.refusal.Refusal.the-variants.{ColumnCount, TooLarge, NoColumnList, NoRoom}
 
 -- the most bytes that a statement may have
 abbrev pub largestStatement : ℕ
@@ -95,7 +95,11 @@ miscounted s = not (countFits (length (hintsOf s)))
 
 -- Rule 6.6: the number that the call answers with; 0 stands for none
 unfoldable pub statementNumber : List ℕ → ℕ → ℕ
-statementNumber s room = cond (tooLarge s) 3 (cond (unlisted s) 7 (cond (miscounted s) 1 (cond (ltb room (length (hintsOf s))) 9 0)))
+statementNumber s room =
+    cond (tooLarge s) (refusalNumber TooLarge)
+    (cond (unlisted s) (refusalNumber NoColumnList)
+    (cond (miscounted s) (refusalNumber ColumnCount)
+    (cond (ltb room (length (hintsOf s))) (refusalNumber NoRoom) 0)))
 
 -- and how many hints it says are written
 unfoldable pub statementWritten : List ℕ → ℕ → ℕ

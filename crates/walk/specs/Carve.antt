@@ -15,7 +15,7 @@ use Rattle.sheet.specs.declared.columns.Column.{Column}
 use Rattle.sheet.specs.declared.filled.Filled.{Filled}
 use Rattle.sheet.specs.declared.filled.Filled.the-variants.{Refused as Barred}
 use Rattle.sheet.specs.declared.refusal.Checked.{Checked}
-use Rattle.sheet.specs.declared.refusal.Refusal.the-variants.{ColumnCount, Malformed, TooLarge, PageSize}
+use Rattle.sheet.specs.declared.refusal.Refusal.the-variants.{ColumnCount, Malformed, TooLarge, PageSize, NoRoom}
 use Rattle.sheet.specs.declared.row.Row.{Row}
 use Rattle.walk.specs.Collect.{walkedOf, ifFlagged, walkNumber, walkWritten}
 use Rattle.walk.specs.Walk.{Walk, walk, hitsOf, overflows}
@@ -152,7 +152,7 @@ abbrev pub pageColsOf : Checked → List Hit → ℕ → List ℕ → List ℕ �
 pageColsOf c hits width rows cols = afterOrKept c (overlay (groupsWords width (take (roomOf (length rows) (length cols) width) hits)) cols) cols
 
 abbrev pub pageNumberOf : Checked → List Hit → ℕ → ℕ → ℕ → ℕ
-pageNumberOf c hits width rows cols = after refusalNumber c (cond (ltb (roomOf rows cols width) (length hits)) 9 0)
+pageNumberOf c hits width rows cols = after refusalNumber c (cond (ltb (roomOf rows cols width) (length hits)) (refusalNumber NoRoom) 0)
 
 abbrev pub pageWrittenOf : Checked → List Hit → ℕ → ℕ → ℕ → ℕ
 pageWrittenOf c hits width rows cols = afterOr0 c (min (roomOf rows cols width) (length hits))

@@ -41,7 +41,9 @@ walkedWritten (Refused r) = 0
 
 -- the same, said of the checks, the flags and what comes of the walk
 abbrev pub walkNumber : Checked → ℕ → ℕ → ℕ → ℕ → Bool → ℕ
-walkNumber c pages flags room n overflow = after refusalNumber c (ifFlagged pages flags (cond (ltb room n) 9 (cond overflow 8 0)) 8)
+walkNumber c pages flags room n overflow =
+    after refusalNumber c
+    (ifFlagged pages flags (cond (ltb room n) (refusalNumber NoRoom) (cond overflow (refusalNumber WalkSpace) 0)) (refusalNumber WalkSpace))
 
 abbrev pub walkWritten : Checked → ℕ → ℕ → ℕ → ℕ → ℕ
 walkWritten c pages flags room n = afterOr0 c (ifFlagged pages flags (min room n) 0)

@@ -3,12 +3,16 @@
 use Prim.Native.Nat.{ℕ}
 use mathlib.Core.Path.{_≡_, sym, ap, _∙_}
 use denote.Ref.{now}
+use lib.ListN.{length}
 use Rattle.listing.specs.declared.part.Part.{Part}
 use Rattle.record.proofs.Unique.{Fixes, FixesSeen}
 use Rattle.scan.specs.declared.schema_sig.Scanned.{Scanned}
 use Rattle.listing.proofs.input.count_of.Reads as count-of
 use Rattle.listing.proofs.input.judge.Reads as judge
+use Rattle.listing.proofs.part.col_space.Reads as col-space
 use Rattle.listing.proofs.part.list_part.Reads as list-part
+use Rattle.listing.proofs.part.row_space.Reads as row-space
+use Rattle.listing.proofs.part.text_space.Reads as text-space
 use Rattle.listing.proofs.text.put_heading.Reads as put-heading
 use Rattle.listing.proofs.text.put_refusal.Reads as put-refusal
 use Rattle.listing.proofs.text.put_totals.Reads as put-totals
@@ -37,6 +41,16 @@ put-refusal-fixed k a x y s t p q = p .0 .ends ∙ sym (q .0 .ends)
 
 pub put-refusal-text : FixesSeen put-refusal.Post (λ k r s. now (s .0))
 put-refusal-text k a x y s t p q = p .0 .written ∙ sym (q .0 .written)
+
+-- of the arrays to lend, the length
+pub row-space-length : FixesSeen row-space.Post (λ k r s. length r)
+row-space-length k a x y s t p q = sym p ∙ q
+
+pub col-space-length : FixesSeen col-space.Post (λ k r s. length r)
+col-space-length k a x y s t p q = sym p ∙ q
+
+pub text-space-length : FixesSeen text-space.Post (λ k r s. length r)
+text-space-length k a x y s t p q = sym p ∙ q
 
 -- the part itself, and its text, rows and columns at exit
 part-same : (x y : Part) → x .found ≡ y .found → x .len ≡ y .len → x ≡ y

@@ -1,6 +1,8 @@
 // One attempt at an offset, for our own crates: callers show by proof that the offset lies in the bytes, and that there is room.
-use crate::header::miscounted;
-use crate::header::types_end;
+mod header;
+
+use crate::inner::header::miscounted;
+use crate::inner::header::types_end;
 use record::record::Length;
 use record::record::body_length;
 use record::varint::Cursor;

@@ -1,4 +1,3 @@
 // Whether a row starts at an offset of a region, by a table's hints.
-mod header;
 pub mod inner;
 pub mod schema_sig;

@@ -11,10 +11,10 @@ use Rattle.attempt.specs.Inner.{foundAt, HitIs}
 use Rattle.attempt.specs.Places.{attemptPlaces}
 use Rattle.attempt.specs.declared.inner.Find.{Find}
 use Rattle.cells.specs.Cells.{CellRow, Looked, noCell, cell, cellAt}
-use Rattle.cells.specs.declared.cell.Cell.{Cell}
-use Rattle.cells.specs.declared.cell.Cell.the-variants.{At, Nothing}
-use Rattle.cells.specs.declared.turn.Turn.{Turn}
-use Rattle.cells.specs.declared.turn.Turn.the-variants.{On, Full}
+use Rattle.cells.specs.declared.inner.cell.Cell.{Cell}
+use Rattle.cells.specs.declared.inner.cell.Cell.the-variants.{At, Nothing}
+use Rattle.cells.specs.declared.inner.turn.Turn.{Turn}
+use Rattle.cells.specs.declared.inner.turn.Turn.the-variants.{On, Full}
 use Rattle.hit.specs.declared.inner.Spot.{Spot}
 use Rattle.rebuild.specs.Header.{rebuilt}
 use Rattle.rebuild.specs.declared.rebuilding.Rebuilding.{Rebuilding}

@@ -1,6 +1,11 @@
 // The payload of one freed block, for our own crates.
-use crate::cell::carve_cells;
-use crate::rebuilt::carve_rebuilt;
+mod cell;
+mod rebuilt;
+mod starts;
+mod turn;
+
+use crate::inner::cell::carve_cells;
+use crate::inner::rebuilt::carve_rebuilt;
 use hit::inner::Lent;
 use hit::inner::Spot;
 use rebuild::rebuilding::Rebuilding;

@@ -6,7 +6,7 @@ use mathlib.Core.List.{List}
 use native.Mathlib.Omega.{arith}
 use lib.ListN.{length, getD}
 use Rattle.filter.specs.Inner.{Begins, Stops, IsHigh, Holds}
-use Rattle.filter.specs.declared.high.High.{High}
+use Rattle.filter.specs.declared.inner.high.High.{High}
 use Rattle.record.proofs.Laws.{varint-through}
 use Rattle.record.proofs.Numbers.{by-order}
 use Rattle.record.specs.Places.{stopOf}

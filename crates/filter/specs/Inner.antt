@@ -9,7 +9,7 @@ use Rattle.attempt.specs.Attempt.{Types, kinds, isWhole, attemptAt}
 use Rattle.attempt.specs.Inner.{reach, headerTypes, MissIs, HitIs}
 use Rattle.attempt.specs.Places.{mostPlaces, attemptPlaces}
 use Rattle.attempt.specs.declared.inner.Find.{Find}
-use Rattle.filter.specs.declared.high.High.{High}
+use Rattle.filter.specs.declared.inner.high.High.{High}
 use Rattle.filter.specs.declared.inner.Next.{Next}
 use Rattle.filter.specs.declared.inner.Next.the-variants.{Row, Through}
 use Rattle.filter.specs.declared.inner.Over.{Over}

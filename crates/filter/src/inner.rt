@@ -1,13 +1,16 @@
 // The next row of a region, for our own crates. An attempt decides only where nothing is soon seen.
-pub use crate::high::High;
-use crate::high::lesser;
-use crate::high::run_around;
-use crate::high::varint_end;
-use crate::types::may_have;
-use crate::types::may_stand;
-use crate::types::soon_ends;
-use crate::types::too_long;
-use crate::types::types_end;
+mod high;
+mod types;
+
+pub use crate::inner::high::High;
+use crate::inner::high::lesser;
+use crate::inner::high::run_around;
+use crate::inner::high::varint_end;
+use crate::inner::types::may_have;
+use crate::inner::types::may_stand;
+use crate::inner::types::soon_ends;
+use crate::inner::types::too_long;
+use crate::inner::types::types_end;
 use attempt::inner::Find;
 use attempt::inner::Verdict;
 use attempt::inner::attempt;

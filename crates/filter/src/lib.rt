@@ -1,4 +1,2 @@
 // Which offsets of a region can be passed over, since it is soon seen that no row starts there.
-mod high;
 pub mod inner;
-mod types;

@@ -9,10 +9,10 @@ use Rattle.attempt.specs.Inner.{foundAt, HitIs}
 use Rattle.attempt.specs.Places.{attemptPlaces}
 use Rattle.attempt.specs.declared.inner.Find.{Find}
 use Rattle.freeblock.specs.Freeblock.{First, nowhere, startAt, firstStart, freeblocks}
-use Rattle.freeblock.specs.declared.block.Start.{Start}
-use Rattle.freeblock.specs.declared.block.Start.the-variants.{At, Nothing}
-use Rattle.freeblock.specs.declared.chain.Counted.{Counted}
-use Rattle.freeblock.specs.declared.chain.Counted.the-variants.{Ended, Unsure}
+use Rattle.freeblock.specs.declared.inner.block.Start.{Start}
+use Rattle.freeblock.specs.declared.inner.block.Start.the-variants.{At, Nothing}
+use Rattle.freeblock.specs.declared.inner.chain.Counted.{Counted}
+use Rattle.freeblock.specs.declared.inner.chain.Counted.the-variants.{Ended, Unsure}
 
 -- a chain that came to its end has so many blocks
 abbrev pub CountedIs : List ℕ → ℕ → Counted → Type 0

@@ -1,6 +1,9 @@
 // One page, for our own crates.
-use crate::block::carve_block;
-use crate::chain::chain_length;
+mod block;
+mod chain;
+
+use crate::inner::block::carve_block;
+use crate::inner::chain::chain_length;
 use hit::inner::Lent;
 use hit::inner::Spot;
 use page::inner::block_next;

@@ -1,0 +1,130 @@
+-- `cells::inner::rebuilt::carve_start` meets its contract: the start is passed over, or has no row, or the row is added.
+-- Assumes nothing.
+use Prim.Native.Nat.{_+_}
+use mathlib.Core.Path.{_≡_, sym, _∙_}
+use mathlib.Core.Bool.{true, false}
+use native.Mathlib.Nat.{le-trans}
+use native.Mathlib.Omega.{arith}
+use denote.Ref.{now}
+use lib.ListN.{length}
+use Rattle.cells.specs.Inner.{isCell}
+use Rattle.cells.proofs.Rebuilding.{start-passed, start-next, start-none, start-laid, start-one}
+use Rattle.cells.proofs.Skipping.{rows-fit, cell-below}
+use Rattle.rebuild.specs.Inner.{RebuiltFound}
+use borrow.Author.Needs.{needs}
+use Rattle.cells.proofs.inner.rebuilt.carve_start.Statement.{statement}
+use Rattle.cells.proofs.inner.rebuilt.carve_start.Tie as tie
+
+add-place : tie.Need-add-place
+add-place c = search needs
+
+add-is-cell : tie.Need-add-is-cell
+add-is-cell c = search needs
+
+is-cell-requires : tie.Need-is-cell-requires
+is-cell-requires c κs =
+    let s = c .before .before .before .before .before .before in
+    rows-fit _ (length (now (s .args .cols))) (s .args .lent .width) _ (rw (s .pre .1 .space .room-is) at (le-trans (s .pre .0 .1) (s .pre .1 .space .fits)))
+
+-- the next row is that of a cell
+passed : (c : tie.Then1) → let a = c .before .before .before .before .before .before .before .before .args in isCell (now (a .rows)) (a .k) (a .cells) (a .spot .base + (a .o + a .v)) ≡ true
+passed c = sym (c .before .is-cell .ensures) ∙ c .if1 .taken
+
+add-t21 : tie.Need-add-t21
+add-t21 c = omega (arith, cell-below _ _ _ _ (passed c))
+
+same-length : tie.Need-same-length
+same-length c = search needs
+
+returns : tie.Need-returns
+returns c = let s = c .before .before .before .before .before .before .before .before in start-passed (s .args .how) (now (s .args .payload)) (now (s .args .hints)) _ _ _ _ _ _ _ _ _ (s .pre .1) (passed c)
+
+-- or is not
+clear : (c : tie.Else1) → let a = c .before .before .before .before .before .before .before .before .args in isCell (now (a .rows)) (a .k) (a .cells) (a .spot .base + (a .o + a .v)) ≡ false
+clear c = sym (c .before .is-cell .ensures) ∙ c .if1 .left
+
+rebuild-requires : tie.Need-rebuild-requires
+rebuild-requires c κs = search needs
+
+enum-known-find : tie.Need-enum-known-find
+enum-known-find c = search needs
+
+enum-told : tie.Need-enum-told
+enum-told c = search needs
+
+same-length-2 : tie.Need-same-length-2
+same-length-2 c = search needs
+
+returns-2 : tie.Need-returns-2
+returns-2 c =
+    let s = c .before .before .before .before .before .before .before .before .before .before .before in
+    let e = clear (c .before .before .before) in (
+      start-none _ _ _ _ _ _ _ _ _ _ _ _ (s .pre .1) e (rw (c .enum-told .given .1) at (c .before .before .rebuild .ensures)),
+      start-next _ _ e,
+    )
+
+-- a row was rebuilt
+found : (c : tie.After-known-told) → let a = c .before .before .before .before .before .before .before .before .before .before .before .before .args in RebuiltFound (a .how) (now (a .payload)) (now (a .hints)) (a .v) (c .before .find .given .0 .0)
+found c = rw (c .before .find .given .1) at (c .before .before .before .rebuild .ensures)
+
+add-rebuilt-requires : tie.Need-add-rebuilt-requires
+add-rebuilt-requires c κs =
+    let s = c .before .before .before .before .before .before .before .before .before .before .before .before .before .before in
+    (s .pre .0 .0, (start-laid _ _ _ _ _ _ _ (s .args .k) (s .args .cells) _ (now (s .args .rows)) (now (s .args .cols)) (s .pre .1) (clear (c .before .before .before .before .before .before)) _ (found (c .before .before)), s .pre .1))
+
+enum-known-m : tie.Need-enum-known-m
+enum-known-m c = search needs
+
+enum-told-2 : tie.Need-enum-told-2
+enum-told-2 c = search needs
+
+same-length-3 : tie.Need-same-length-3
+same-length-3 c = search needs
+
+same-length-4 : tie.Need-same-length-4
+same-length-4 c = search needs
+
+returns-3 : tie.Need-returns-3
+returns-3 c =
+    let x = rw (c .enum-told2 .given .1) at (c .before .before .before .before .before .before .add-rebuilt .ensures) in
+    (start-one _ _ _ _ _ _ _ _ _ _ _ _ (c .before .before .before .before .before .before .before .before .before .before .before .before .before .before .before .before .before .before .before .before .before .pre .1) (clear (c .before .before .before .before .before .before .before .before .before .before .before .before .before)) _ (found (c .before .before .before .before .before .before .before .before .before)) _ _ _ x, tt)
+
+same-length-5 : tie.Need-same-length-5
+same-length-5 c = search needs
+
+same-length-6 : tie.Need-same-length-6
+same-length-6 c = search needs
+
+returns-4 : tie.Need-returns-4
+returns-4 c =
+    let s = c .before .before .before .before .before .before .before .before .before .before .before .before .before .before .before .before .before .before .before .before .before .before in
+    let e = clear (c .before .before .before .before .before .before .before .before .before .before .before .before .before .before) in
+    let x = rw (c .before .m .given .1) at (c .before .before .before .before .before .before .before .add-rebuilt .ensures) in (
+      start-one _ _ _ _ _ _ _ _ _ _ _ _ (s .pre .1) e _ (found (c .before .before .before .before .before .before .before .before .before .before)) _ _ _ x,
+      start-next _ _ e,
+    )
+
+pub carve-start-spec : {M : Type 1} → statement M
+carve-start-spec =
+    tie.close
+    (tie.spec
+    add-place
+    add-is-cell
+    is-cell-requires
+    add-t21
+    same-length
+    returns
+    rebuild-requires
+    enum-known-find
+    enum-told
+    same-length-2
+    returns-2
+    add-rebuilt-requires
+    enum-known-m
+    enum-told-2
+    same-length-3
+    same-length-4
+    returns-3
+    same-length-5
+    same-length-6
+    returns-4)

@@ -1,0 +1,179 @@
+// Records whose header's length is lost: each start of a payload is tried.
+use crate::inner::starts::next_start;
+use crate::inner::turn::Turn;
+use attempt::inner::Find;
+use hit::inner::Head;
+use hit::inner::Lent;
+use hit::inner::Spot;
+use hit::inner::add_hit;
+use rebuild::inner::Rebuilt;
+use rebuild::inner::rebuild;
+use rebuild::rebuilding::Rebuilding;
+use sheet::WORDS_PER_ROW;
+use sheet::confidence::percent;
+use sheet::confidence::rebuilt;
+use sheet::confidence::suited_share;
+use sheet::row::Mode;
+use sheet::row::Row;
+use sheet::row::RowId;
+use sheet::row::Source;
+use walk::inner::Carved;
+ghost use mathlib.Core.Path.{_≡_};
+ghost use mathlib.Core.Bool.{false};
+ghost use mathlib.Core.List.{[], _∷_};
+ghost use Prim.Native.Nat.{_+_, _*_, _≤_};
+ghost use lib.ListN.{length};
+ghost use Rattle.cells.specs.Cells.{cellsOf, startsOf, rebuiltStarts, rebuiltHit, startHits, rebuiltFrom};
+ghost use Rattle.cells.specs.Inner.{isCell, nextRow, Standing, turnAs, GoesTo};
+ghost use Rattle.hit.specs.Inner.{Laid, Ready};
+ghost use Rattle.rebuild.specs.Header.{mostBy, rebuilt as rebuiltAt};
+ghost use Rattle.rebuild.specs.Inner.{foundFrom};
+ghost use Rattle.sheet.specs.Limits.{largestRegion, wordsPerRow};
+ghost use Rattle.walk.specs.Inner.{carvedAs, Carves};
+
+// Adds the row whose types begin at v of a payload, which stands at o in its page.
+fn add_rebuilt(
+    payload: &[u8],
+    v: usize,
+    find: Find,
+    columns: usize,
+    spot: Spot,
+    o: usize,
+    lent: Lent,
+    n: usize,
+    rows: &mut [u64],
+    cols: &mut [u64],
+) -> Carved
+    requires { ⌜ v ≤ length (now payload) ⌝ }
+    requires { ⌜ Laid (now payload) (record { o = v; head = find .head; from = find .from; by = spot .start + o }) columns ⌝ }
+    requires { ⌜ Ready (o + length (now payload)) columns spot lent n (length (now rows)) (length (now cols)) ⌝ }
+    ensures { λ r. ⌜ Carves (lent .width) (lent .room) n (rebuiltHit spot columns (o + v) (foundFrom (now (payload .entry)) v find) ∷ []) false (now (rows .entry)) (now (cols .entry)) (carvedAs r) (now (rows .exit)) (now (cols .exit)) ⌝ }
+{
+    let share = suited_share(find.matched, columns as u16);
+    let confidence = rebuilt(share);
+    let place = o + v;
+    let row = Row {
+        offset: spot.base + place as u64,
+        consumed: find.consumed as u64,
+        id: RowId::Absent,
+        source: Source::CarvedIntraPage(percent(confidence)),
+        confidence,
+        mode: Mode::Plain,
+        table: spot.table,
+    };
+    let at = Head {
+        o: v,
+        head: find.head,
+        from: find.from,
+        by: spot.start + o,
+    };
+    add_hit(payload, at, columns, row, lent, n, rows, cols)
+}
+
+// Whether the row k is one of the first `cells` and has that offset.
+fn is_cell(rows: &[u64], k: usize, cells: usize, offset: u64) -> bool
+    requires { ⌜ cells * wordsPerRow ≤ length (now rows) ⌝ }
+    ensures { λ r. ⌜ r ≡ isCell (now (rows .entry)) k cells offset ⌝ }
+{
+    if k >= cells {
+        return false;
+    }
+    // A row begins with its offset.
+    rows[k * WORDS_PER_ROW] == offset
+}
+
+// One start, which is passed over if the record of a cell starts there: the row k is the next of a cell.
+fn carve_start(
+    how: Rebuilding,
+    payload: &[u8],
+    hints: &[u8],
+    v: usize,
+    spot: Spot,
+    o: usize,
+    lent: Lent,
+    k: usize,
+    cells: usize,
+    n: usize,
+    rows: &mut [u64],
+    cols: &mut [u64],
+) -> Turn
+    requires { ⌜ (v ≤ length (now payload)) × (cells ≤ n) × (length (now hints) ≤ mostBy how) ⌝ }
+    requires { ⌜ Ready (o + length (now payload)) (length (now hints)) spot lent n (length (now rows)) (length (now cols)) ⌝ }
+    ensures rows { λ r. ⌜ Carves (lent .width) (lent .room) n (startHits spot (length (now (hints .entry))) o v (isCell (now (rows .entry)) k cells (spot .base + (o + v))) (rebuiltAt how (now (payload .entry)) (now (hints .entry)) v)) false (now (rows .entry)) (now (cols .entry)) (turnAs r) (now (rows .exit)) (now (cols .exit)) ⌝ }
+    ensures next { λ r. ⌜ GoesTo (nextRow k (isCell (now (rows .entry)) k cells (spot .base + (o + v)))) r ⌝ }
+{
+    let place = o + v;
+    if is_cell(rows, k, cells, spot.base + place as u64) {
+        return Turn::On { next: k + 1, n };
+    }
+    let Rebuilt::Found(find) = rebuild(how, payload, hints, v) else {
+        return Turn::On { next: k, n };
+    };
+    let Carved::On(m) = add_rebuilt(payload, v, find, hints.len(), spot, o, lent, n, rows, cols)
+    else {
+        return Turn::Full;
+    };
+    Turn::On { next: k, n: m }
+}
+
+// How many starts are tried.
+fn starts_of(len: usize, columns: usize) -> usize
+    requires { ⌜ (len ≤ largestRegion) × (1 ≤ columns) ⌝ }
+    ensures { λ r. ⌜ r ≡ rebuiltStarts len columns ⌝ }
+{
+    let others = columns - 1;
+    if others > len {
+        return 0;
+    }
+    len + 1 - others
+}
+
+// The rows that are rebuilt, behind those of the cells, of which the first is the row `first` and which end before the row `cells`.
+pub fn carve_rebuilt(
+    how: Rebuilding,
+    payload: &[u8],
+    hints: &[u8],
+    spot: Spot,
+    o: usize,
+    lent: Lent,
+    first: usize,
+    cells: usize,
+    rows: &mut [u64],
+    cols: &mut [u64],
+) -> Carved
+    requires { ⌜ length (now hints) ≤ mostBy how ⌝ }
+    requires { ⌜ Ready (o + length (now payload)) (length (now hints)) spot lent cells (length (now rows)) (length (now cols)) ⌝ }
+    requires { ⌜ Standing spot o (now rows) cells first (startsOf (cellsOf (now payload) (now hints))) ⌝ }
+    ensures { λ r. ⌜ Carves (lent .width) (lent .room) cells (rebuiltFrom (rebuiltStarts (length (now (payload .entry))) (length (now (hints .entry)))) how spot o (startsOf (cellsOf (now (payload .entry)) (now (hints .entry)))) (now (payload .entry)) (now (hints .entry)) 0) false (now (rows .entry)) (now (cols .entry)) (carvedAs r) (now (rows .exit)) (now (cols .exit)) ⌝ }
+{
+    let starts = starts_of(payload.len(), hints.len());
+    let offset = spot.base + o as u64;
+    let mut v = 0;
+    let mut k = first;
+    let mut m = cells;
+    loop {
+        let at = next_start(how, payload, hints, rows, k, cells, offset, v, starts);
+        if at >= starts {
+            return Carved::On(m);
+        }
+        let Turn::On { next, n } = carve_start(
+            how,
+            payload,
+            hints,
+            at,
+            spot,
+            o,
+            lent,
+            k,
+            cells,
+            m,
+            rows,
+            cols,
+        ) else {
+            return Carved::Full;
+        };
+        k = next;
+        m = n;
+        v = at + 1;
+    }
+}

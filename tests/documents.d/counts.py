@@ -1,0 +1,147 @@
+"""Numbers that documents state are those of the tree."""
+import re
+import struct
+
+from declared import functions
+from tree import line_of, lines_of, quoted
+
+RULES, PROMISES, DIFFERENCES, ORACLE, HEADER = "docs/RULES.md", "docs/PROMISES.md", "docs/DIFFERENCES.md", "oracle/README.md", "include/phsarodil.h"
+# Where a number stands, and what it counts: a line of `counted`, or a definition by its crate. Notes of requests say what was, and are left out.
+COUNTS = [
+    ("README.md", r"([\d,]+) cases are recorded", "recorded cases"),
+    (DIFFERENCES, r"([\d,]+) recorded cases in every check", "recorded cases"),
+    (PROMISES, r"stored run of `replay` is of ([\d,]+) cases", "recorded cases"),
+    (ORACLE, r"seed \d+: ([\d,]+)\s+cases", "recorded cases"),
+    (ORACLE, r"On ([\d,]+) of them\s+the Rust was asked", "recorded cases that the Rust agreed on"),
+    (ORACLE, r"on ([\d,]+) the rules alone decide", "recorded cases that the rules decide"),
+    (PROMISES, r"compares ([\d,]+) more with outputs", "inputs of tests/carvelist-cases"),
+    (DIFFERENCES, r"([\d,]+) cases over", "cases in the table of calls"),
+    (DIFFERENCES, r"([\d,]+) of them with the Rust", "cases with the Rust in the table of calls"),
+    (DIFFERENCES, r"over ([\w-]+) calls, ", "calls of the C interface that answer"),
+    (PROMISES, r"The paper's (\w+) modules", "modules of the table"),
+    (PROMISES, r"lists of ([\d,]+) and", "words for the rows of a part"),
+    (PROMISES, r"and ([\d,]+) words from a start on", "words for the entries of a part"),
+    (PROMISES, r"the row's (\w+) words", "sheet.wordsPerRow"),
+    (RULES, r"A row is (\w+) words", "sheet.wordsPerRow"),
+    (RULES, r"An entry is (\w+) words", "sheet.wordsPerEntry"),
+    (PROMISES, r"an attempt has at most (\d+) header places", "attempt.mostPlaces"),
+    (HEADER, r"PHS_WORDS_PER_ROW (\d+)", "sheet.wordsPerRow"),
+    (HEADER, r"PHS_WORDS_PER_ENTRY (\d+)", "sheet.wordsPerEntry"),
+    (HEADER, r"PHS_MOST_COLUMNS (\d+)", "sheet.mostColumns"),
+    (HEADER, r"PHS_MOST_ONE_BYTE_COLUMNS (\d+)", "rebuild.oneByteTypes"),
+    (HEADER, r"PHS_LARGEST_REGION (\d+)", "sheet.largestRegion"),
+    (HEADER, r"PHS_LARGEST_STATEMENT (\d+)", "statement.largestStatement"),
+    (HEADER, r"PHS_MOST_TABLES (\d+)", "walk.mostTables"),
+    (HEADER, r"PHS_MOST_LEARNED (\d+)", "learn.mostRows"),
+    (HEADER, r"PHS_VERSION (\d+)", "phsarodil.doorVersion"),
+    ("wrapper/src/door.rs", r"const VERSION: u64 = (\d+)", "phsarodil.doorVersion"),
+]
+HEAD, RUST = 144, 136  # bytes of a recorded case's head, and where it says that the Rust agreed
+SMALL = "zero one two three four five six seven eight nine ten eleven twelve thirteen fourteen fifteen sixteen seventeen eighteen nineteen".split()
+TENS = "twenty thirty forty fifty sixty seventy eighty ninety".split()
+
+
+def number(said):
+    """The number that digits or a word say; -1 for any other word."""
+    ten, _, one = said.partition("-")
+    if ten in TENS and (not one or one in SMALL):
+        return 10 * TENS.index(ten) + 20 + (SMALL.index(one) if one else 0)
+    return SMALL.index(said) if said in SMALL else int(said.replace(",", "")) if said[0].isdigit() else -1
+
+
+def recorded(tree):
+    """Of each recorded case, whether the Rust agreed."""
+    at, agreed = 0, []
+    recording = next((content for path, content in tree.files.items() if re.fullmatch(r"crates/\w+/data/cases\.bin", path)), b"")
+    while at < len(recording):
+        size, = struct.unpack_from(">Q", recording, at)
+        agreed.append(struct.unpack_from(">Q", recording, at + RUST)[0])
+        at += HEAD + size
+    return agreed
+
+
+def column(tree, path, name):
+    """Line and cell of each row that has a column of that name."""
+    rows = [(line.number, dict(line.cells)) for line in lines_of(tree.files[path]) if len(line.cells) > 1]
+    return [(at, row) for at, row in rows if name in row and row[name] != name and not row[name].startswith("---")]
+
+
+def sum_of(tree, path, name):
+    return sum(number(row[name]) for _, row in column(tree, path, name))
+
+
+def counted(tree):
+    agreed, part = recorded(tree), defined(tree, "listing.partRows")
+    calls = [function for function in functions(tree, {"phsarodil"}) if function.name.startswith("phs_")]
+    return {
+        "recorded cases": len(agreed),
+        "recorded cases that the Rust agreed on": sum(agreed),
+        "recorded cases that the rules decide": len(agreed) - sum(agreed),
+        "inputs of tests/carvelist-cases": sum(re.fullmatch(r"tests/carvelist-cases/.*\.in", path) is not None for path in tree.files),
+        "cases in the table of calls": sum_of(tree, DIFFERENCES, "Cases"),
+        "cases with the Rust in the table of calls": sum_of(tree, DIFFERENCES, "With the Rust"),
+        "calls of the C interface that answer": len(calls) - 1,  # all but phs_version
+        "modules of the table": sum(len(quoted(row["Module"])) for _, row in column(tree, PROMISES, "Module")),
+        "words for the rows of a part": part * defined(tree, "sheet.wordsPerRow"),
+        "words for the entries of a part": part * defined(tree, "sheet.wordsPerEntry") * defined(tree, "sheet.mostColumns"),
+    }
+
+
+def defined(tree, name):
+    """The number that a definition of a crate is."""
+    crate, _, name = name.partition(".")
+    found = [re.search(rf"^{name} = (\d+)$", text, re.M) for text in tree.like(rf"crates/{crate}/specs/\w+\.antt").values()]
+    return next((int(one[1]) for one in found if one), -1)
+
+
+def check_counts(tree):
+    """Each number of the table above."""
+    counts = counted(tree)
+    for path, pattern, what in COUNTS:
+        found = list(re.finditer(pattern, tree.files[path]))
+        due = counts[what] if what in counts else defined(tree, what)
+        if not found:
+            yield f"{path}:1", f"nothing here says how many: {what} ({pattern})"
+        for one in found:
+            if number(one[1]) != due:
+                yield f"{path}:{line_of(tree.files[path], one.start(1))}", f"says {one[1]}, and it is {due}: {what}"
+
+
+def check_modules(tree):
+    """The table of modules: the edits of the crates that a row names, and cases that come to those compared with the Rust."""
+    for at, row in column(tree, PROMISES, "Module"):
+        due = sum(crate in quoted(row["Crates"]) for crate, _ in tree.edits.values())
+        if number(row["Edits"]) != due:
+            yield f"{PROMISES}:{at}", f"says {row['Edits']} edits, and {row['Crates']} have {due}"
+    cases = sum_of(tree, PROMISES, "Cases compared")
+    if cases != sum_of(tree, DIFFERENCES, "With the Rust"):
+        yield f"{PROMISES}:1", f"the cases of the table of modules come to {cases}, and those of {DIFFERENCES} do not"
+
+
+def check_crates(tree):
+    """crates.txt, the folders of crates and the table of README.md have the same crates."""
+    folders = {path.split("/")[1] for path in tree.files if path.startswith("crates/")}
+    table = {name: at for at, row in column(tree, "README.md", "Crate") for name in quoted(row["Crate"])}
+    for place, names in {"crates.txt": set(tree.crates), "README.md": set(table)}.items():
+        for name in sorted(folders - names):
+            yield f"{place}:1", f"the crate {name} is missing"
+        for name in sorted(names - folders):
+            yield f"{place}:{table.get(name, 1)}", f"there is no crate {name}"
+
+
+def check_refusals(tree):
+    """The refusals of rule 1.1 have the same numbers in the header, in the wrapper and in the definition."""
+    rule = {quoted(row["Name"])[0]: row["No"] for _, row in column(tree, RULES, "No")}
+    others = {
+        HEADER: {name.title().replace("_", ""): no for name, no in re.findall(r"^    PHS_([A-Z_]+) = (\d+),? +/\*", refusals_of(tree), re.M)},
+        "wrapper/src/refusal.rs": dict(re.findall(r"^    (\w+) = (\d+),$", tree.files["wrapper/src/refusal.rs"], re.M)),
+        "crates/sheet/specs/Refusal.antt": dict(re.findall(r"^refusalNumber (\w+) = (\d+)$", tree.files["crates/sheet/specs/Refusal.antt"], re.M)),
+    }
+    for path, names in others.items():
+        for name in sorted(rule.keys() | names.keys()):
+            if rule.get(name) != names.get(name):
+                yield f"{path}:1", f"refusal {name} is {names.get(name, 'missing')} here and {rule.get(name, 'missing')} in rule 1.1"
+
+
+def refusals_of(tree):
+    return re.search(r"enum phs_refusal \{.*?\};", tree.files[HEADER], re.S)[0]

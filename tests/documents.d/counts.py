@@ -1,12 +1,14 @@
 """Numbers that documents state are those of the tree."""
+import collections
 import re
 import struct
 
 from declared import functions
-from tree import line_of, lines_of, quoted
+from tree import crate_of, line_of, lines_of, quoted
 
 RULES, PROMISES, DIFFERENCES, ORACLE, HEADER = "docs/RULES.md", "docs/PROMISES.md", "docs/DIFFERENCES.md", "oracle/README.md", "include/phsarodil.h"
-# Where a number stands, and what it counts: a line of `counted`, or a definition by its crate. Notes of requests say what was, and are left out.
+# Where a number stands (a file, or files by a pattern), and what it counts: a line of `counted`, or a definition with its crate.
+# Notes of requests say what was, and are left out.
 COUNTS = [
     ("README.md", r"([\d,]+) cases are recorded", "recorded cases"),
     (DIFFERENCES, r"([\d,]+) recorded cases in every check", "recorded cases"),
@@ -34,7 +36,7 @@ COUNTS = [
     (HEADER, r"PHS_MOST_TABLES (\d+)", "walk.mostTables"),
     (HEADER, r"PHS_MOST_LEARNED (\d+)", "learn.mostRows"),
     (HEADER, r"PHS_VERSION (\d+)", "phsarodil.doorVersion"),
-    ("wrapper/src/door.rs", r"const VERSION: u64 = (\d+)", "phsarodil.doorVersion"),
+    (r"wrapper/src/\w+\.rs", r"const VERSION: u64 = (\d+)", "phsarodil.doorVersion"),
 ]
 HEAD, RUST = 144, 136  # bytes of a recorded case's head, and where it says that the Rust agreed
 SMALL = "zero one two three four five six seven eight nine ten eleven twelve thirteen fourteen fifteen sixteen seventeen eighteen nineteen".split()
@@ -70,41 +72,42 @@ def sum_of(tree, path, name):
     return sum(number(row[name]) for _, row in column(tree, path, name))
 
 
+def defined(tree):
+    """The definitions that are a number, each by its crate."""
+    specs = tree.like(r"crates/\w+/specs/\w+\.antt").items()
+    return {f"{crate_of(path)}.{name}": int(value) for path, text in specs for name, value in re.findall(r"^(\w+) = (\d+)$", text, re.M)}
+
+
 def counted(tree):
-    agreed, part = recorded(tree), defined(tree, "listing.partRows")
-    calls = [function for function in functions(tree, {"phsarodil"}) if function.name.startswith("phs_")]
+    """What there is to count, and how much of it."""
+    agreed, calls = recorded(tree), [function for function in functions(tree, {"phsarodil"}) if function.name.startswith("phs_")]
+    numbers = collections.defaultdict(lambda: -1, defined(tree))
     return {
+        **numbers,
         "recorded cases": len(agreed),
         "recorded cases that the Rust agreed on": sum(agreed),
         "recorded cases that the rules decide": len(agreed) - sum(agreed),
-        "inputs of tests/carvelist-cases": sum(re.fullmatch(r"tests/carvelist-cases/.*\.in", path) is not None for path in tree.files),
+        "inputs of tests/carvelist-cases": sum(path.startswith("tests/carvelist-cases/") and path.endswith(".in") for path in tree.files),
         "cases in the table of calls": sum_of(tree, DIFFERENCES, "Cases"),
         "cases with the Rust in the table of calls": sum_of(tree, DIFFERENCES, "With the Rust"),
         "calls of the C interface that answer": len(calls) - 1,  # all but phs_version
         "modules of the table": sum(len(quoted(row["Module"])) for _, row in column(tree, PROMISES, "Module")),
-        "words for the rows of a part": part * defined(tree, "sheet.wordsPerRow"),
-        "words for the entries of a part": part * defined(tree, "sheet.wordsPerEntry") * defined(tree, "sheet.mostColumns"),
+        "words for the rows of a part": numbers["listing.partRows"] * numbers["sheet.wordsPerRow"],
+        "words for the entries of a part": numbers["listing.partRows"] * numbers["sheet.wordsPerEntry"] * numbers["sheet.mostColumns"],
     }
-
-
-def defined(tree, name):
-    """The number that a definition of a crate is."""
-    crate, _, name = name.partition(".")
-    found = [re.search(rf"^{name} = (\d+)$", text, re.M) for text in tree.like(rf"crates/{crate}/specs/\w+\.antt").values()]
-    return next((int(one[1]) for one in found if one), -1)
 
 
 def check_counts(tree):
     """Each number of the table above."""
     counts = counted(tree)
-    for path, pattern, what in COUNTS:
-        found = list(re.finditer(pattern, tree.files[path]))
-        due = counts[what] if what in counts else defined(tree, what)
+    for files, pattern, what in COUNTS:
+        due = counts.get(what, "not defined")
+        found = [(path, said) for path, text in tree.like(files).items() for said in re.finditer(pattern, text)]
         if not found:
-            yield f"{path}:1", f"nothing here says how many: {what} ({pattern})"
-        for one in found:
-            if number(one[1]) != due:
-                yield f"{path}:{line_of(tree.files[path], one.start(1))}", f"says {one[1]}, and it is {due}: {what}"
+            yield f"{files}:1", f"nothing here says how many: {what} ({pattern})"
+        for path, said in found:
+            if number(said[1]) != due:
+                yield f"{path}:{line_of(said.string, said.start())}", f"says {said[1]}, and it is {due}: {what}"
 
 
 def check_modules(tree):

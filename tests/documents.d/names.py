@@ -12,7 +12,7 @@ PROMISES, DIFFERENCES, HEADER = "docs/PROMISES.md", "docs/DIFFERENCES.md", "incl
 # Names that are neither ours nor the Rust's, by the reason why a document has them.
 OTHERS = {
     "a tool or a package of a machine": "cargo cc rt rustc rustc-web sqlite3 valgrind qemu-user libllvm22 libstd-rust-web-dev",
-    "a word or a function of Rattle, of Rust or of C": "requires data f64 f64::from_bits to_bits nanosleep",
+    "a word or a function of Rattle, of Rust or of C": "requires data f64 f64::from_bits to_bits nanosleep memcpy memset",
     "the kit's own": "toBits Post os::fail",
     "put together by the bench": "small-blocks exact-high-of-510-columns",
     "gone, and docs/requests/K8.md says so": "oneByte",
@@ -118,12 +118,12 @@ def check_comments(tree):
 
 
 def check_c_names(tree):
-    """Words that begin with phs_ or PHS_ are those of the header, in backquotes or not."""
+    """Words that begin with phs_ or PHS_ are those of the header, in backquotes or not; `..` stands for the rest of a word."""
     known = words(code(HEADER, tree.files[HEADER]))
     for path, text in {**tree.documents, **tree.sources}.items():
         said = prose(path, text)
-        for found in re.finditer(r"\b(?:phs|PHS)_\w+", said):
-            if found[0] not in known:
+        for found in re.finditer(r"\b((?:phs|PHS)_\w+)\b(\.\.)?", said):
+            if found[1] not in known and not (found[2] and any(word.startswith(found[1]) for word in known)):
                 yield f"{path}:{line_of(said, found.start())}", f"no {found[0]} in {HEADER}"
 
 
@@ -138,12 +138,13 @@ def where(tree, path, word, line):
 
 
 def check_files(tree):
-    """Files and folders: paths anywhere, and bare names of files in backquotes."""
+    """Files and folders: paths anywhere, in fenced code too, and bare names of files in backquotes."""
     top = {path.split("/")[0] for path in tree.files if "/" in path} | set(OF_A_CRATE)
     bare = {posixpath.basename(path) for path in tree.files} | set(of_the_rust(tree))
     for path, text in {**tree.documents, **tree.sources}.items():
-        for line in lines_of(text if path.endswith(".md") else prose(path, text)):
-            for found in PATH.finditer(line.text):
+        said = text if path.endswith(".md") else prose(path, text)
+        for line, whole in zip(lines_of(said), said.split("\n")):
+            for found in PATH.finditer(whole):
                 if found[1].split("/")[0] in top and not tree.places & set(where(tree, path, found[1], line)):
                     yield f"{path}:{line.number}", f"no file: {found[1]}"
             for token in quoted(line.text):

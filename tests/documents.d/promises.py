@@ -79,7 +79,7 @@ def claims(text):
     for alias, seen in CLAIM.findall(text):
         body = seen.partition("λ k r s.")[2] or "r"
         places = {len(steps) // 3 for steps in re.findall(r"now \(s((?: \.1)*) \.0\)", body)}
-        fixed.setdefault(paths.get(alias), set()).update(places, {"r"} if re.search(r"(?<![.\w])r(?!\w)", body) else ())
+        fixed.setdefault(paths.get(alias), set()).update(places, {"r"} if re.search(r"(?<![.\w])r(?!\w| \.)", body) else ())
     return fixed
 
 

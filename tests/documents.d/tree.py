@@ -31,7 +31,8 @@ class Tree:
 
     def like(self, pattern):
         """The texts whose path is of that form."""
-        return {path: text for path, text in self.files.items() if isinstance(text, str) and re.fullmatch(pattern, path)}
+        fits = re.compile(pattern).fullmatch
+        return {path: text for path, text in self.files.items() if fits(path) and isinstance(text, str)}
 
     @functools.cached_property
     def documents(self):

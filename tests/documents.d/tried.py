@@ -28,6 +28,7 @@ WRONG = [
     (names.check_comments, "crates/record/specs/Varint.antt", "\n-- as `noSuchName` does\n", "no name: `noSuchName`"),
     (names.check_comments, VARINT, "\n// as `record::varint::no_such` does\n", "no name: `record::varint::no_such`"),
     (names.check_c_names, README, "\nCall phs_none first.\n", "no phs_none"),
+    (names.check_c_names, README, "\nCall phs_none_.. first.\n", "no phs_none_.."),
     (names.check_c_names, "wrapper/src/door.rs", "\n// as PHS_NOTHING says\n", "no PHS_NOTHING"),
     (names.check_files, README, "\nSee tests/no-such.\n", "no file: tests/no-such"),
     (names.check_files, README, "\nSee `NoSuch.antt`.\n", "no file: NoSuch.antt"),
@@ -44,6 +45,7 @@ WRONG = [
     (promises.check_edits_apply, "crates/record/must-fail/not_once.edit", EDIT.format("fn "), "times in crates/record/src/varint.rt"),
     (promises.check_requires, VARINT, "\npub fn none(x: u64) -> u64\n    requires { ⌜ x ≡ 0 ⌝ }\n{\n    x\n}\n", "`none` has a requires"),
     (promises.check_answers_fixed, VARINT, "\nimpl Cursor {\n    pub fn none(self) -> u64 {\n        0\n    }\n}\n", "`Cursor::none`: no theorem"),
+    (promises.check_answers_fixed, "crates/record/proofs/Unique.antt", lambda text: text.replace("s. now r)", "s. r .len)"), "`Entry::view`: no theorem", "crates/record/src/entry.rt"),
     (promises.check_lists_fixed, VARINT, "\npub fn none(list: &mut [u64]) {\n}\n", "fixes `list` at exit"),
     (promises.check_lists_fixed, "crates/scan/proofs/Unique.antt", lambda text: text.replace("(s .1 .1 .1 .1 .0)", "(s .0)", 1), "fixes `rows` at exit", "crates/scan/src/schema_sig.rt"),
     (promises.check_promised, VARINT, "\nimpl Cursor {\n    pub fn none(self) -> u64 {\n        0\n    }\n}\n", "`Cursor::none` is not named"),
@@ -58,29 +60,31 @@ WRONG = [
 
 
 def with_number(pattern, new):
-    """A text in which the number that a pattern finds first is another."""
+    """Changes a text: the number that a pattern finds first is another."""
     def change(text):
         found = re.search(pattern, text)
-        return text[:found.start(1)] + new + text[found.end(1):] if found else text
+        return text[:found.start(1)] + new + text[found.end(1):]
     return change
 
 
-def all_wrong():
+def all_wrong(tree):
+    """The lines above, and each number that a document states."""
     yield from WRONG
-    for path, pattern, what in counts.COUNTS:
-        yield counts.check_counts, path, with_number(pattern, "1"), what
-        yield counts.check_counts, path, with_number(pattern, "?"), f"nothing here says how many: {what}"
+    for files, pattern, what in counts.COUNTS:
+        for path in [path for path, text in tree.like(files).items() if re.search(pattern, text)]:
+            yield counts.check_counts, path, with_number(pattern, "1"), what
+            yield counts.check_counts, path, with_number(pattern, "?"), f"nothing here says how many: {what}", files
 
 
-def failed(tree):
+def failed(tree, checks):
     """How many wrong lines were tried, and what was not found as it should be."""
-    as_it_is = {check: set(check(tree)) for check in {check for check, *_ in all_wrong()}}
-    tried, wrong = 0, []
-    for check, path, line, due, *of in all_wrong():
+    lines = list(all_wrong(tree))
+    as_it_is = {check: set(check(tree)) for check in checks}
+    wrong = [("tests/documents", f"{check.__name__} is not tried") for check in checks if check not in {check for check, *_ in lines}]
+    for check, path, line, due, *of in lines:
         text = tree.files.get(path, "")
         changed = tree.changed(path, line(text) if callable(line) else text + line)
         more = set(check(changed)) - as_it_is[check]
-        tried += 1
-        if [place.split(":")[0] for place, what in more if due in what] != (of or [path]) or len(more) != 1:
+        if [place.rpartition(":")[0] for place, what in more if due in what] != (of or [path]) or len(more) != 1:
             wrong.append((path, f"{check.__name__}, {due!r}: {more or 'nothing'} was found"))
-    return tried, wrong
+    return len(lines), wrong

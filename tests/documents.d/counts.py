@@ -6,7 +6,8 @@ import struct
 from declared import functions
 from tree import crate_of, line_of, lines_of, quoted
 
-RULES, PROMISES, DIFFERENCES, ORACLE, HEADER = "docs/RULES.md", "docs/PROMISES.md", "docs/DIFFERENCES.md", "oracle/README.md", "include/phsarodil.h"
+RULES, PROMISES, DIFFERENCES = "docs/RULES.md", "docs/PROMISES.md", "docs/DIFFERENCES.md"
+ORACLE, HEADER = "oracle/README.md", "include/phsarodil.h"
 # Where a number stands (a file, or files by a pattern), and what it counts: a line of `counted`, or a definition with its crate.
 # Notes of requests say what was, and are left out.
 COUNTS = [
@@ -19,9 +20,9 @@ COUNTS = [
     (PROMISES, r"compares ([\d,]+) more with outputs", "inputs of tests/carvelist-cases"),
     (DIFFERENCES, r"([\d,]+) cases over", "cases in the table of calls"),
     (DIFFERENCES, r"([\d,]+) of them with the Rust", "cases with the Rust in the table of calls"),
-    (DIFFERENCES, r"over ([\w-]+) calls, ", "calls of the C interface that answer"),
+    (DIFFERENCES, r"cases over ([\w-]+) calls", "calls of the C interface that answer"),
     (PROMISES, r"The paper's (\w+) modules", "modules of the table"),
-    (PROMISES, r"lists of ([\d,]+) and", "words for the rows of a part"),
+    (PROMISES, r"a scan into lists of ([\d,]+) and", "words for the rows of a part"),
     (PROMISES, r"and ([\d,]+) words from a start on", "words for the entries of a part"),
     (PROMISES, r"the row's (\w+) words", "sheet.wordsPerRow"),
     (RULES, r"A row is (\w+) words", "sheet.wordsPerRow"),
@@ -38,8 +39,15 @@ COUNTS = [
     (HEADER, r"PHS_VERSION (\d+)", "phsarodil.doorVersion"),
     (r"wrapper/src/\w+\.rs", r"const VERSION: u64 = (\d+)", "phsarodil.doorVersion"),
 ]
+# Where refusals have their numbers beside rule 1.1, and how a line of them is written.
+REFUSALS = {
+    HEADER: r"^    PHS_([A-Z_]+) = ([1-9]\d*)",
+    "wrapper/src/refusal.rs": r"^    (\w+) = (\d+),$",
+    "crates/sheet/specs/Refusal.antt": r"^refusalNumber (\w+) = (\d+)$",
+}
 HEAD, RUST = 144, 136  # bytes of a recorded case's head, and where it says that the Rust agreed
-SMALL = "zero one two three four five six seven eight nine ten eleven twelve thirteen fourteen fifteen sixteen seventeen eighteen nineteen".split()
+SMALL = ("zero one two three four five six seven eight nine ten "
+         "eleven twelve thirteen fourteen fifteen sixteen seventeen eighteen nineteen").split()
 TENS = "twenty thirty forty fifty sixty seventy eighty ninety".split()
 
 
@@ -80,7 +88,8 @@ def defined(tree):
 
 def counted(tree):
     """What there is to count, and how much of it."""
-    agreed, calls = recorded(tree), [function for function in functions(tree, {"phsarodil"}) if function.name.startswith("phs_")]
+    agreed = recorded(tree)
+    calls = [function for function in functions(tree, {"phsarodil"}) if function.name.startswith("phs_")]
     numbers = collections.defaultdict(lambda: -1, defined(tree))
     return {
         **numbers,
@@ -135,16 +144,9 @@ def check_crates(tree):
 def check_refusals(tree):
     """The refusals of rule 1.1 have the same numbers in the header, in the wrapper and in the definition."""
     rule = {quoted(row["Name"])[0]: row["No"] for _, row in column(tree, RULES, "No")}
-    others = {
-        HEADER: {name.title().replace("_", ""): no for name, no in re.findall(r"^    PHS_([A-Z_]+) = (\d+),? +/\*", refusals_of(tree), re.M)},
-        "wrapper/src/refusal.rs": dict(re.findall(r"^    (\w+) = (\d+),$", tree.files["wrapper/src/refusal.rs"], re.M)),
-        "crates/sheet/specs/Refusal.antt": dict(re.findall(r"^refusalNumber (\w+) = (\d+)$", tree.files["crates/sheet/specs/Refusal.antt"], re.M)),
-    }
-    for path, names in others.items():
+    for path, pattern in REFUSALS.items():
+        listed = tree.files[path].partition("enum phs_refusal {")[2].partition("}")[0] or tree.files[path]
+        names = {name.title().replace("_", "") if name.isupper() else name: no for name, no in re.findall(pattern, listed, re.M)}
         for name in sorted(rule.keys() | names.keys()):
             if rule.get(name) != names.get(name):
                 yield f"{path}:1", f"refusal {name} is {names.get(name, 'missing')} here and {rule.get(name, 'missing')} in rule 1.1"
-
-
-def refusals_of(tree):
-    return re.search(r"enum phs_refusal \{.*?\};", tree.files[HEADER], re.S)[0]

@@ -6,8 +6,8 @@ from declared import functions
 from names import crates_of, names_in
 from tree import crate_of, line_of, lines_of, quoted
 
-PROMISES, HEADER = "docs/PROMISES.md", "include/phsarodil.h"
-# What other programs use: these crates and all that they rest on. The other crates are programs and parts of programs (docs/LOOSE.md).
+PROMISES, LOOSE, HEADER = "docs/PROMISES.md", "docs/LOOSE.md", "include/phsarodil.h"
+# The crates of which each function is promised by its name, with all that they rest on. The others are programs, tests and their parts.
 LIBRARY = {"phsarodil", "listing"}
 READS = re.compile(r"^use Rattle·(\w+)·proofs\.proofs\.([\w.]+)\.Reads as (\S+)$", re.M)
 CLAIM = re.compile(r"^\S.* : (?:Fixes|FixesSeen) (\S+)\.Post\b(.*(?:\n    .*)*)", re.M)
@@ -21,7 +21,7 @@ def said_of(tree, crate):
             before = ""
             for name in (name for token in quoted(cell) for name in names_in(token)):
                 before = name.rpartition("::")[0] or before
-                said |= {name, f"{before}::{name}" if before else name}
+                said |= {name, f"{before}::{name}"}
     return said
 
 
@@ -34,26 +34,31 @@ def check_edits_named(tree):
 
 
 def check_edits_apply(tree):
-    """What an edit replaces stands once in its file."""
+    """What an edit replaces stands once in its file, as the pairs before it left the file."""
     for path, (crate, _) in tree.edits.items():
-        file, text = None, ""
+        file, text, old = None, "", None
         for number, line in enumerate(tree.files[path].splitlines(), 1):
             word, _, rest = line.partition(": ")
             if word == "file":
                 file = f"crates/{crate}/{rest}"
                 text = tree.files.get(file, "")
-            if word == "old" and text.count(rest) != 1:
-                yield f"{path}:{number}", f"the old text stands {text.count(rest)} times in {file}"
-            old, text = (rest, text) if word == "old" else ("", text.replace(old, rest) if word == "new" else text)
+            elif word == "old":
+                old = rest
+                if text.count(old) != 1:
+                    yield f"{path}:{number}", f"the old text stands {text.count(old)} times in {file}"
+            elif word == "new" and old:
+                text = text.replace(old, rest)
 
 
-def library(tree):
-    return functions(tree, tree.below(LIBRARY))
+def public(tree):
+    """The public functions of all crates but programs: those that docs/LOOSE.md names as such, and says why."""
+    programs = re.search(r"^\*\*Programs\.\*\*.*?(?=\n\n|\Z)", tree.files[LOOSE], re.S | re.M)
+    return functions(tree, set(tree.crates) - set(quoted(programs[0] if programs else "")))
 
 
 def calls(tree):
-    """The public functions that anyone may call; of one that requires something `check_requires` has said what is wrong."""
-    return [function for function in library(tree) if not function.requires]
+    """Those that anyone may call. Of one that requires something `check_requires` says what is wrong."""
+    return [function for function in public(tree) if not function.requires]
 
 
 def place(function):
@@ -66,7 +71,7 @@ def title(function):
 
 def check_requires(tree):
     """No public function asks anything of its caller."""
-    for function in library(tree):
+    for function in public(tree):
         if function.requires:
             yield place(function), f"`{title(function)}` has a requires and stands outside of inner"
 
@@ -105,15 +110,17 @@ def check_lists_fixed(tree):
 
 def check_promised(tree):
     """Each public function stands in the section of its crate, a method with its type."""
-    said = {crate: said_of(tree, crate) for crate in tree.crates}
-    for function in calls(tree):
-        if not function.names() & said[crate_of(function.file)]:
-            yield place(function), f"`{title(function)}` is not named in {PROMISES}, section `{crate_of(function.file)}`"
+    for crate in sorted(tree.below(LIBRARY)):
+        said = said_of(tree, crate)
+        for function in calls(tree):
+            if crate == crate_of(function.file) and not function.names() & said:
+                yield place(function), f"`{title(function)}` is not named in {PROMISES}, section `{crate}`"
 
 
 def check_header(tree):
     """The C interface is declared in the header, call for call."""
-    declared = {found[1]: line_of(tree.files[HEADER], found.start()) for found in re.finditer(r"^uint64_t (phs_\w+)\(", tree.files[HEADER], re.M)}
+    header = tree.files[HEADER]
+    declared = {found[1]: line_of(header, found.start()) for found in re.finditer(r"^uint64_t (phs_\w+)\(", header, re.M)}
     made = {function.name: place(function) for function in calls(tree) if function.name.startswith("phs_")}
     for name in sorted(made.keys() - declared.keys()):
         yield made[name], f"`{name}` is not declared in {HEADER}"

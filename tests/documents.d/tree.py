@@ -105,7 +105,7 @@ def code(path, text):
     """A source without its comments."""
     if suffix(path) in (".h", ".c"):
         return BLOCK_COMMENT.sub("", text)
-    return "\n".join(code for code, _ in split_lines(path, text))
+    return "\n".join(kept for kept, _ in split_lines(path, text))
 
 
 def split_lines(path, text):

@@ -9,6 +9,15 @@ import rules
 README, PROMISES, VARINT, HEADER = "README.md", "docs/PROMISES.md", "crates/record/src/varint.rt", "include/phsarodil.h"
 ROW = "\n## `record`\n\n| Call | Definition | Edits |\n|---|---|---|\n| {} | {} | {} |\n"
 EDIT = "# none\nfile: src/varint.rt\nold: {}\nnew: none\n"
+METHOD = "\nimpl Cursor {\n    pub fn none(self) -> u64 {\n        0\n    }\n}\n"
+ASKING = "\npub fn none(x: u64) -> u64\n    requires { ⌜ x ≡ 0 ⌝ }\n{\n    x\n}\n"
+FOR_C = '\npub extern "C" fn phs_none() -> u64 {\n    0\n}\n'
+
+
+def replacing(old, new):
+    """Changes a text: the first of one thing is another."""
+    return lambda text: re.sub(old, new, text, count=1, flags=re.M)
+
 
 # The check, the file, what is put at its end (or how its text is changed), what the finding says, and of which file, if it is another.
 WRONG = [
@@ -21,10 +30,14 @@ WRONG = [
     (rules.check_in_order, "docs/RULES.md", "\n**C.9** Nothing.\n", "rule C.9 stands where"),
     (names.check_documents, README, "\nSee `no-such-law`.\n", "no name: `no-such-law`"),
     (names.check_documents, README, "\nSee `Entry::no_such`.\n", "no name: `Entry::no_such`"),
-    (names.check_documents, PROMISES, ROW.format("`read_varint`", "`varintAt`", "`overlap_lost`"), "no edit of this section's crates: `overlap_lost`"),
-    (names.check_documents, PROMISES, ROW.format("`read_varint`", "`read_varint`", "none"), "no definition of this section's crates: `read_varint`"),
-    (names.check_documents, PROMISES, ROW.format("`varintAt`", "`varintAt`", "none"), "no function of this section's crates: `varintAt`"),
-    (names.check_documents, PROMISES, ROW.format("`read_varint`", "`scanFrom`", "none"), "no definition of this section's crates: `scanFrom`"),
+    (names.check_documents, PROMISES, ROW.format("`read_varint`", "`varintAt`", "`overlap_lost`"),
+     "no edit of this section's crates: `overlap_lost`"),
+    (names.check_documents, PROMISES, ROW.format("`read_varint`", "`read_varint`", "none"),
+     "no definition of this section's crates: `read_varint`"),
+    (names.check_documents, PROMISES, ROW.format("`varintAt`", "`varintAt`", "none"),
+     "no function of this section's crates: `varintAt`"),
+    (names.check_documents, PROMISES, ROW.format("`read_varint`", "`scanFrom`", "none"),
+     "no definition of this section's crates: `scanFrom`"),
     (names.check_comments, "crates/record/specs/Varint.antt", "\n-- as `noSuchName` does\n", "no name: `noSuchName`"),
     (names.check_comments, VARINT, "\n// as `record::varint::no_such` does\n", "no name: `record::varint::no_such`"),
     (names.check_c_names, README, "\nCall phs_none first.\n", "no phs_none"),
@@ -43,19 +56,23 @@ WRONG = [
     (promises.check_edits_named, "crates/record/must-fail/not_named.edit", EDIT.format("none"), "the edit is not named"),
     (promises.check_edits_apply, "crates/record/must-fail/not_there.edit", EDIT.format("no such text"), "stands 0 times"),
     (promises.check_edits_apply, "crates/record/must-fail/not_once.edit", EDIT.format("fn "), "times in crates/record/src/varint.rt"),
-    (promises.check_requires, VARINT, "\npub fn none(x: u64) -> u64\n    requires { ⌜ x ≡ 0 ⌝ }\n{\n    x\n}\n", "`none` has a requires"),
-    (promises.check_answers_fixed, VARINT, "\nimpl Cursor {\n    pub fn none(self) -> u64 {\n        0\n    }\n}\n", "`Cursor::none`: no theorem"),
-    (promises.check_answers_fixed, "crates/record/proofs/Unique.antt", lambda text: text.replace("s. now r)", "s. r .len)"), "`Entry::view`: no theorem", "crates/record/src/entry.rt"),
+    (promises.check_requires, VARINT, ASKING, "`none` has a requires"),
+    (promises.check_answers_fixed, VARINT, METHOD, "`Cursor::none`: no theorem"),
+    (promises.check_answers_fixed, "crates/record/proofs/Unique.antt", replacing(r"s\. now r\)", "s. r .len)"),
+     "`Entry::view`: no theorem", "crates/record/src/entry.rt"),
     (promises.check_lists_fixed, VARINT, "\npub fn none(list: &mut [u64]) {\n}\n", "fixes `list` at exit"),
-    (promises.check_lists_fixed, "crates/scan/proofs/Unique.antt", lambda text: text.replace("(s .1 .1 .1 .1 .0)", "(s .0)", 1), "fixes `rows` at exit", "crates/scan/src/schema_sig.rt"),
-    (promises.check_promised, VARINT, "\nimpl Cursor {\n    pub fn none(self) -> u64 {\n        0\n    }\n}\n", "`Cursor::none` is not named"),
+    (promises.check_lists_fixed, "crates/scan/proofs/Unique.antt", replacing(r"\(s( \.1){4} \.0\)", "(s .0)"),
+     "fixes `rows` at exit", "crates/scan/src/schema_sig.rt"),
+    (promises.check_promised, VARINT, METHOD, "`Cursor::none` is not named"),
     (promises.check_header, HEADER, "\nuint64_t phs_none(void);\n", "`phs_none` is no function"),
-    (promises.check_header, "crates/phsarodil/src/version.rt", '\npub extern "C" fn phs_none() -> u64 {\n    0\n}\n', "`phs_none` is not declared"),
+    (promises.check_header, "crates/phsarodil/src/version.rt", FOR_C, "`phs_none` is not declared"),
     (counts.check_modules, "crates/page/must-fail/one_more.edit", EDIT, "edits, and `page` have", PROMISES),
+    (counts.check_modules, "docs/DIFFERENCES.md", replacing(r"^(\| `body_length` \| [\d,]+) \| [\d,]+", r"\1 | 1"),
+     "the cases of the table of modules", PROMISES),
     (counts.check_crates, "crates.txt", "none:\n", "there is no crate none"),
-    (counts.check_crates, "crates.txt", lambda text: re.sub(r"^search:.*\n", "", text, flags=re.M), "the crate search is missing"),
+    (counts.check_crates, "crates.txt", replacing(r"^search:.*\n", ""), "the crate search is missing"),
     (counts.check_crates, README, "\n| Crate | Holds |\n|---|---|\n| `none` | |\n", "there is no crate none"),
-    (counts.check_refusals, HEADER, lambda text: text.replace("PHS_NO_ROOM = 9", "PHS_NO_ROOM = 7"), "refusal NoRoom is 7 here"),
+    (counts.check_refusals, HEADER, replacing("PHS_NO_ROOM = 9", "PHS_NO_ROOM = 7"), "refusal NoRoom is 7 here"),
 ]
 
 

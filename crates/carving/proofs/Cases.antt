@@ -90,7 +90,7 @@ unfolding first out kept db page numberedAnswer numberedRows numberedCols
 too-wide = refl
 
 wide-enough : first (Gaps Exact) 127 ≡ out 0 0 (kept 8) (kept 8)
-unfolding first out kept db page numberedAnswer numberedRows numberedCols leafHits hitsBy gapPageHits hasGap chain chainFrom gapChainEnds bigEndian sizeFits hasPage roomOf countFits hintsKnown
+unfolding first out kept db page numberedAnswer numberedRows numberedCols leafHits hitsBy gapPageHits gapHits hasGap chain chainFrom gapChainEnds bigEndian sizeFits hasPage roomOf countFits hintsKnown
 wide-enough = refl
 
 -- tables; a group is as wide as the widest

@@ -40,7 +40,8 @@ class Names:
             self.items.setdefault(item.path[0], set()).update(ways, item.path)
         for crate, name in tree.edits.values():
             self.edits.setdefault(crate, set()).add(name)
-        self.others = {word for listed in OTHERS.values() for word in listed.split()} | set(of_the_rust(tree))
+        self.listed = {word for listed in OTHERS.values() for word in listed.split()}
+        self.others = self.listed | set(of_the_rust(tree))
         self.beside = {word for path, text in tree.like(BESIDE).items() for word in words(code(path, text))}
         self.everywhere = set().union(self.crates, *self.defined.values(), *self.items.values(), *self.edits.values(), self.others, self.beside)
 
@@ -60,7 +61,7 @@ class Names:
         if column == "Call":
             return "function of this section's crates", self.of(self.items, below)
         if column in ("Definition", "Law"):
-            return "definition of this section's crates", self.of(self.defined, below) | self.crates | self.others
+            return "definition of this section's crates", self.of(self.defined, below) | self.crates | self.listed
         known = [self.of(kind, below) for kind in (self.defined, self.items, self.edits)]
         return "name of this section's crates", set().union(*known, self.crates, self.others, self.beside)
 

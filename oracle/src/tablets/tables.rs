@@ -70,6 +70,7 @@ pub fn print(measured: &Measured) {
     print_logs(measured);
     print_wide(measured);
     print_behind_the_key(measured);
+    print_losses(measured);
 }
 
 /// What looks for whole records needs a hint for the key, too.
@@ -79,6 +80,18 @@ fn print_behind_the_key(measured: &Measured) {
         let databases: Vec<&Of> = measured.back.keys().filter(lent).collect();
         let found: usize = databases.iter().map(|of| measured.back[*of].all.map_or(0, |all| all.deleted)).sum();
         println!("\n{way:?} with the hints behind the key: {found} deleted rows in {} databases", databases.len());
+    }
+}
+
+/// How many deleted rows are found and not kept, and how many are kept and left out as pieces.
+fn print_losses(measured: &Measured) {
+    for way in [Way::Freed, Way::OneByte, Way::Exact, Way::Gap, Way::Scan, Way::Offsets, Way::Together] {
+        let (mut kept, mut apart) = (0, 0);
+        for (_, back) in measured.back.iter().filter(|(of, _)| of.way == way && !of.kind.contains("whole")) {
+            kept += back.all.map_or(0, |all| all.deleted - back.kept.deleted);
+            apart += back.kept.deleted - back.apart.deleted;
+        }
+        println!("{way:?}: deleted rows lost by keeping {kept}, without pieces {apart} more");
     }
 }
 

@@ -1,40 +1,81 @@
 //! Real databases: what comes back of rows that were deleted. The script `tablets` makes the databases and says, for
-//! each, which rows were deleted and which were kept.
+//! each, which rows were deleted and which were not.
 
 mod carvers;
+mod rows;
+mod tables;
 
-use self::carvers::CARVERS;
-use crate::calls::{self, ATTEMPT, SCAN, STATEMENT};
+use self::carvers::File;
+use self::rows::{Back, Lent, Lines, Row};
+use crate::calls::{self, STATEMENT};
 use crate::case::Case;
 use crate::cases::databases::FIRST_HEADER;
-use crate::cases::regions::lists;
-use crate::random::Random;
-use crate::rules::attempt::attempt;
-use crate::rules::limits::WORDS_PER_ENTRY;
-use crate::rules::value::{self, read_entry};
 use crate::runner::{Runner, Sink};
-use std::collections::HashSet;
+use std::collections::HashMap;
 use std::path::Path;
 use std::{fs, io};
 
-/// No row of these tables is shorter.
-const SHORTEST_ROW: usize = 5;
 const NULL_HINT: u8 = 4;
-const KEY_AS_NULL: &str = "key as NULL";
-const UNUSED: u64 = 3;
-/// Of the rows that are looked for at every offset; with four or five columns one may be unsuited.
-const LEAST_CONFIDENCE: f32 = 0.7;
+const REAL_HINT: u8 = 1;
+const ANY_HINT: u8 = 5;
+
+/// Which hints are lent.
+#[derive(Clone, Copy, Debug, PartialEq, Eq, Hash)]
+pub enum List {
+    All,
+    FromSecond,
+    AnyForReal,
+    NullForKey,
+    BehindKey,
+    /// The rows of the last two, each once.
+    BothOfKey,
+}
+
+/// What looks for rows.
+#[derive(Clone, Copy, Debug, PartialEq, Eq, Hash)]
+pub enum Way {
+    Scan,
+    Offsets,
+    Freed,
+    OneByte,
+    Exact,
+    /// The gap of each leaf, rebuilt as a freed block is.
+    Gap,
+    Modes,
+    Learned,
+    /// Free space in the exact mode and every offset, each row once.
+    Together,
+}
+
+const WAYS: [Way; 7] = [Way::Scan, Way::Offsets, Way::Freed, Way::OneByte, Way::Exact, Way::Modes, Way::Learned];
+/// For rows that went one behind the other, and so came to lie in the gap.
+const WAYS_AND_GAP: [Way; 8] =
+    [Way::Scan, Way::Offsets, Way::Freed, Way::OneByte, Way::Exact, Way::Modes, Way::Learned, Way::Gap];
+/// The ways that look into the free space of a table's leaves.
+const OF_FREE_SPACE: [Way; 4] = [Way::Freed, Way::OneByte, Way::Exact, Way::Gap];
+
+/// A database by its name, which says all but the page size, and what was measured on it.
+#[derive(Clone, Debug, PartialEq, Eq, Hash)]
+pub struct Of {
+    kind: String,
+    page: usize,
+    list: List,
+    way: Way,
+}
+
+#[derive(Default)]
+pub struct Measured {
+    back: HashMap<Of, Back>,
+    /// How many rows were deleted, by kind.
+    deleted: HashMap<String, usize>,
+}
 
 struct Tablet {
-    name: String,
+    kind: String,
     page: usize,
-    /// Without a key.
-    columns: usize,
     hints: Vec<u8>,
-    deleted: HashSet<String>,
-    kept: HashSet<String>,
-    /// Learned from the rows that its pages point at.
-    types: Vec<u64>,
+    deleted: Vec<String>,
+    live: Vec<String>,
 }
 
 /// A page, where it stands in its file, and where its b-tree header stands in it.
@@ -42,23 +83,6 @@ struct Leaf<'a> {
     at: usize,
     header: usize,
     bytes: &'a [u8],
-}
-
-#[derive(Default)]
-struct Back {
-    deleted: HashSet<String>,
-    live: usize,
-    none: usize,
-    refused: bool,
-}
-
-impl Back {
-    fn shown(&self) -> String {
-        if self.refused {
-            return "refused".into();
-        }
-        format!("{}, {}, {}", self.deleted.len(), self.live, self.none)
-    }
 }
 
 pub fn run(runner: &mut Runner, folder: &str) -> io::Result<bool> {
@@ -70,30 +94,48 @@ pub fn run(runner: &mut Runner, folder: &str) -> io::Result<bool> {
     if !missing.is_empty() {
         println!("WITH THE RUST ALONE, since the archive does not have it: {}\n", missing.join(", "));
     }
-    println!("Rows found: deleted, kept, and none; by the scan, at every offset with confidence from {LEAST_CONFIDENCE}, in freed");
-    println!("blocks and in free space of the table's leaves (in a log of each leaf), with headers rebuilt in one byte and exactly, in");
-    println!("three modes of each free block of a leaf, and by learned types over each page.\n");
-    println!(
-        "| database | hints | deleted | the scan | every offset | freed blocks | one byte | exact | three modes | learned |"
-    );
-    println!("|---|---|---|---|---|---|---|---|---|---|");
+    let mut measured = Measured::default();
     for name in &names {
-        let statement = fs::read(Path::new(folder).join(format!("{name}.sql")))?;
-        let hints = hints_of(runner, &statement);
-        scan_both(runner, folder, name, &hints, "statement")?;
-        if name.contains("-key") {
-            scan_both(runner, folder, name, &hints, KEY_AS_NULL)?;
-        }
+        measure(runner, folder, name, &mut measured)?;
     }
+    tables::print(&measured);
     runner.finish();
     if let Some(difference) = &runner.difference {
         difference.print();
         return Ok(false);
     }
-    println!("\nThe Rust, the rules and our side agree on all {} cases:", runner.tally.total());
+    println!(
+        "\n{} databases. The Rust, the rules and our side agree on all {} cases:",
+        names.len(),
+        runner.tally.total()
+    );
     println!("the statements, every page and every frame of a log, a damaged copy of each, and rows at every offset; the tables'");
     println!("leaves, each free block, the rows that are learned from, and a damaged copy of each of these.");
     Ok(true)
+}
+
+/// The database, and its log as a kind of its own.
+fn measure(runner: &mut Runner, folder: &str, name: &str, measured: &mut Measured) -> io::Result<()> {
+    let path = |end: &str| Path::new(folder).join(format!("{name}{end}"));
+    let lines = |end: &str| -> io::Result<Vec<String>> {
+        Ok(fs::read_to_string(path(end))?.lines().map(String::from).collect())
+    };
+    let db = fs::read(path(".db"))?;
+    let mut tablet = Tablet {
+        kind: name.split_once('-').map_or(name, |(_, kind)| kind).to_string(),
+        page: page_size(&db),
+        hints: hints_of(runner, &fs::read(path(".sql"))?),
+        deleted: lines(".deleted")?,
+        live: lines(".live")?,
+    };
+    let file = File { bytes: &db, pages: pages(&db, 0, 0, tablet.page), size: tablet.page, is_log: false };
+    measure_file(runner, &tablet, &file, &file, measured);
+    if let Ok(log) = fs::read(path(".db-wal")) {
+        tablet.kind.push_str("-frames");
+        let frames = File { bytes: &log, pages: pages(&log, 32, 24, tablet.page), size: tablet.page, is_log: true };
+        measure_file(runner, &tablet, &frames, &file, measured);
+    }
+    Ok(())
 }
 
 fn hints_of(runner: &mut Runner, statement: &[u8]) -> Vec<u8> {
@@ -103,34 +145,74 @@ fn hints_of(runner: &mut Runner, statement: &[u8]) -> Vec<u8> {
     answer.lists[0].iter().map(|&h| h as u8).collect()
 }
 
-/// The database page by page, and its log frame by frame.
-fn scan_both(runner: &mut Runner, folder: &str, name: &str, hints: &[u8], which: &str) -> io::Result<()> {
-    let path = |end: &str| Path::new(folder).join(format!("{name}{end}"));
-    let lines = |end: &str| -> io::Result<HashSet<String>> {
-        Ok(fs::read_to_string(path(end))?.lines().map(String::from).collect())
-    };
-    let db = fs::read(path(".db"))?;
-    let mut tablet = Tablet {
-        name: name.to_string(),
-        page: page_size(&db),
-        columns: hints.len(),
-        // The key's column is NULL in each record, and the statement's hints leave it out.
-        hints: if which == KEY_AS_NULL { [&[NULL_HINT][..], hints].concat() } else { hints.to_vec() },
-        deleted: lines(".deleted")?,
-        kept: lines(".kept")?,
-        types: Vec::new(),
-    };
-    let leaves = pages(&db, 0, 0, tablet.page);
-    tablet.types = carvers::learn(runner, &tablet, &db, &leaves);
-    let found = CARVERS.each_ref().map(|carver| carvers::table(runner, &tablet, &db, carver));
-    report(runner, &tablet, which, &leaves, found);
-    if let Ok(log) = fs::read(path(".db-wal")) {
-        let which = format!("{which}, log");
-        let leaves = pages(&log, 32, 24, tablet.page);
-        let found = CARVERS.each_ref().map(|carver| carvers::leaves(runner, &tablet, &leaves, carver));
-        report(runner, &tablet, &which, &leaves, found);
+/// Types are learned from the rows that the pages of another file point at.
+fn measure_file(runner: &mut Runner, tablet: &Tablet, file: &File, learned_from: &File, measured: &mut Measured) {
+    measured.deleted.insert(tablet.kind.clone(), tablet.deleted.len());
+    let mut found: HashMap<(List, Way), Option<Vec<Row>>> = HashMap::new();
+    for (list, hints, ways) in tablet.lists() {
+        let mut lent = Lent::new(tablet.columns(list), hints);
+        lent.types = carvers::learn(runner, &lent, learned_from);
+        for way in ways {
+            found.insert((list, *way), carvers::rows(runner, &lent, file, *way));
+        }
     }
-    Ok(())
+    unite(&mut found);
+    for ((list, way), rows) in found {
+        let of = Of { kind: tablet.kind.clone(), page: tablet.page, list, way };
+        let lines = tablet.last(tablet.columns(list));
+        measured.back.insert(of, Back::of(&lines, rows.as_deref(), way));
+    }
+}
+
+/// What both lists of a keyed table bring, and what the two best ways do.
+fn unite(found: &mut HashMap<(List, Way), Option<Vec<Row>>>) {
+    let mut both = |one: (List, Way), other: (List, Way), united: (List, Way)| {
+        if let (Some(Some(one)), Some(Some(other))) = (found.get(&one), found.get(&other)) {
+            let rows = rows::each_once(one, other);
+            found.insert(united, Some(rows));
+        }
+    };
+    for way in OF_FREE_SPACE {
+        both((List::NullForKey, way), (List::BehindKey, way), (List::BothOfKey, way));
+    }
+    both((List::All, Way::Exact), (List::All, Way::Offsets), (List::All, Way::Together));
+    both((List::BothOfKey, Way::Exact), (List::NullForKey, Way::Offsets), (List::BothOfKey, Way::Together));
+}
+
+impl Tablet {
+    /// The lists of hints that are lent, and the ways for which they are. A key is NULL in each record, and the statement's
+    /// hints leave it out.
+    fn lists(&self) -> Vec<(List, Vec<u8>, &'static [Way])> {
+        let all = self.hints.clone();
+        let ways: &[Way] = if self.kind.ends_with("-end") { &WAYS_AND_GAP } else { &WAYS };
+        if self.kind.starts_with("key") {
+            let with_null = [&[NULL_HINT][..], &all].concat();
+            return vec![(List::NullForKey, with_null, ways), (List::BehindKey, all, ways)];
+        }
+        if self.kind.contains("whole") || self.kind.contains("hundredths") {
+            let any = all.iter().map(|&hint| if hint == REAL_HINT { ANY_HINT } else { hint }).collect();
+            return vec![(List::All, all, ways), (List::AnyForReal, any, ways)];
+        }
+        if self.kind.starts_with("plain") {
+            let from_second = all[1..].to_vec();
+            return vec![(List::All, all, ways), (List::FromSecond, from_second, &[Way::OneByte, Way::Exact])];
+        }
+        vec![(List::All, all, ways)]
+    }
+
+    /// How many values of a row stand in a line: the key does not.
+    fn columns(&self, list: List) -> usize {
+        self.hints.len() - usize::from(list == List::FromSecond)
+    }
+
+    /// The last values of each line.
+    fn last(&self, columns: usize) -> Lines {
+        let cut = |line: &String| {
+            let values: Vec<&str> = line.split('|').collect();
+            values[values.len() - columns..].join("|")
+        };
+        Lines { deleted: self.deleted.iter().map(cut).collect(), live: self.live.iter().map(cut).collect() }
+    }
 }
 
 /// Bytes 16 and 17 of a database; 1 stands for 65,536.
@@ -149,90 +231,4 @@ fn pages(file: &[u8], head: usize, before: usize, size: usize) -> Vec<Leaf<'_>> 
         Some(Leaf { at: at + before, header: if first { FIRST_HEADER } else { 0 }, bytes })
     };
     (head..file.len()).step_by(before + size).filter_map(page).collect()
-}
-
-fn report(runner: &mut Runner, tablet: &Tablet, which: &str, pages: &[Leaf], [freed, one_byte, exact]: [Back; 3]) {
-    let mut scanned = Back::default();
-    let mut tried = Back::default();
-    for page in pages {
-        let lists = lists(page.bytes.len() / SHORTEST_ROW, tablet.hints.len());
-        let case = Case::new(SCAN, &[page.at as u64, 0], &[page.bytes, &tablet.hints], &lists);
-        put_counted(runner, tablet, case, tablet.hints.len(), &mut scanned);
-        try_every_offset(runner, tablet, page.bytes, &mut tried);
-    }
-    let modes = carvers::modes(runner, tablet, pages);
-    let learned = carvers::learned(runner, tablet, pages);
-    let found = [scanned, tried, freed, one_byte, exact, modes, learned].map(|back| back.shown()).join(" | ");
-    println!("| {} | {which} | {} | {found} |", tablet.name, tablet.deleted.len());
-}
-
-/// Sorts in the rows of a case, and puts it and a damaged copy. Its last list has a group of so many entries for each row.
-fn put_counted(runner: &mut Runner, tablet: &Tablet, case: Case, width: usize, back: &mut Back) {
-    let answer = (calls::of(&case).answer)(&runner.limits, &case);
-    back.refused = answer.number != 0;
-    let groups = answer.lists.last().map_or(&[][..], |list| list);
-    for group in groups.chunks(WORDS_PER_ENTRY * width) {
-        sort_in(tablet, &case.slices[0], group, back);
-    }
-    let seed = case.slices[0].iter().fold(case.numbers[0], |seed, &b| seed.wrapping_mul(31) + u64::from(b));
-    put_damaged(runner, &case, seed);
-    runner.put(case);
-}
-
-/// What the scan steps over, too. Each row is put as the case of its own bytes.
-fn try_every_offset(runner: &mut Runner, tablet: &Tablet, page: &[u8], back: &mut Back) {
-    let hints = &tablet.hints;
-    for o in 0..page.len() {
-        let Some(found) = attempt(&runner.limits, page, hints, o).found else { continue };
-        if (found.suited as f32 / hints.len() as f32) < LEAST_CONFIDENCE {
-            continue;
-        }
-        let row = &page[o..][..found.consumed as usize];
-        let case = Case::new(ATTEMPT, &[0, 0], &[row, hints], &lists(1, hints.len()));
-        let answer = (calls::of(&case).answer)(&runner.limits, &case);
-        sort_in(tablet, row, &answer.lists[1], back);
-        runner.put(case);
-    }
-}
-
-/// The same page with a few bytes changed: nothing is counted, but all sides must agree on it too.
-fn put_damaged(runner: &mut Runner, case: &Case, seed: u64) {
-    let mut random = Random::new(seed);
-    let mut damaged = case.clone();
-    if damaged.slices[0].is_empty() {
-        return;
-    }
-    for _ in 0..1 + random.below(40) {
-        let at = random.below(damaged.slices[0].len());
-        damaged.slices[0][at] ^= 1 << random.below(8);
-    }
-    runner.put(damaged);
-}
-
-/// A row's key, if it has a column for it, stands before the others.
-fn sort_in(tablet: &Tablet, page: &[u8], group: &[u64], back: &mut Back) {
-    let used = group.chunks(WORDS_PER_ENTRY).filter(|entry| entry[0] != UNUSED);
-    let columns: Vec<String> = used.map(|entry| shown(page, entry)).collect();
-    let key = columns.len() - columns.len().min(tablet.columns);
-    let line = columns[key..].join("|");
-    if tablet.deleted.contains(&line) {
-        back.deleted.insert(line);
-    } else if tablet.kept.contains(&line) {
-        back.live += 1;
-    } else {
-        back.none += 1;
-    }
-}
-
-/// A value as sqlite3 prints it in a list.
-fn shown(page: &[u8], entry: &[u64]) -> String {
-    let v = read_entry([entry[0], entry[1], entry[2], entry[3]], page).unwrap_or_default();
-    let part = || &page[v.start as usize..(v.start + v.length) as usize];
-    match v.tag {
-        value::INTEGER => (v.bits as i64).to_string(),
-        value::REAL => f64::from_bits(v.bits).to_string(),
-        value::TEXT => String::from_utf8_lossy(part()).into_owned(),
-        value::BLOB => format!("{:?}", part()),
-        _ => String::new(),
-    }
 }

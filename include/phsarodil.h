@@ -11,9 +11,9 @@
  * nothing outside its slices and takes any bytes and numbers whatever: what it cannot answer it refuses.
  *
  * Stack. The calls on freed blocks and free space (phs_recover_.., phs_scan_page_.., phs_scan_single_page_gap and
- * phs_parse_cells_from_freeblock) take at most 67,300 bytes of it, phs_learn_signatures 24,800, phs_boyer_moore_search 2,200 and
- * any other call 900, whatever they are lent: the frames of the archive along the deepest chain of calls come to no more, and
- * a stack that was painted before the calls showed no more. What memcpy and memset take comes on top.
+ * phs_parse_cells_from_freeblock) take at most 67,300 bytes of it, phs_learn_signatures 24,800, phs_boyer_moore_search
+ * 2,200 and any other call 900, whatever they are lent: the frames of the archive along the deepest chain of calls come to no
+ * more, and a stack that was painted before the calls showed no more. What memcpy and memset take comes on top.
  *
  * Answers. Each call but phs_version returns a refusal number, 0 for none, and puts the rest of its answer into `out`,
  * which has as many words as the call says; PHS_MOST_OUT are enough for any. Every word of them is written by every call; a
@@ -300,7 +300,7 @@ uint64_t phs_collect_leaf_pages(const uint8_t *db, size_t len, uint64_t page_siz
  * end, 8 bytes on, or past the page, at a place that it has been to, and at a size below 4 or past the page. Of a block the
  * first four bytes are lost to the chain. A row is looked for at the next byte, and then up to 19 bytes on; the first that
  * is found is the block's. Its confidence is the share of columns that suit, times 0.6; its source is PHS_SOURCE_FREELIST.
- * So a cell at the block's start is found where its record's length and its row id take the four bytes; the others are
+ * So a cell at the block's start is found where its record's length and its row id take four bytes or more; the others are
  * for phs_scan_page_gaps.
  *
  * A row's offset and its entries' starts are places in `db`; 4 times the table's index is in PHS_ROW_MODE. A group has as many
@@ -319,6 +319,7 @@ uint64_t phs_recover_freeblocks(const uint8_t *db, size_t len, uint64_t page_siz
 
 /*
  * The same of one page by its number, whatever its type.
+ * out, 1 word: the rows written.
  * Returns PHS_COLUMN_COUNT, PHS_MALFORMED, PHS_TOO_LARGE, PHS_PAGE_SIZE, PHS_NO_SUCH_PAGE or PHS_NO_ROOM.
  */
 uint64_t phs_recover_page_freeblocks(const uint8_t *db, size_t len, uint64_t page_size, uint64_t page, const uint8_t *hints,
@@ -327,6 +328,7 @@ uint64_t phs_recover_page_freeblocks(const uint8_t *db, size_t len, uint64_t pag
 
 /*
  * The same of a page that is lent by itself, with its b-tree header at page[header]; `base` is the offset of its first byte.
+ * out, 1 word: the rows written.
  * Returns PHS_COLUMN_COUNT, PHS_MALFORMED, PHS_TOO_LARGE, PHS_BASE_TOO_FAR or PHS_NO_ROOM.
  */
 uint64_t phs_recover_slice_freeblocks(const uint8_t *page, size_t len, size_t header, uint64_t base, const uint8_t *hints,
@@ -346,9 +348,10 @@ uint64_t phs_recover_slice_freeblocks(const uint8_t *page, size_t len, size_t he
  * first type, and PHS_ROW_CONSUMED is counted from there. A row at the offset of one of this block's cells is left out.
  * The source is PHS_SOURCE_CARVED_INTRA_PAGE. The confidence is the share of columns that suit, of rebuilt rows times 0.9;
  * PHS_ROW_PERCENT is the same in whole hundredths, cut down.
- * Most rows listed are none. Those with a confidence of 0.85 or more that are not all NULL are the ones to keep: docs/BENCH.md
- * has what that brings and loses. Whoever lends fewer hints than columns reads "Deleted rows", above, first.
- * Returns as phs_recover_freeblocks does, and so are rows, entries and `out`; PHS_COLUMN_COUNT also where `rebuilding` is
+ * On real pages most rows listed are none. Those with a confidence of 0.85 or more that are not all NULL are the ones to keep:
+ * docs/BENCH.md has what that brings and loses. Whoever lends fewer hints than columns reads "Deleted rows", above, first.
+ * out, 1 word: the rows written.
+ * Returns as phs_recover_freeblocks does, and so are rows and entries; PHS_COLUMN_COUNT also where `rebuilding` is
  * PHS_ONE_BYTE and any table has more than PHS_MOST_ONE_BYTE_COLUMNS columns, PHS_MALFORMED also where it is neither.
  */
 uint64_t phs_scan_page_gaps(uint64_t rebuilding, const uint8_t *db, size_t len, uint64_t page_size, const uint64_t *roots,
@@ -357,7 +360,9 @@ uint64_t phs_scan_page_gaps(uint64_t rebuilding, const uint8_t *db, size_t len, 
                             uint64_t *rows, size_t rows_len, uint64_t *cols, size_t cols_len, uint64_t out[1]);
 
 /*
- * The same of one page by its number, whatever its type.
+ * The same of one page by its number, whatever its type. There are no more rows than bytes in a page whose blocks do not
+ * overlap; on a damaged page they may. After PHS_NO_ROOM lend more, or carve its blocks by phs_parse_cells_from_freeblock.
+ * out, 1 word: the rows written.
  * Returns PHS_COLUMN_COUNT, PHS_MALFORMED, PHS_TOO_LARGE, PHS_PAGE_SIZE, PHS_NO_SUCH_PAGE or PHS_NO_ROOM.
  */
 uint64_t phs_scan_page_gap(uint64_t rebuilding, const uint8_t *db, size_t len, uint64_t page_size, uint64_t page,
@@ -366,6 +371,7 @@ uint64_t phs_scan_page_gap(uint64_t rebuilding, const uint8_t *db, size_t len, u
 
 /*
  * The same of a page that is lent by itself, with its b-tree header at page[header]; `base` is the offset of its first byte.
+ * out, 1 word: the rows written.
  * Returns PHS_COLUMN_COUNT, PHS_MALFORMED, PHS_TOO_LARGE, PHS_BASE_TOO_FAR or PHS_NO_ROOM.
  */
 uint64_t phs_scan_single_page_gap(uint64_t rebuilding, const uint8_t *page, size_t len, size_t header, uint64_t base,
@@ -374,7 +380,8 @@ uint64_t phs_scan_single_page_gap(uint64_t rebuilding, const uint8_t *page, size
 
 /*
  * Cells and rebuilt records alone, of what stands behind the first four bytes of one freed block; `base` is the offset of
- * its first byte.
+ * its first byte. There are no more rows than bytes.
+ * out, 1 word: the rows written.
  * Returns PHS_COLUMN_COUNT, PHS_MALFORMED, PHS_TOO_LARGE, PHS_BASE_TOO_FAR or PHS_NO_ROOM.
  */
 uint64_t phs_parse_cells_from_freeblock(uint64_t rebuilding, const uint8_t *payload, size_t len, uint64_t base,

@@ -94,10 +94,10 @@ enum phs_refusal {
 /* What a column is expected to hold. Every hint takes a NULL. */
 enum phs_hint {
     PHS_HINT_INTEGER = 0, /* takes the whole values of a REAL column, too, which are stored as integers */
-    PHS_HINT_REAL = 1,    /* does not take them */
+    PHS_HINT_REAL = 1,    /* does not take them: for a column that has both, PHS_HINT_ANY */
     PHS_HINT_TEXT = 2,
     PHS_HINT_BLOB = 3,
-    PHS_HINT_NULL = 4,
+    PHS_HINT_NULL = 4,    /* for an INTEGER PRIMARY KEY, too: "Deleted rows", above */
     PHS_HINT_ANY = 5
 };
 

@@ -299,7 +299,8 @@ uint64_t phs_collect_leaf_pages(const uint8_t *db, size_t len, uint64_t page_siz
  * The freed blocks of a page are those of the chain that its header names: it ends at 0, at a place before the header's
  * end, 8 bytes on, or past the page, at a place that it has been to, and at a size below 4 or past the page. Of a block the
  * first four bytes are lost to the chain. A row is looked for at the next byte, and then up to 19 bytes on; the first that
- * is found is the block's. Its confidence is the share of columns that suit, times 0.6; its source is PHS_SOURCE_FREELIST.
+ * is found is the block's. Its confidence is the share of columns that suit, times 0.6, so that 0.51 here is what 0.85 is in
+ * other calls; its source is PHS_SOURCE_FREELIST.
  * So a cell at the block's start is found where its record's length and its row id take four bytes or more; the others are
  * for phs_scan_page_gaps.
  *
@@ -348,8 +349,10 @@ uint64_t phs_recover_slice_freeblocks(const uint8_t *page, size_t len, size_t he
  * first type, and PHS_ROW_CONSUMED is counted from there. A row at the offset of one of this block's cells is left out.
  * The source is PHS_SOURCE_CARVED_INTRA_PAGE. The confidence is the share of columns that suit, of rebuilt rows times 0.9;
  * PHS_ROW_PERCENT is the same in whole hundredths, cut down.
- * On real pages most rows listed are none. Those with a confidence of 0.85 or more that are not all NULL are the ones to keep:
- * docs/BENCH.md has what that brings and loses. Whoever lends fewer hints than columns reads "Deleted rows", above, first.
+ * On real pages most rows listed are none. The ones to keep have a confidence of 0.85 or more and are not all NULL; of those
+ * that share bytes it is the one with the most values that are not NULL. docs/BENCH.md has what that brings and loses. Rows
+ * that were deleted from the end on may lie in the gap without their first four bytes, and no header is rebuilt there: lend the
+ * gap to phs_parse_cells_from_freeblock. Whoever lends fewer hints than columns reads "Deleted rows", above, first.
  * out, 1 word: the rows written.
  * Returns as phs_recover_freeblocks does, and so are rows and entries; PHS_COLUMN_COUNT also where `rebuilding` is
  * PHS_ONE_BYTE and any table has more than PHS_MOST_ONE_BYTE_COLUMNS columns, PHS_MALFORMED also where it is neither.
@@ -396,9 +399,10 @@ uint64_t phs_parse_cells_from_freeblock(uint64_t rebuilding, const uint8_t *payl
  * If that found no row, the other two are tried, each once, and each may find one:
  *     PHS_MODE_COLUMNS_ONLY, 0.5: types from the first byte on, and the bodies behind the last of them.
  *     PHS_MODE_FIRST_COL_MISSING, 0.3: the same from the fifth byte on, for a block whose first four bytes were
- *         overwritten. Its first column is PHS_LOST. It needs 5 bytes and 2 columns. DO NOT TRUST ITS VALUES, unless the lost
- *         column is a key: the body of any other stands behind the types, before those of the columns that are read, and so
- *         each of these is read from the wrong place. The Rust that the library is held against reads them so, too.
+ *         overwritten. Its first column is PHS_LOST. It needs 5 bytes and 2 columns. DO NOT TRUST ITS VALUES: they are right
+ *         where the lost column is a key and its type just the fourth byte, as in "Deleted rows", above. The body of any other
+ *         column stands behind the types, before those of the columns that are read, and so each of these is read from the
+ *         wrong place. The Rust that the library is held against reads them so, too.
  * No more types are read than there are columns, in the last mode one less, and fewer where header or block ends: the
  * entries behind a row's columns are PHS_UNUSED. A mode fails where it finds no type or one that runs off the block,
  * NORMAL also where the header length is missing, less than the bytes that it takes itself or more than those left.

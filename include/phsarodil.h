@@ -2,15 +2,22 @@
  * Phsarodil: rows carved out of what is left in SQLite pages.
  *
  * Link with libphsarodil.a (x86-64 Linux), which `rt staticlib phsarodil` writes to target/staticlib, and see that
- * phs_version() == PHS_VERSION before anything else.
+ * phs_version() == PHS_VERSION before anything else. The archive needs `memcpy` and `memset` of whoever links it, which any
+ * C library has, and nothing else.
  *
  * Memory. A call allocates nothing, keeps no pointer and has no state, so calls may run on any threads at once. All
  * memory stays the caller's. A slice is a pointer and a length in elements. No pointer may be NULL, not even where its
  * length is 0, and memory that a call writes may overlap nothing else that is lent to the same call. A call reads
  * nothing outside its slices and takes any bytes and numbers whatever: what it cannot answer it refuses.
  *
- * Answers. Each call but phs_version returns a refusal number, 0 for none, and puts the rest of its answer into `out`.
- * Every word of `out` is written by every call; a word with nothing to say is 0.
+ * Stack. The calls on freed blocks and free space (phs_recover_.., phs_scan_page_.., phs_scan_single_page_gap and
+ * phs_parse_cells_from_freeblock) take at most 67,300 bytes of it, phs_learn_signatures 24,800, phs_boyer_moore_search
+ * 2,200 and any other call 900, whatever they are lent: the frames of the archive along the deepest chain of calls come to no
+ * more, and a stack that was painted before the calls showed no more. What memcpy and memset take comes on top.
+ *
+ * Answers. Each call but phs_version returns a refusal number, 0 for none, and puts the rest of its answer into `out`,
+ * which has as many words as the call says; PHS_MOST_OUT are enough for any. Every word of them is written by every call; a
+ * word with nothing to say is 0.
  *
  * Lists. Rows and their column entries go into two lists, `rows` and `cols`, which are filled from the front. Row i
  * has the words rows[8 * i ..] and, for n columns, the n entries cols[4 * n * i ..]; a call that is lent hints has a
@@ -18,11 +25,27 @@
  * that out[0] counts are written; all others keep what they held. Hints, types, leaves and places go into one list in
  * the same way. Refusals 1 to 7 write no list.
  *
- * What a scan gives away. All that it writes and answers is a function of its other arguments, of the region's length
- * and of the bytes that it read as headers. But a row is a guess: any bytes that read as a header of the right number
- * of types, one of which suits its hint. Where these bytes were text, the row's types are that text, a byte each. A
- * type also shows an integer's size and that a REAL is whole, a length how long a note is. Dropping rows of low
- * confidence makes text in types rarer; nothing excludes it. README, "What the sheet gives away", has an example.
+ * Databases. A call sees the bytes that it is lent, and no file. The log that may stand beside a database, its name with -wal
+ * behind it, may have newer pages than the database; no call reads it yet. Work on a copy of both files: sqlite3 writes the log
+ * into the database and deletes it when it closes a database that it opened, even where it only read.
+ *
+ * Deleted rows. SQLite overwrites the first four bytes of a cell that it frees. They hold the record's length, the row id and
+ * the header's length, and, where each of these takes one byte, the first column's type: so of rows with a row id from 0 to
+ * 127 and a record of at most 127 bytes, which may be all of a small table.
+ *     An INTEGER PRIMARY KEY as the first column has a type, that of NULL, and no body: its value is the row id. Records that
+ *     have all types need PHS_HINT_NULL in its place. In freed blocks of such rows the key's type is gone, and the hints
+ *     behind the key bring all other columns back. So for such a table make two calls on free space, with either hints.
+ *     Of any other first column the length of the body is lost with the type, and that body stands before all others. HINTS
+ *     FROM THE SECOND COLUMN ON MUST NOT BE LENT FOR IT: types and confidence look right, and every value is read from the
+ *     wrong place, unless that body has no bytes. Lend fewer hints than columns for a key alone.
+ *
+ * What a scan gives away. All that it writes and answers, the count with it, is a function of its other arguments, of the
+ * region's length and of the bytes that its attempts read as headers. That is proved. The compiled scan may look at other
+ * bytes as well, such as those of a run from 128 up in which a header ends; nothing that it answers depends on them.
+ * A row is a guess: any bytes that read as a header of the right number of types, one of which suits its hint. Where these
+ * bytes were text, the row's types are that text, a byte each. A type also shows an integer's size and that a REAL is whole,
+ * a length how long a note is. Dropping rows of low confidence makes text in types rarer; nothing excludes it. README, "What
+ * the sheet gives away", has an example.
  */
 #ifndef PHSARODIL_H
 #define PHSARODIL_H
@@ -53,10 +76,11 @@ enum phs_refusal {
     PHS_PAGE_SIZE = 5,      /* not a page size of the file format */
     PHS_NO_SUCH_PAGE = 6,   /* page 0, or a page that is not wholly in the database */
     PHS_NO_COLUMN_LIST = 7, /* a statement without a '(', or without a ')' behind it */
-    PHS_WALK_SPACE = 8,     /* too few page flags, or a full page stack */
+    PHS_WALK_SPACE = 8,     /* flags_len < len / page_size, with nothing walked; or else a full page stack */
     PHS_NO_ROOM = 9         /* one row, hint, type, place or leaf more than the lent list takes */
 };
 
+#define PHS_MOST_OUT 4 /* words of `out` that any call takes */
 #define PHS_WORDS_PER_ROW 8
 #define PHS_WORDS_PER_ENTRY 4
 #define PHS_MOST_COLUMNS 510
@@ -70,10 +94,10 @@ enum phs_refusal {
 /* What a column is expected to hold. Every hint takes a NULL. */
 enum phs_hint {
     PHS_HINT_INTEGER = 0, /* takes the whole values of a REAL column, too, which are stored as integers */
-    PHS_HINT_REAL = 1,    /* does not take them */
+    PHS_HINT_REAL = 1,    /* does not take them: for a column that has both, PHS_HINT_ANY */
     PHS_HINT_TEXT = 2,
     PHS_HINT_BLOB = 3,
-    PHS_HINT_NULL = 4,
+    PHS_HINT_NULL = 4,    /* for an INTEGER PRIMARY KEY, too: "Deleted rows", above */
     PHS_HINT_ANY = 5
 };
 
@@ -114,7 +138,7 @@ enum phs_source {
     PHS_SOURCE_CARVED_UNALLOC = 3
 };
 
-/* 0 but for the rows of phs_carve_freeblock. */
+/* 0 but for the rows of phs_carve_freeblock, which warns of the last. */
 enum phs_mode { PHS_MODE_NONE = 0, PHS_MODE_NORMAL = 1, PHS_MODE_COLUMNS_ONLY = 2, PHS_MODE_FIRST_COL_MISSING = 3 };
 
 /* The words of a column entry. phs_read_entry makes a value of them. */
@@ -135,21 +159,21 @@ enum phs_state {
 
 /*
  * The varint at bytes[offset].
- * out: 1 if it is whole, else 0; its value; the bytes that it takes, 1 to 9.
+ * out, 3 words: 1 if it is whole, else 0; its value; the bytes that it takes, 1 to 9.
  * Returns 0.
  */
 uint64_t phs_read_varint(const uint8_t *bytes, size_t len, size_t offset, uint64_t out[3]);
 
 /*
  * The body length of the serial type `kind`.
- * out: 1 if it has one, and 0 for the types 10 and 11; the length.
+ * out, 2 words: 1 if it has one, and 0 for the types 10 and 11; the length.
  * Returns 0.
  */
 uint64_t phs_body_length(uint64_t kind, uint64_t out[2]);
 
 /*
  * The value of the serial type `kind` whose body starts at bytes[offset].
- * out: its tag, PHS_NONE if the type is 10 or 11 or the body leaves the slice;
+ * out, 4 words: its tag, PHS_NONE if the type is 10 or 11 or the body leaves the slice;
  *      the bits of an integer, two's complement, or of a real, a double's, any NaN's payload with them;
  *      where a text or a blob starts; the bytes that the body takes.
  * The types 0, 8 and 9 have no body and leave no slice: they have their value at any offset. Any other body leaves the
@@ -160,7 +184,7 @@ uint64_t phs_decode_serial_type(uint64_t kind, const uint8_t *bytes, size_t len,
 
 /*
  * The value of a column entry, given as its four words, over the slice that its row was found in.
- * out: tag, bits and start as above; the length of a text or a blob.
+ * out, 4 words: tag, bits and start as above; the length of a text or a blob.
  * Returns PHS_MALFORMED for a bad entry: the state is above 3 or, in state 0, the length is not the type's, the type
  * is 10 or 11, or the body leaves the slice. Here that is start + length > len whatever the type: over an empty slice
  * the entry 0, 0, 1, 0 is bad, though phs_decode_serial_type finds a NULL at offset 1.
@@ -170,7 +194,7 @@ uint64_t phs_read_entry(uint64_t state, uint64_t kind, uint64_t start, uint64_t 
 
 /*
  * The bytes of a column entry that is a text or a blob.
- * out: their start and length in the slice. An empty text or blob, any other entry and a bad one have 0 and 0.
+ * out, 2 words: their start and length in the slice. An empty text or blob, any other entry and a bad one have 0 and 0.
  * Returns 0: phs_read_entry tells a bad entry.
  */
 uint64_t phs_view_entry(uint64_t state, uint64_t kind, uint64_t start, uint64_t length, const uint8_t *bytes,
@@ -178,7 +202,7 @@ uint64_t phs_view_entry(uint64_t state, uint64_t kind, uint64_t start, uint64_t 
 
 /*
  * Whether the serial type `kind` suits a hint.
- * out: 1 if it does, else 0.
+ * out, 1 word: 1 if it does, else 0.
  * Returns PHS_MALFORMED for a hint above 5.
  */
 uint64_t phs_is_compatible(uint8_t hint, uint64_t kind, uint64_t out[1]);
@@ -186,7 +210,7 @@ uint64_t phs_is_compatible(uint8_t hint, uint64_t kind, uint64_t out[1]);
 /*
  * The row that starts at region[offset], if there is one, for a table whose columns have these hints. `base` is where
  * the region lies in its file; it is added to row offsets only. Unlike the scan it finds a row in the last two bytes.
- * out: the rows written, 0 or 1; 0; 0.
+ * out, 3 words: the rows written, 0 or 1; 0; 0.
  * Returns PHS_COLUMN_COUNT, PHS_MALFORMED, PHS_TOO_LARGE, PHS_BASE_TOO_FAR, or PHS_NO_ROOM for a row without room.
  */
 uint64_t phs_try_parse_record(const uint8_t *region, size_t len, const uint8_t *hints, size_t hints_len, uint64_t base,
@@ -197,7 +221,10 @@ uint64_t phs_try_parse_record(const uint8_t *region, size_t len, const uint8_t *
  * The rows of a region from `start` on, one behind the other: behind a row the scan goes on at its end, elsewhere at
  * the next byte. No row starts in the last two bytes. A row that is none hides the true ones that start inside it: on
  * real pages that can be most of them (docs/BENCH.md), and phs_try_parse_record at every offset finds them.
- * out: the rows written; the place, which is `len` when the scan is through; the header bytes that it read to decide.
+ * out, 3 words: the rows written; the place, which is `len` when the scan is through; the count. That is how many header places
+ *     the attempts have that the scan finished with, an attempt whose row found no room not among them. An attempt's header
+ *     places are the bytes that it reads as the header's length and, where a header may be that long, as types. They are
+ *     counted once for each attempt.
  * Returns PHS_COLUMN_COUNT, PHS_MALFORMED, PHS_TOO_LARGE or PHS_BASE_TOO_FAR; or PHS_NO_ROOM, with the place of the
  * first row that found no room. With room for at least one row, calling again with that place for `start` goes on
  * there, and the counts of all calls add up to those of one scan.
@@ -219,11 +246,12 @@ uint64_t phs_scan_region(const uint8_t *region, size_t len, const uint8_t *hints
  *     t(primary_mail TEXT, n INT)            I     one too few
  *     t("my note" TEXT, n INT)               AI    not a text
  * A piece that holds INTEGER, PRIMARY and KEY anywhere is left out. That is meant for the key itself: its record holds
- * a NULL there, so for such a table lend PHS_HINT_NULL as well, in that column's place:
- *     t(id INTEGER PRIMARY KEY, n INT)       I     lend NI
+ * a NULL there, so for such a table lend PHS_HINT_NULL as well, in that column's place; calls on free space are made with
+ * these hints and, where the key is the first column, with those as they are, too ("Deleted rows", above):
+ *     t(id INTEGER PRIMARY KEY, n INT)       I     lend NI; for free space NI and I
  * A scan with a hint too many or too few finds no row that holds all columns: compare out[0] with their number.
  * A statement is meant to be ASCII: a byte above 127 is no blank, and is compared as it is.
- * out: the hints written, from the front.
+ * out, 1 word: the hints written, from the front.
  * Returns PHS_TOO_LARGE, PHS_NO_COLUMN_LIST or PHS_COLUMN_COUNT, in this order and with `hints` as it was; or
  * PHS_NO_ROOM, with as many hints as there was room for.
  */
@@ -233,7 +261,7 @@ uint64_t phs_from_create_sql(const uint8_t *statement, size_t len, uint8_t *hint
  * The places of a pattern in a haystack, rising; they may overlap. An empty pattern is nowhere, and so is one that is
  * longer than the haystack: a pattern may be of any size. At worst, as in a haystack of one byte over and over, the
  * search takes len * pattern_len steps.
- * out: the places written, from the front.
+ * out, 1 word: the places written, from the front.
  * Returns PHS_TOO_LARGE, with `places` as it was; or PHS_NO_ROOM, with the first places, as many as there was room for.
  */
 uint64_t phs_boyer_moore_search(const uint8_t *haystack, size_t len, const uint8_t *pattern, size_t pattern_len,
@@ -241,7 +269,7 @@ uint64_t phs_boyer_moore_search(const uint8_t *haystack, size_t len, const uint8
 
 /*
  * A page of a database by its number; pages count from 1.
- * out: where the page starts in `db`; its length; where its b-tree header stands in it, 100 on page 1, else 0.
+ * out, 3 words: where the page starts in `db`; its length; where its b-tree header stands in it, 100 on page 1, else 0.
  * Returns PHS_TOO_LARGE, PHS_PAGE_SIZE or PHS_NO_SUCH_PAGE.
  */
 uint64_t phs_get_page_data(const uint8_t *db, size_t len, uint64_t page_size, uint64_t page, uint64_t out[3]);
@@ -253,9 +281,11 @@ uint64_t phs_get_page_data(const uint8_t *db, size_t len, uint64_t page_size, ui
  * the page end the list of them, cells past it are skipped; a page of another type than a table's has none.
  * `flags` has a byte for each whole page, `stack` is the walk's own: both may hold anything before, and all of both is 0
  * after a call that no other refusal than PHS_WALK_SPACE and PHS_NO_ROOM ends.
- * out: the leaves written.
- * Returns PHS_TOO_LARGE or PHS_PAGE_SIZE; PHS_WALK_SPACE for fewer flags than whole pages, with nothing written, or for a
- * push onto a full stack, with the leaves popped before it; or PHS_NO_ROOM.
+ * A stack of as many words as there are whole pages takes the walk of any sound table; of a damaged one it may be too small.
+ * out, 1 word: the leaves written.
+ * Returns PHS_TOO_LARGE or PHS_PAGE_SIZE; PHS_WALK_SPACE or PHS_NO_ROOM. PHS_WALK_SPACE means the flags where flags_len <
+ * len / page_size: nothing was walked, and nothing is written. Elsewhere it means the stack: a push found it full, and the
+ * leaves popped before that are written. Either way lend more and call again; the walk begins anew.
  */
 uint64_t phs_collect_leaf_pages(const uint8_t *db, size_t len, uint64_t page_size, uint64_t root, uint8_t *flags,
                                 size_t flags_len, uint64_t *stack, size_t stack_len, uint64_t *leaves,
@@ -269,13 +299,19 @@ uint64_t phs_collect_leaf_pages(const uint8_t *db, size_t len, uint64_t page_siz
  * The freed blocks of a page are those of the chain that its header names: it ends at 0, at a place before the header's
  * end, 8 bytes on, or past the page, at a place that it has been to, and at a size below 4 or past the page. Of a block the
  * first four bytes are lost to the chain. A row is looked for at the next byte, and then up to 19 bytes on; the first that
- * is found is the block's. Its confidence is the share of columns that suit, times 0.6; its source is PHS_SOURCE_FREELIST.
+ * is found is the block's. Its confidence is the share of columns that suit, times 0.6, so that 0.51 here is what 0.85 is in
+ * other calls; its source is PHS_SOURCE_FREELIST.
+ * So a cell at the block's start is found where its record's length and its row id take four bytes or more; the others are
+ * for phs_scan_page_gaps.
  *
  * A row's offset and its entries' starts are places in `db`; 4 times the table's index is in PHS_ROW_MODE. A group has as many
  * entries as the widest table has columns; those behind a narrower row's columns are PHS_UNUSED.
- * out: the rows written.
+ * out, 1 word: the rows written.
  * Returns PHS_COLUMN_COUNT; PHS_MALFORMED, also where there are not as many counts as roots, or the counts do not add up to
- * the hints; PHS_TOO_LARGE; PHS_PAGE_SIZE; PHS_WALK_SPACE or PHS_NO_ROOM, with the rows that come first.
+ * the hints; PHS_TOO_LARGE; PHS_PAGE_SIZE; PHS_WALK_SPACE, which means flags or stack as in phs_collect_leaf_pages, or
+ * PHS_NO_ROOM, both with the rows that come first. After PHS_NO_ROOM there is no place to go on from: get the leaves of each
+ * table, which come in the same order, by phs_collect_leaf_pages, and carve one after the other by the call on a page. In
+ * a database of more than PHS_LARGEST_REGION bytes read one page after the other, and carve it by the call on a slice.
  */
 uint64_t phs_recover_freeblocks(const uint8_t *db, size_t len, uint64_t page_size, const uint64_t *roots, size_t roots_len,
                                 const uint64_t *counts, size_t counts_len, const uint8_t *hints, size_t hints_len,
@@ -284,6 +320,7 @@ uint64_t phs_recover_freeblocks(const uint8_t *db, size_t len, uint64_t page_siz
 
 /*
  * The same of one page by its number, whatever its type.
+ * out, 1 word: the rows written.
  * Returns PHS_COLUMN_COUNT, PHS_MALFORMED, PHS_TOO_LARGE, PHS_PAGE_SIZE, PHS_NO_SUCH_PAGE or PHS_NO_ROOM.
  */
 uint64_t phs_recover_page_freeblocks(const uint8_t *db, size_t len, uint64_t page_size, uint64_t page, const uint8_t *hints,
@@ -292,6 +329,7 @@ uint64_t phs_recover_page_freeblocks(const uint8_t *db, size_t len, uint64_t pag
 
 /*
  * The same of a page that is lent by itself, with its b-tree header at page[header]; `base` is the offset of its first byte.
+ * out, 1 word: the rows written.
  * Returns PHS_COLUMN_COUNT, PHS_MALFORMED, PHS_TOO_LARGE, PHS_BASE_TOO_FAR or PHS_NO_ROOM.
  */
 uint64_t phs_recover_slice_freeblocks(const uint8_t *page, size_t len, size_t header, uint64_t base, const uint8_t *hints,
@@ -311,7 +349,12 @@ uint64_t phs_recover_slice_freeblocks(const uint8_t *page, size_t len, size_t he
  * first type, and PHS_ROW_CONSUMED is counted from there. A row at the offset of one of this block's cells is left out.
  * The source is PHS_SOURCE_CARVED_INTRA_PAGE. The confidence is the share of columns that suit, of rebuilt rows times 0.9;
  * PHS_ROW_PERCENT is the same in whole hundredths, cut down.
- * Returns as phs_recover_freeblocks does, and so are rows, entries and `out`; PHS_COLUMN_COUNT also where `rebuilding` is
+ * On real pages most rows listed are none. The ones to keep have a confidence of 0.85 or more and are not all NULL; of those
+ * that share bytes it is the one with the most values that are not NULL. docs/BENCH.md has what that brings and loses. Rows
+ * that were deleted from the end on may lie in the gap without their first four bytes, and no header is rebuilt there: lend the
+ * gap to phs_parse_cells_from_freeblock. Whoever lends fewer hints than columns reads "Deleted rows", above, first.
+ * out, 1 word: the rows written.
+ * Returns as phs_recover_freeblocks does, and so are rows and entries; PHS_COLUMN_COUNT also where `rebuilding` is
  * PHS_ONE_BYTE and any table has more than PHS_MOST_ONE_BYTE_COLUMNS columns, PHS_MALFORMED also where it is neither.
  */
 uint64_t phs_scan_page_gaps(uint64_t rebuilding, const uint8_t *db, size_t len, uint64_t page_size, const uint64_t *roots,
@@ -320,7 +363,9 @@ uint64_t phs_scan_page_gaps(uint64_t rebuilding, const uint8_t *db, size_t len, 
                             uint64_t *rows, size_t rows_len, uint64_t *cols, size_t cols_len, uint64_t out[1]);
 
 /*
- * The same of one page by its number, whatever its type.
+ * The same of one page by its number, whatever its type. There are no more rows than bytes in a page whose blocks do not
+ * overlap; on a damaged page they may. After PHS_NO_ROOM lend more, or carve its blocks by phs_parse_cells_from_freeblock.
+ * out, 1 word: the rows written.
  * Returns PHS_COLUMN_COUNT, PHS_MALFORMED, PHS_TOO_LARGE, PHS_PAGE_SIZE, PHS_NO_SUCH_PAGE or PHS_NO_ROOM.
  */
 uint64_t phs_scan_page_gap(uint64_t rebuilding, const uint8_t *db, size_t len, uint64_t page_size, uint64_t page,
@@ -329,6 +374,7 @@ uint64_t phs_scan_page_gap(uint64_t rebuilding, const uint8_t *db, size_t len, u
 
 /*
  * The same of a page that is lent by itself, with its b-tree header at page[header]; `base` is the offset of its first byte.
+ * out, 1 word: the rows written.
  * Returns PHS_COLUMN_COUNT, PHS_MALFORMED, PHS_TOO_LARGE, PHS_BASE_TOO_FAR or PHS_NO_ROOM.
  */
 uint64_t phs_scan_single_page_gap(uint64_t rebuilding, const uint8_t *page, size_t len, size_t header, uint64_t base,
@@ -337,7 +383,8 @@ uint64_t phs_scan_single_page_gap(uint64_t rebuilding, const uint8_t *page, size
 
 /*
  * Cells and rebuilt records alone, of what stands behind the first four bytes of one freed block; `base` is the offset of
- * its first byte.
+ * its first byte. There are no more rows than bytes.
+ * out, 1 word: the rows written.
  * Returns PHS_COLUMN_COUNT, PHS_MALFORMED, PHS_TOO_LARGE, PHS_BASE_TOO_FAR or PHS_NO_ROOM.
  */
 uint64_t phs_parse_cells_from_freeblock(uint64_t rebuilding, const uint8_t *payload, size_t len, uint64_t base,
@@ -352,7 +399,10 @@ uint64_t phs_parse_cells_from_freeblock(uint64_t rebuilding, const uint8_t *payl
  * If that found no row, the other two are tried, each once, and each may find one:
  *     PHS_MODE_COLUMNS_ONLY, 0.5: types from the first byte on, and the bodies behind the last of them.
  *     PHS_MODE_FIRST_COL_MISSING, 0.3: the same from the fifth byte on, for a block whose first four bytes were
- *         overwritten. Its first column is PHS_LOST. It needs 5 bytes and 2 columns.
+ *         overwritten. Its first column is PHS_LOST. It needs 5 bytes and 2 columns. DO NOT TRUST ITS VALUES: they are right
+ *         where the lost column is a key and its type just the fourth byte, as in "Deleted rows", above. The body of any other
+ *         column stands behind the types, before those of the columns that are read, and so each of these is read from the
+ *         wrong place. The Rust that the library is held against reads them so, too.
  * No more types are read than there are columns, in the last mode one less, and fewer where header or block ends: the
  * entries behind a row's columns are PHS_UNUSED. A mode fails where it finds no type or one that runs off the block,
  * NORMAL also where the header length is missing, less than the bytes that it takes itself or more than those left.
@@ -360,7 +410,7 @@ uint64_t phs_parse_cells_from_freeblock(uint64_t rebuilding, const uint8_t *payl
  * row ends behind its last body that fits, or where the bodies start if none does. Its source is PHS_SOURCE_FREELIST,
  * its offset `base` plus the place of its first byte: in the last mode that is the block's first, so PHS_ROW_CONSUMED
  * has the four lost bytes in it.
- * out: the rows written.
+ * out, 1 word: the rows written.
  * Returns PHS_COLUMN_COUNT, PHS_TOO_LARGE, PHS_BASE_TOO_FAR or PHS_NO_ROOM.
  */
 uint64_t phs_carve_freeblock(const uint8_t *bytes, size_t len, uint64_t base, size_t columns, uint64_t *rows,
@@ -375,7 +425,7 @@ uint64_t phs_carve_freeblock(const uint8_t *bytes, size_t len, uint64_t base, si
  *     or 4 bytes hold it, or else as 6, never as 5; a real as 7; a text of n bytes as 13 + 2 * n, a blob as 12 + 2 * n.
  * PHS_UNUSED does not count. The column's type is the one that most of its entries count as; of several, the smallest.
  * There are as many types as the longest row has entries that are used: no rows give none.
- * out: the types written, from the front.
+ * out, 1 word: the types written, from the front.
  * Returns PHS_COLUMN_COUNT for the width; PHS_MALFORMED, where a row has an entry that phs_read_entry refuses, or one
  * that is used behind one that is not; PHS_TOO_LARGE, also for more than PHS_MOST_LEARNED rows; or PHS_NO_ROOM, with the
  * first types, as many as there was room for.
@@ -393,7 +443,7 @@ uint64_t phs_learn_signatures(const uint8_t *bytes, size_t len, size_t width, co
  * least is of the class of the one at its place: equal, or both of 1 to 6, 8 and 9, or both texts, or both blobs.
  * The source is PHS_SOURCE_CARVED_UNALLOC. PHS_ROW_PERCENT is a hundred times the types that are of the class, divided by the
  * number of types lent, without the rest; the confidence is the percent divided by 100.
- * out: the rows written.
+ * out, 1 word: the rows written.
  * Returns PHS_COLUMN_COUNT for the number of types, PHS_TOO_LARGE, PHS_BASE_TOO_FAR or PHS_NO_ROOM.
  */
 uint64_t phs_carve_unallocated(const uint8_t *region, size_t len, const uint64_t *types, size_t types_len, uint64_t base,

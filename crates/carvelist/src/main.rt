@@ -48,7 +48,32 @@ fn say_totals(out: Output, total: Totals) -> Output {
     out.say(&text[..n])
 }
 
+fn say_aside(text: &[u8]) {
+    write_whole(STDERR_FILENO, text);
+}
+
+fn say_reads() {
+    say_aside(
+        b" reads from standard input: how many columns, in two bytes, high byte first; a hint code for each; and the region; 65,536 bytes in all at the most\n",
+    );
+}
+
+// What the number means here; `judge` gives these three.
+fn say_meaning(refusal: Refusal) {
+    match refusal {
+        Refusal::ColumnCount => say_aside(
+            b"carvelist: refusal 1: the first two bytes are no count of columns from 1 to 510; it",
+        ),
+        Refusal::Malformed => say_aside(
+            b"carvelist: refusal 2: behind the count a hint code is missing, or above 5; it",
+        ),
+        _ => say_aside(b"carvelist: refusal 3: there are more than 65,536 bytes; it"),
+    }
+    say_reads();
+}
+
 fn say_refusal(out: Output, refusal: Refusal) -> Output {
+    say_meaning(refusal);
     let mut text = text_space();
     let n = put_refusal(&mut text, refusal);
     out.say(&text[..n])
@@ -120,16 +145,11 @@ fn say_answer(out: Output, input: &[u8]) -> Output {
 }
 
 fn say_usage() {
-    write_whole(
-        STDERR_FILENO,
-        b"carvelist: takes no words, and reads from standard input: how many columns, in two bytes, high byte first; a hint code for each; and the region\n",
-    );
+    say_aside(b"carvelist: takes no words, and");
+    say_reads();
 }
 
 fn answer(input: &[u8]) {
-    if input.len() == 0 {
-        say_usage();
-    }
     say_answer(Output::new(), input).end(b"carvelist: standard output");
 }
 

@@ -85,10 +85,13 @@ pub(crate) fn most(columns: usize, memory: usize) -> usize {
 
 /// So many words of 0; [`Refusal::NoRoom`] where the machine does not have the memory.
 pub(crate) fn zeros(words: usize) -> Result<Vec<u64>, Refusal> {
-    let mut list = Vec::new();
-    list.try_reserve_exact(words).map_err(|_| Refusal::NoRoom)?;
-    list.resize(words, 0);
-    Ok(list)
+    // Asked for first by a call that may fail; `vec!` may not, but takes no memory for what is never written.
+    let mut asked: Vec<u64> = Vec::new();
+    asked
+        .try_reserve_exact(words)
+        .map_err(|_| Refusal::NoRoom)?;
+    drop(asked);
+    Ok(vec![0; words])
 }
 
 /// The rows that one call found. They stay in the call's lists, and a [`Record`] is made of each as it is taken.

@@ -243,19 +243,18 @@ static int is_likely(const struct job *job, const uint64_t *row, const uint64_t 
            memchr(job->taken + start_of(job, row), 1, (size_t)row[PHS_ROW_CONSUMED]) == NULL;
 }
 
-/* Prints a row if it is to be printed, and says so in `printed`; returns the refusal. `sound`: it stands where a cell can. */
-static uint64_t take_row(struct job *job, const uint64_t *row, const uint64_t *entries, size_t skip, int sound, int *printed)
+/* Prints a row if it is to be printed; returns the refusal. `sound`: it stands where a cell can. `kept`: it is likely, too. */
+static uint64_t take_row(struct job *job, const uint64_t *row, const uint64_t *entries, size_t skip, int sound, int *kept)
 {
     size_t first = has_key(job) - skip; /* the first column behind the key */
     uint8_t *seen = &job->seen[entries[first * PHS_WORDS_PER_ENTRY + PHS_ENTRY_START]];
-    int kept = !*seen && sound && is_likely(job, row, entries, skip);
 
-    *printed = kept || (job->all && !*seen);
-    if (!*printed) {
+    *kept = !*seen && sound && is_likely(job, row, entries, skip);
+    if (!*kept && (*seen || !job->all)) {
         job->left_out += !*seen;
         return PHS_OK;
     }
-    if (kept) {
+    if (*kept) {
         *seen = 1;
         memset(job->taken + start_of(job, row), 1, (size_t)row[PHS_ROW_CONSUMED]);
         job->begins[end_of(job, row)] = 1;
@@ -290,7 +289,7 @@ static int has_cell(const struct job *job, uint64_t *row)
     return 0;
 }
 
-/* Prints the rows from `start` on that end before `end`; returns the refusal. The scan goes on behind a row that is printed, and
+/* Prints the rows from `start` on that end before `end`; returns the refusal. The scan goes on behind a row that is kept, and
    inside of one that is not: what is none hides nothing. */
 static uint64_t scan(struct job *job, size_t start, size_t end)
 {
@@ -300,14 +299,14 @@ static uint64_t scan(struct job *job, size_t start, size_t end)
     for (;;) {
         uint64_t refusal = phs_scan_region(job->page, end, job->hints, job->columns, job->base, start, row, PHS_WORDS_PER_ROW,
                                            job->lists, job->columns * PHS_WORDS_PER_ENTRY, out);
-        int printed;
+        int kept;
 
         if (out[0] == 0)
             return refusal;
-        refusal = take_row(job, row, job->lists, 0, has_cell(job, row), &printed);
+        refusal = take_row(job, row, job->lists, 0, has_cell(job, row), &kept);
         if (refusal != PHS_OK)
             return refusal;
-        start = printed ? end_of(job, row) : start_of(job, row) + 1;
+        start = kept ? end_of(job, row) : start_of(job, row) + 1;
     }
 }
 
@@ -344,7 +343,7 @@ static int has_long_ids(const struct job *job)
 
 /* Whether a row of a freed block, found with the hints behind the first `skip` ones, stands where a cell can: before it is what the
    link overwrote, and its header's length if that is left; behind it the block ends, or another cell has room. */
-static int has_place(const struct job *job, const uint64_t *row, const uint64_t *entries, size_t skip)
+static int has_place(const struct job *job, uint64_t *row, const uint64_t *entries, size_t skip)
 {
     size_t place = start_of(job, row);
     size_t types = (size_t)entries[PHS_ENTRY_START] - place; /* their bytes */
@@ -354,8 +353,11 @@ static int has_place(const struct job *job, const uint64_t *row, const uint64_t 
 
     if (rest > 0 && rest < LINK)
         return 0;
-    if (row[PHS_ROW_HAS_ID])
-        return skip == 0;
+    /* Its length may be larger than the row: then what reads as its id is none. */
+    if (row[PHS_ROW_HAS_ID]) {
+        row[PHS_ROW_HAS_ID] = 0;
+        return skip == 0 && has_cell(job, row);
+    }
     /* Three bytes are before the types of a short row with a short id, so that one of these is lost. */
     if (skip == 0 && row[PHS_ROW_CONSUMED] < 127 && !has_long_ids(job))
         return 0;
@@ -378,11 +380,11 @@ static uint64_t carve_blocks(struct job *job, size_t skip)
                                                 room * columns * PHS_WORDS_PER_ENTRY, out);
 
     for (uint64_t i = 0; i < out[0] && refusal == PHS_OK; i++) {
-        const uint64_t *row = rows + i * PHS_WORDS_PER_ROW;
+        uint64_t *row = rows + i * PHS_WORDS_PER_ROW;
         const uint64_t *entries = cols + i * columns * PHS_WORDS_PER_ENTRY;
-        int printed;
+        int kept;
         if (job->block_end[row[PHS_ROW_OFFSET] - job->base] != 0) /* The others are the gap's. */
-            refusal = take_row(job, row, entries, skip, has_place(job, row, entries, skip), &printed);
+            refusal = take_row(job, row, entries, skip, has_place(job, row, entries, skip), &kept);
     }
     return refusal;
 }

@@ -265,20 +265,18 @@ impl Carving<'_> {
         Ok(())
     }
 
-    /// Prints the rows from `start` on that end before `end`. The scan goes on behind a row that is printed, and inside of one that
-    /// is not: what is none hides nothing.
+    /// Prints the rows from `start` on that end before `end`. The scan goes on behind a row that is kept, and inside of one that is
+    /// not: what is none hides nothing.
     fn scan(&mut self, page: &mut Page, mut start: usize, end: usize) -> Result<(), Trouble> {
         let from = Scan::new(&page.bytes[..end], &self.job.hints)
             .base(page.base)
             .room(1);
         while let Some(mut record) = from.clone().start(start).rows()?.next() {
             let sound = page.has_cell(&mut record);
-            let place = page.start_of(&record);
-            let printed = self.take(page, &record, 0, sound)?;
-            start = if printed {
-                page.end_of(&record)
-            } else {
-                place + 1
+            let kept = self.take(page, &record, 0, sound)?;
+            start = match kept {
+                true => page.end_of(&record),
+                false => page.start_of(&record) + 1,
             };
         }
         Ok(())
@@ -295,17 +293,18 @@ impl Carving<'_> {
             hints,
             DEFAULT_MEMORY,
         )?;
-        for record in records {
+        for mut record in records {
             // The others are the gap's.
             if page.is_in_block(&record) {
-                let sound = page.has_place(&record, skip);
+                let sound = page.has_place(&mut record, skip);
                 self.take(page, &record, skip, sound)?;
             }
         }
         Ok(())
     }
 
-    /// Prints a row if it is to be printed, and answers whether it is. `sound`: it stands where a cell can.
+    /// Prints a row if it is to be printed, and answers whether it is kept: it is likely, and stands where a cell can, which `sound`
+    /// says.
     fn take(
         &mut self,
         page: &mut Page,
@@ -330,7 +329,7 @@ impl Carving<'_> {
         }
         self.rows += 1;
         self.print(page, record, skip)?;
-        Ok(true)
+        Ok(kept)
     }
 
     fn print(&mut self, page: &Page, record: &Record, skip: usize) -> Result<(), Trouble> {

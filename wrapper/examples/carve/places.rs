@@ -134,14 +134,15 @@ impl<'a> Page<'a> {
 
     /// Whether a row of a freed block, found with the hints behind the first `skip` ones, stands where a cell can: before it is what
     /// the link overwrote, and its header's length if that is left; behind it the block ends, or another cell has room.
-    pub fn has_place(&self, record: &Record, skip: usize) -> bool {
+    pub fn has_place(&self, record: &mut Record, skip: usize) -> bool {
         let place = self.start_of(record);
         let rest = self.block_end[place].wrapping_sub(self.end_of(record));
         if (1..LINK).contains(&rest) {
             return false;
         }
-        if record.row.id.is_some() {
-            return skip == 0;
+        // Its length may be larger than the row: then what reads as its id is none.
+        if record.row.id.take().is_some() {
+            return skip == 0 && self.has_cell(record);
         }
         // Three bytes are before the types of a short row with a short id, so that one of these is lost.
         if skip == 0 && record.row.consumed < 127 && !self.has_long_ids() {

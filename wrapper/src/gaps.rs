@@ -144,6 +144,7 @@ pub fn parse_cells_from_freeblock<'a>(
 #[cfg(test)]
 mod tests {
     use super::*;
+    use crate::words::row_bytes;
     use crate::{Record, Source, Value, DEFAULT_MEMORY, MOST_COLUMNS, MOST_ONE_BYTE_COLUMNS};
     use Rebuilding::{Exact, OneByte};
 
@@ -228,9 +229,9 @@ mod tests {
             let rows = parse_cells_from_freeblock(Exact, &[0; 100], 0, &[Hint::Null], memory);
             rows.map(|records| records.len())
         };
-        // A row of one column takes 8 words and 4.
-        assert_eq!(rows(100 * 96), Ok(100));
-        assert_eq!(rows(100 * 96 - 1), Err(Refusal::NoRoom));
+        let enough = 100 * row_bytes(1);
+        assert_eq!(rows(enough), Ok(100));
+        assert_eq!(rows(enough - 1), Err(Refusal::NoRoom));
         assert_eq!(rows(0), Err(Refusal::NoRoom));
     }
 

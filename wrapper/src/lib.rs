@@ -7,8 +7,8 @@
 //!
 //! Which call for which loss: rows deleted here and there lie in the free space of pages that are still in use, and
 //! [`scan_page_gaps`] with [`Rebuilding::Exact`] finds them; of a layer that was cleared the pages are whole, and [`scan`] of each
-//! page does. Both list rows that are none: keep those with a confidence of at least 0.85 that are not all NULL. The example
-//! `carve` does this.
+//! page does. Both list rows that are none. The example `carve` keeps those with a confidence of at least 0.85 that are not all NULL
+//! and stand where a cell can.
 //!
 //! ```
 //! use phsarodil::{scan, Hint, Value};
@@ -68,3 +68,8 @@ pub use rows::{scan, try_parse_record, Mode, Record, Row, Rows, Scan, Source};
 pub use search::{search, Places};
 pub use tables::Table;
 pub use values::{body_length, decode_serial_type, read_varint, Entry, State, Value};
+
+/// Its example is run.
+#[cfg(doctest)]
+#[doc = include_str!("../README.md")]
+struct Readme;

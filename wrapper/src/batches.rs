@@ -69,11 +69,7 @@ impl<'a> Carved<'a> {
     fn go_on(&mut self, start: usize) -> Result<(), Refusal> {
         let rest = &self.bytes[start..];
         let (number, [written]) = self.call.make(rest, self.base, &mut self.lists);
-        self.more = match Refusal::of(number) {
-            None => false,
-            Some(Refusal::NoRoom) => true,
-            Some(refusal) => return Err(refusal),
-        };
+        self.more = Refusal::more(number)?;
         (self.start, self.filled, self.given) = (start, written as usize, 0);
         Ok(())
     }

@@ -3,11 +3,25 @@
 //! and the borrow checker sees to it that what is written overlaps nothing. The first call sees to it that the archive
 //! speaks the words that this crate knows.
 
-use crate::words::VERSION;
 use std::sync::Once;
+
+/// The words that this crate knows: `PHS_VERSION` of the header. It moves with the three numbers below.
+const VERSION: u64 = 2;
+
+/// The words of a row, `PHS_WORDS_PER_ROW`.
+pub const ROW_WORDS: usize = 8;
+
+/// The words of a column entry, `PHS_WORDS_PER_ENTRY`.
+pub const ENTRY_WORDS: usize = 4;
+
+/// How many modes the last word of a row tells apart: it holds the mode, plus so many times the table's index.
+pub const MODES: u64 = 4;
 
 /// A refusal number, 0 for none, with the words of `out`.
 pub type Answer<const N: usize> = (u64, [u64; N]);
+
+/// Page flags and page stack, side by side.
+pub type Walk<'a> = (&'a mut [u8], &'a mut [u64]);
 
 /// Declared as in the header.
 mod c {
@@ -99,6 +113,27 @@ mod c {
             out: *mut [u64; 1],
         ) -> u64;
 
+        pub fn phs_recover_freeblocks(
+            db: *const u8,
+            len: usize,
+            page_size: u64,
+            roots: *const u64,
+            roots_len: usize,
+            counts: *const u64,
+            counts_len: usize,
+            hints: *const u8,
+            hints_len: usize,
+            flags: *mut u8,
+            flags_len: usize,
+            stack: *mut u64,
+            stack_len: usize,
+            rows: *mut u64,
+            rows_len: usize,
+            cols: *mut u64,
+            cols_len: usize,
+            out: *mut [u64; 1],
+        ) -> u64;
+
         pub fn phs_recover_page_freeblocks(
             db: *const u8,
             len: usize,
@@ -120,6 +155,28 @@ mod c {
             base: u64,
             hints: *const u8,
             hints_len: usize,
+            rows: *mut u64,
+            rows_len: usize,
+            cols: *mut u64,
+            cols_len: usize,
+            out: *mut [u64; 1],
+        ) -> u64;
+
+        pub fn phs_scan_page_gaps(
+            rebuilding: u64,
+            db: *const u8,
+            len: usize,
+            page_size: u64,
+            roots: *const u64,
+            roots_len: usize,
+            counts: *const u64,
+            counts_len: usize,
+            hints: *const u8,
+            hints_len: usize,
+            flags: *mut u8,
+            flags_len: usize,
+            stack: *mut u64,
+            stack_len: usize,
             rows: *mut u64,
             rows_len: usize,
             cols: *mut u64,
@@ -386,6 +443,39 @@ pub fn collect_leaf_pages(
     })
 }
 
+/// Of tables lent as their roots and counts of columns, and all hints; rows and columns stand side by side, too.
+pub fn recover_freeblocks(
+    db: &[u8],
+    page_size: u64,
+    [roots, counts]: [&[u64]; 2],
+    hints: &[u8],
+    (flags, stack): Walk,
+    [rows, cols]: [&mut [u64]; 2],
+) -> Answer<1> {
+    answer(|out| unsafe {
+        c::phs_recover_freeblocks(
+            db.as_ptr(),
+            db.len(),
+            page_size,
+            roots.as_ptr(),
+            roots.len(),
+            counts.as_ptr(),
+            counts.len(),
+            hints.as_ptr(),
+            hints.len(),
+            flags.as_mut_ptr(),
+            flags.len(),
+            stack.as_mut_ptr(),
+            stack.len(),
+            rows.as_mut_ptr(),
+            rows.len(),
+            cols.as_mut_ptr(),
+            cols.len(),
+            out,
+        )
+    })
+}
+
 pub fn recover_page_freeblocks(
     db: &[u8],
     page_size: u64,
@@ -427,6 +517,40 @@ pub fn recover_slice_freeblocks(
             base,
             hints.as_ptr(),
             hints.len(),
+            rows.as_mut_ptr(),
+            rows.len(),
+            cols.as_mut_ptr(),
+            cols.len(),
+            out,
+        )
+    })
+}
+
+pub fn scan_page_gaps(
+    rebuilding: u64,
+    db: &[u8],
+    page_size: u64,
+    [roots, counts]: [&[u64]; 2],
+    hints: &[u8],
+    (flags, stack): Walk,
+    [rows, cols]: [&mut [u64]; 2],
+) -> Answer<1> {
+    answer(|out| unsafe {
+        c::phs_scan_page_gaps(
+            rebuilding,
+            db.as_ptr(),
+            db.len(),
+            page_size,
+            roots.as_ptr(),
+            roots.len(),
+            counts.as_ptr(),
+            counts.len(),
+            hints.as_ptr(),
+            hints.len(),
+            flags.as_mut_ptr(),
+            flags.len(),
+            stack.as_mut_ptr(),
+            stack.len(),
             rows.as_mut_ptr(),
             rows.len(),
             cols.as_mut_ptr(),

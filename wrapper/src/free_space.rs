@@ -287,3 +287,114 @@ impl<'a> Iterator for FreeSpace<'a> {
         }
     }
 }
+
+#[cfg(test)]
+mod tests {
+    use super::*;
+    use crate::{recover_freeblocks, scan_every_page_gap, scan_page_gaps, Row};
+
+    const SIZE: usize = 512;
+
+    /// A root with the leaves 2 and 3, and a table of its own on page 4. Each leaf has freed blocks with rows of two columns.
+    fn database() -> Vec<u8> {
+        let mut db = vec![0; 4 * SIZE];
+        db[100] = 5;
+        db[104] = 1;
+        db[108..114].copy_from_slice(&[0, 0, 0, 3, 1, 0]);
+        db[256..260].copy_from_slice(&[0, 0, 0, 2]);
+        for leaf in db[SIZE..].chunks_exact_mut(SIZE) {
+            leaf[..9].copy_from_slice(&[13, 1, 44, 0, 0, 1, 44, 0, 0]);
+            leaf[300..309].copy_from_slice(&[1, 64, 0, 9, 0x11, 1, b'P', b'1', 42]);
+            leaf[320..331].copy_from_slice(&[0, 0, 0, 11, 3, 0x11, 1, b'P', b'2', 43, 0]);
+        }
+        db
+    }
+
+    fn tables() -> [Table; 2] {
+        [
+            Table::new("readings", 1, vec![Hint::Text, Hint::Integer]),
+            Table::new("plots", 4, vec![Hint::Any]),
+        ]
+    }
+
+    /// The rows and values of the call over all tables at once.
+    fn at_once(db: &[u8], tables: &[Table], way: Way) -> Vec<(Row, Vec<String>)> {
+        let roots: Vec<u64> = tables.iter().map(|table| table.root).collect();
+        let counts: Vec<u64> = tables
+            .iter()
+            .map(|table| table.hints.len() as u64)
+            .collect();
+        let hints: Vec<u8> = tables
+            .iter()
+            .flat_map(|table| codes(&table.hints))
+            .collect();
+        let mut lists = Lists::new(100, 2).unwrap();
+        let Lists { rows, cols, .. } = &mut lists;
+        let walk = (&mut [0; 4][..], &mut [0; 8][..]);
+        let (lent, sheet) = ([&roots[..], &counts], [&mut rows[..], cols]);
+        let size = SIZE as u64;
+        let (number, [written]) = match way {
+            Way::Gaps(mode) => {
+                door::scan_page_gaps(mode as u64, db, size, lent, &hints, walk, sheet)
+            }
+            Way::Freeblocks => door::recover_freeblocks(db, size, lent, &hints, walk, sheet),
+        };
+        assert_eq!(number, 0);
+        let records = (0..written as usize).map(|i| lists.record(i, db).used());
+        records.map(|record| (record.row, shown(&record))).collect()
+    }
+
+    fn shown(record: &Record) -> Vec<String> {
+        let values = record.values().unwrap();
+        values.iter().map(ToString::to_string).collect()
+    }
+
+    #[test]
+    fn page_by_page_is_all_tables_at_once() {
+        let (db, tables) = (database(), tables());
+        for way in [
+            Way::Gaps(Rebuilding::Exact),
+            Way::Gaps(Rebuilding::OneByte),
+            Way::Freeblocks,
+        ] {
+            let found = match way {
+                Way::Gaps(mode) => scan_page_gaps(mode, &db, SIZE, &tables),
+                Way::Freeblocks => recover_freeblocks(&db, SIZE, &tables),
+            };
+            let found: Vec<Found> = found.unwrap().collect::<Result<_, _>>().unwrap();
+            let rows: Vec<_> = found
+                .iter()
+                .map(|found| (found.record.row, shown(&found.record)))
+                .collect();
+            assert_eq!(rows, at_once(&db, &tables, way), "{way:?}");
+            assert!(rows.len() >= 2);
+            for Found { page, record } in &found {
+                assert_eq!(*page, record.row.offset / SIZE as u64 + 1);
+                assert_eq!(record.table(), Some(&tables[record.row.table]));
+            }
+        }
+    }
+
+    #[test]
+    fn a_page_past_the_limit_is_named_and_hides_none() {
+        let db = database();
+        let hints = [Hint::Text, Hint::Integer];
+        let pages = |memory| -> Vec<_> {
+            let found = scan_every_page_gap(Rebuilding::Exact, &db, SIZE, &hints).unwrap();
+            let pages = found
+                .memory(memory)
+                .map(|found| found.map(|found| found.page));
+            pages.collect()
+        };
+        let all = pages(DEFAULT_MEMORY);
+        assert!([2, 3, 4].iter().all(|page| all.contains(&Ok(*page))));
+        let refusal = Refusal::NoRoom;
+        let named = [2, 3, 4].map(|page| Err(PageError { page, refusal }));
+        assert!(pages(0).ends_with(&named));
+        let error = PageError { page: 2, refusal };
+        assert_eq!(
+            error.to_string(),
+            "page 2: refused 9: the rows need more memory than they may take"
+        );
+    }
+}

@@ -144,7 +144,7 @@ pub fn parse_cells_from_freeblock<'a>(
 #[cfg(test)]
 mod tests {
     use super::*;
-    use crate::words::row_bytes;
+    use crate::lists::row_bytes;
     use crate::{Record, Source, Value, DEFAULT_MEMORY, MOST_COLUMNS, MOST_ONE_BYTE_COLUMNS};
     use Rebuilding::{Exact, OneByte};
 

@@ -25,7 +25,9 @@
 #![warn(clippy::missing_errors_doc)]
 
 mod batches;
+// The two calls over tables are made by a test alone: page by page the same rows come in bounded memory.
 #[allow(unsafe_code)]
+#[cfg_attr(not(test), allow(dead_code))]
 mod door;
 mod free_space;
 mod freeblocks;
@@ -42,7 +44,6 @@ mod search;
 mod shown;
 mod tables;
 mod values;
-mod words;
 
 pub use batches::Carved;
 pub use free_space::{Found, FreeSpace, PageError};

@@ -1,7 +1,6 @@
 //! The lists that are lent to a call. They grow up to a limit, and never past it.
 
-use crate::door;
-use crate::words::{self, row_bytes};
+use crate::door::{self, ENTRY_WORDS, ROW_WORDS};
 use crate::{Entry, Record, Refusal, Row, MOST_COLUMNS};
 
 /// What a call's lists hold at first, in rows.
@@ -24,8 +23,8 @@ impl Lists {
         // More columns are refused, whatever the lists.
         let columns = columns.min(MOST_COLUMNS);
         Ok(Lists {
-            rows: zeros(room * words::ROW)?,
-            cols: zeros(room * columns * words::ENTRY)?,
+            rows: zeros(room * ROW_WORDS)?,
+            cols: zeros(room * columns * ENTRY_WORDS)?,
             columns,
         })
     }
@@ -52,7 +51,7 @@ impl Lists {
     }
 
     fn grow(&mut self, memory: usize) -> Result<(), Refusal> {
-        let (old, columns) = (self.rows.len() / words::ROW, self.columns);
+        let (old, columns) = (self.rows.len() / ROW_WORDS, self.columns);
         let room = (old * GROWTH).max(FIRST_ROOM).min(most(columns, memory));
         if room <= old {
             return Err(Refusal::NoRoom);
@@ -65,17 +64,22 @@ impl Lists {
 
     /// The row `i` of a call whose entries lie in `region`.
     pub(crate) fn record<'a>(&self, i: usize, region: &'a [u8]) -> Record<'a> {
-        let width = self.columns * words::ENTRY;
+        let width = self.columns * ENTRY_WORDS;
         let entries = self.cols[i * width..][..width]
-            .chunks_exact(words::ENTRY)
+            .chunks_exact(ENTRY_WORDS)
             .map(Entry::of)
             .collect();
         Record::new(
-            Row::of(&self.rows[i * words::ROW..][..words::ROW]),
+            Row::of(&self.rows[i * ROW_WORDS..][..ROW_WORDS]),
             entries,
             region,
         )
     }
+}
+
+/// The bytes that the lists take for a row of so many columns.
+pub(crate) fn row_bytes(columns: usize) -> usize {
+    (ROW_WORDS + ENTRY_WORDS * columns) * size_of::<u64>()
 }
 
 /// The most rows of so many columns whose lists take no more than `memory` bytes.
@@ -148,8 +152,8 @@ mod tests {
     /// A call that finds so many rows of three columns.
     fn finds(rows: usize) -> impl FnMut(&mut [u64], &mut [u64]) -> door::Answer<1> {
         move |lent, cols| {
-            assert_eq!(lent.len() / words::ROW, cols.len() / (3 * words::ENTRY));
-            match lent.len() / words::ROW {
+            assert_eq!(lent.len() / ROW_WORDS, cols.len() / (3 * ENTRY_WORDS));
+            match lent.len() / ROW_WORDS {
                 room if room < rows => (9, [room as u64]),
                 _ => (0, [rows as u64]),
             }
@@ -162,7 +166,7 @@ mod tests {
             let memory = room * row_bytes(3) + row_bytes(3) - 1;
             let mut lists = Lists::first(3, memory).unwrap();
             let filled = lists.fill(memory, finds(rows));
-            assert!(lists.rows.len() <= room * words::ROW);
+            assert!(lists.rows.len() <= room * ROW_WORDS);
             filled
         };
         for (rows, room) in [(0, 0), (1, 1), (64, 64), (65, 65), (700, 700), (700, 9000)] {
@@ -181,6 +185,6 @@ mod tests {
     #[test]
     fn columns_that_are_refused_take_no_memory() {
         let lists = Lists::new(1, usize::MAX).unwrap();
-        assert_eq!(lists.cols.len(), MOST_COLUMNS * words::ENTRY);
+        assert_eq!(lists.cols.len(), MOST_COLUMNS * ENTRY_WORDS);
     }
 }

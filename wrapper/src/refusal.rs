@@ -52,7 +52,16 @@ impl Refusal {
         })
     }
 
-    /// The same, as a result.
+    /// Whether there is more than the lists took, where that is to be gone on from and no refusal.
+    pub(crate) fn more(number: u64) -> Result<bool, Refusal> {
+        match Refusal::of(number) {
+            None => Ok(false),
+            Some(Refusal::NoRoom) => Ok(true),
+            Some(refusal) => Err(refusal),
+        }
+    }
+
+    /// What a call returned, as a result.
     pub(crate) fn check(number: u64) -> Result<(), Refusal> {
         Refusal::of(number).map_or(Ok(()), Err)
     }

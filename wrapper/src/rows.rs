@@ -1,8 +1,7 @@
 //! One attempt, and the region scan.
 
-use crate::door;
+use crate::door::{self, MODES};
 use crate::lists::{most, Lists};
-use crate::words::MODES;
 use crate::{Entry, Hint, Refusal, State, Table, Value, DEFAULT_MEMORY};
 
 /// Where a row was found, with its percent where there is one.
@@ -284,11 +283,7 @@ impl Rows<'_> {
         } = &self.scan;
         let (number, [written, place, read]) =
             door::scan_region(region, codes, *base, self.place, rows, cols);
-        self.more = match Refusal::of(number) {
-            None => false,
-            Some(Refusal::NoRoom) => true,
-            Some(refusal) => return Err(refusal),
-        };
+        self.more = Refusal::more(number)?;
         self.filled = written as usize;
         self.given = 0;
         self.place = place as usize;

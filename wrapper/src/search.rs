@@ -44,11 +44,7 @@ impl Places<'_> {
     fn go_on(&mut self, start: usize) -> Result<(), Refusal> {
         let (number, [written]) =
             door::boyer_moore_search(&self.haystack[start..], self.pattern, &mut self.batch);
-        self.more = match Refusal::of(number) {
-            None => false,
-            Some(Refusal::NoRoom) => true,
-            Some(refusal) => return Err(refusal),
-        };
+        self.more = Refusal::more(number)?;
         (self.start, self.filled, self.given) = (start, written as usize, 0);
         Ok(())
     }

@@ -1,7 +1,6 @@
 //! Varints, serial types, values and column entries.
 
-use crate::door;
-use crate::words::ENTRY;
+use crate::door::{self, ENTRY_WORDS};
 use crate::Refusal;
 use std::borrow::Cow;
 use std::str;
@@ -139,7 +138,7 @@ impl Entry {
         }
     }
 
-    pub(crate) fn words(self) -> [u64; ENTRY] {
+    pub(crate) fn words(self) -> [u64; ENTRY_WORDS] {
         [self.state as u64, self.kind, self.start, self.length]
     }
 

@@ -33,7 +33,8 @@ static const char USAGE[] =
     "usage: carve [-a] [-w] FILE HINTS [PAGE]\n"
     "Prints the deleted rows of a table that are left in the free space of FILE's pages.\n"
     "HINTS has a letter for each column: I integer, R real, T text, B blob, N null, A any;\n"
-    "or a digit, its code from 0 to 5. An INTEGER PRIMARY KEY has N.\n"
+    "or a digit, its code from 0 to 5. An INTEGER PRIMARY KEY has N. A REAL column that may hold whole numbers has A:\n"
+    "they are stored as integers.\n"
     "PAGE is the page size, if it is not to be the one that the file's header names.\n"
     "-a, --all    all that reads as a row: most are none\n"
     "-w, --whole  whole pages, for a table that was cleared: rows that are not deleted are listed, too\n";

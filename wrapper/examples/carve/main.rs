@@ -26,7 +26,8 @@ use std::process::ExitCode;
 const USAGE: &str = "usage: carve [-a] [-w] FILE HINTS [PAGE]
 Prints the deleted rows of a table that are left in the free space of FILE's pages.
 HINTS has a letter for each column: I integer, R real, T text, B blob, N null, A any;
-or a digit, its code from 0 to 5. An INTEGER PRIMARY KEY has N.
+or a digit, its code from 0 to 5. An INTEGER PRIMARY KEY has N. A REAL column that may hold whole numbers has A:
+they are stored as integers.
 PAGE is the page size, if it is not to be the one that the file's header names.
 -a, --all    all that reads as a row: most are none
 -w, --whole  whole pages, for a table that was cleared: rows that are not deleted are listed, too";

@@ -1,14 +1,23 @@
 /*
- * carve FILE HINTS [PAGE]: prints every row that a scan of FILE finds, for a table whose columns have these hints.
- * With PAGE, every PAGE bytes are scanned by themselves: the bytes of a record do not run on into the next page (a long
- * one goes on behind a page number), so what seems to is none. Where the file does not say that its pages have PAGE
- * bytes, carve says so, and goes on: a torn file is carved, too. From the repository's top:
+ * carve [-a] [-w] FILE HINTS [PAGE]: prints the deleted rows of a table that are left in the free space of FILE's pages.
+ * It goes page by page and holds one page, so a file may be of any size. HINTS has a letter for each column, N for an INTEGER
+ * PRIMARY KEY, which a record stores as NULL. PAGE is the page size where the file's header does not name it. From the
+ * repository's top:
  *
  *     rt staticlib phsarodil
  *     cc -Wall -Wextra -std=c99 -O2 -Iinclude -o carve examples/c/carve.c target/staticlib/libphsarodil.a
- *     ./carve tablet.db TRIT 4096
+ *     ./carve tablet.db TRIT
  *
- * wrapper/examples/carve.rs prints the same rows, to the byte.
+ * SQLite overwrites the first four bytes of a freed cell. In a small table the fourth is the type of the first column. A key has
+ * no body, so the hints behind it bring the row back, and carve looks with these, too. Any other first column takes the length of
+ * its body with it: hints from the second column on would read every value from the wrong place, and are not used.
+ *
+ * A row is printed if its confidence is at least 0.85, it is not all NULL, and it stands where a cell can: behind its length and
+ * its row id, or in a freed block behind what the block's link overwrote. -a prints the rest, of which most are none. -w scans
+ * whole pages instead of their free space: that is the call for a table that was cleared, and it lists rows that are not deleted,
+ * too. The free space may hold old copies of such rows as well, where SQLite moved them.
+ *
+ * wrapper/examples/carve prints the same, to the byte.
  */
 #include <ctype.h>
 #include <errno.h>
@@ -20,26 +29,46 @@
 
 #include "phsarodil.h"
 
-/* Few on purpose: a list that is full is emptied, and the scan goes on. */
-enum { ROOM = 16 };
+static const char USAGE[] =
+    "usage: carve [-a] [-w] FILE HINTS [PAGE]\n"
+    "Prints the deleted rows of a table that are left in the free space of FILE's pages.\n"
+    "HINTS has a letter for each column: I integer, R real, T text, B blob, N null, A any;\n"
+    "or a digit, its code from 0 to 5. An INTEGER PRIMARY KEY has N. A REAL column that may hold whole numbers has A:\n"
+    "they are stored as integers.\n"
+    "PAGE is the page size, if it is not to be the one that the file's header names.\n"
+    "-a, --all    all that reads as a row: most are none\n"
+    "-w, --whole  whole pages, for a table that was cleared: rows that are not deleted are listed, too\n";
 
-/* Of the file format. */
-enum { SMALLEST_PAGE = 512, LARGEST_PAGE = 65536 };
+/* Rows below it are printed only if all are asked for. */
+static const float KEPT = 0.85f;
+
+/* What the lists of a page's rows may take, in words: 64 MiB. Memory that is not written costs nothing. */
+enum { LIST_WORDS = 8 << 20 };
+
+/* Of the file format. A link is the first four bytes of a freed block: where the next one is, and its own size. Before a record of
+   a page stand at most its length, in three bytes, its row id in nine and its header's length in two. */
+enum { SMALLEST_PAGE = 512, LARGEST_PAGE = 65536, FILE_HEADER = 100, TABLE_LEAF = 13, LINK = 4, MOST_BEFORE = 14 };
 
 /* In the order of the hint codes. */
 static const char LETTERS[] = "IRTBNA";
 
-static const char *const REFUSALS[] = {
-    "not refused",
-    "a table has 1 to 510 columns",
-    "an unknown hint, or a bad column entry",
-    "a region larger than 16 MiB, or a statement of more than 65,536 bytes",
-    "the base is above 2^48",
-    "not a page size",
-    "no such page",
-    "the statement has no column list",
-    "too little space for the walk",
-    "no room for another row, hint or place",
+struct job {
+    const char *name;
+    FILE *file;
+    size_t size; /* of a page; 0 before it is known */
+    uint8_t hints[PHS_MOST_COLUMNS];
+    size_t columns;
+    int all, whole;
+    uint8_t page[LARGEST_PAGE];
+    size_t len; /* of what was read of the page */
+    uint64_t base;
+    size_t header; /* where the page's b-tree header stands */
+    size_t block_end[LARGEST_PAGE];   /* of the freed block that holds a place, or 0 */
+    uint8_t begins[LARGEST_PAGE + 1]; /* whether a freed cell begins at a place: a block, or what is behind a row in one */
+    uint8_t taken[LARGEST_PAGE];      /* whether a place is in a row that was kept */
+    uint8_t seen[LARGEST_PAGE + 1];   /* whether a row was kept whose values behind the key start there */
+    uint64_t *lists;
+    uint64_t rows, left_out, refused;
 };
 
 /* Writes the codes of a string of hint letters, or of digits from 0 to 5; returns 0 at a letter that is none. */
@@ -156,93 +185,325 @@ static uint64_t print_entry(const uint64_t *entry, const uint8_t *region, size_t
     return refusal;
 }
 
-/* Prints a row and its columns on one line; returns the refusal. */
-static uint64_t print_row(const uint64_t *row, const uint64_t *entries, size_t columns, const uint8_t *region,
-                          size_t len)
+static float confidence(const uint64_t *row)
 {
     uint32_t bits = (uint32_t)row[PHS_ROW_CONFIDENCE];
-    uint64_t refusal = PHS_OK;
-    float confidence;
+    float share;
 
-    memcpy(&confidence, &bits, sizeof confidence);
-    printf("%" PRIu64 " %" PRIu64 " %.3f ", row[PHS_ROW_OFFSET], row[PHS_ROW_CONSUMED], confidence);
-    for (size_t i = 0; i < columns && refusal == PHS_OK; i++) {
-        if (i > 0)
-            printf(" | ");
-        refusal = print_entry(entries + i * PHS_WORDS_PER_ENTRY, region, len);
+    memcpy(&share, &bits, sizeof share);
+    return share;
+}
+
+/* Prints a row that was found with the hints behind the first `skip` ones; returns the refusal. */
+static uint64_t print_row(const struct job *job, const uint64_t *row, const uint64_t *entries, size_t skip)
+{
+    uint64_t refusal = PHS_OK;
+    int64_t id;
+
+    printf("%" PRIu64 " %" PRIu64 " %.3f ", job->base / job->size + 1, row[PHS_ROW_OFFSET], confidence(row));
+    memcpy(&id, &row[PHS_ROW_ID], sizeof id);
+    if (row[PHS_ROW_HAS_ID])
+        printf("%" PRId64, id);
+    else
+        putchar('-');
+    for (size_t i = 0; i < job->columns && refusal == PHS_OK; i++) {
+        printf(i > 0 ? " | " : " ");
+        if (i < skip)
+            printf("NULL");
+        else
+            refusal = print_entry(entries + (i - skip) * PHS_WORDS_PER_ENTRY, job->page, job->len);
     }
     putchar('\n');
     return refusal;
 }
 
-/* Prints the rows of a region and adds their number to `found`; returns the refusal. */
-static uint64_t carve(const uint8_t *region, size_t len, uint64_t base, const uint8_t *hints, size_t columns,
-                      uint64_t *found)
+static int has_key(const struct job *job)
 {
-    uint64_t rows[ROOM * PHS_WORDS_PER_ROW];
-    uint64_t cols[ROOM * PHS_MOST_COLUMNS * PHS_WORDS_PER_ENTRY];
-    uint64_t out[3] = {0, 0, 0}; /* rows written, place, header bytes read */
-    uint64_t refusal;
+    return job->hints[0] == PHS_HINT_NULL && job->columns > 1;
+}
 
-    do {
-        refusal = phs_scan_region(region, len, hints, columns, base, (size_t)out[1], rows, ROOM * PHS_WORDS_PER_ROW,
-                                  cols, ROOM * columns * PHS_WORDS_PER_ENTRY, out);
-        for (uint64_t i = 0; i < out[0]; i++) {
-            uint64_t bad = print_row(rows + i * PHS_WORDS_PER_ROW, cols + i * columns * PHS_WORDS_PER_ENTRY, columns,
-                                     region, len);
-            if (bad != PHS_OK)
-                return bad;
+/* Where a row starts and ends in the page. */
+static size_t start_of(const struct job *job, const uint64_t *row)
+{
+    return (size_t)(row[PHS_ROW_OFFSET] - job->base);
+}
+
+static size_t end_of(const struct job *job, const uint64_t *row)
+{
+    return start_of(job, row) + (size_t)row[PHS_ROW_CONSUMED];
+}
+
+/* Whether a row has the confidence, says something, and has its bytes for itself. */
+static int is_likely(const struct job *job, const uint64_t *row, const uint64_t *entries, size_t skip)
+{
+    size_t nulls = 0;
+
+    while (nulls < job->columns - skip && entries[nulls * PHS_WORDS_PER_ENTRY + PHS_ENTRY_KIND] == 0)
+        nulls++;
+    return confidence(row) >= KEPT && nulls < job->columns - skip &&
+           memchr(job->taken + start_of(job, row), 1, (size_t)row[PHS_ROW_CONSUMED]) == NULL;
+}
+
+/* Prints a row if it is to be printed; returns the refusal. `sound`: it stands where a cell can. `kept`: it is likely, too. */
+static uint64_t take_row(struct job *job, const uint64_t *row, const uint64_t *entries, size_t skip, int sound, int *kept)
+{
+    size_t first = has_key(job) - skip; /* the first column behind the key */
+    uint8_t *seen = &job->seen[entries[first * PHS_WORDS_PER_ENTRY + PHS_ENTRY_START]];
+
+    *kept = !*seen && sound && is_likely(job, row, entries, skip);
+    if (!*kept && (*seen || !job->all)) {
+        job->left_out += !*seen;
+        return PHS_OK;
+    }
+    if (*kept) {
+        *seen = 1;
+        memset(job->taken + start_of(job, row), 1, (size_t)row[PHS_ROW_CONSUMED]);
+        job->begins[end_of(job, row)] = 1;
+    }
+    job->rows++;
+    return print_row(job, row, entries, skip);
+}
+
+/* Two bytes of the page, the high one first; what is past it counts as 0. */
+static size_t two_bytes(const struct job *job, size_t place)
+{
+    return place + 2 > job->len ? 0 : (size_t)job->page[place] << 8 | job->page[place + 1];
+}
+
+/* Whether the row's length and row id stand before it, and then puts the id into it; or the link of a freed block of its size. */
+static int has_cell(const struct job *job, uint64_t *row)
+{
+    size_t place = start_of(job, row);
+
+    for (size_t before = 2; before <= MOST_BEFORE && before <= place; before++) {
+        uint64_t length[3], id[3]; /* whether it is whole, its value, the bytes that it takes */
+        phs_read_varint(job->page, place, place - before, length);
+        phs_read_varint(job->page, place, place - before + (size_t)length[2], id);
+        if (length[0] && length[1] == row[PHS_ROW_CONSUMED] && id[0] && length[2] + id[2] == before) {
+            row[PHS_ROW_HAS_ID] = 1;
+            row[PHS_ROW_ID] = id[1];
+            return 1;
         }
-        *found += out[0];
-    } while (refusal == PHS_NO_ROOM);
+        if (before >= LINK && two_bytes(job, place - before + 2) == before + row[PHS_ROW_CONSUMED])
+            return 1;
+    }
+    return 0;
+}
+
+/* Prints the rows from `start` on that end before `end`; returns the refusal. The scan goes on behind a row that is kept, and
+   inside of one that is not: what is none hides nothing. */
+static uint64_t scan(struct job *job, size_t start, size_t end)
+{
+    uint64_t row[PHS_WORDS_PER_ROW];
+    uint64_t out[3]; /* rows written, place, header bytes read */
+
+    for (;;) {
+        uint64_t refusal = phs_scan_region(job->page, end, job->hints, job->columns, job->base, start, row, PHS_WORDS_PER_ROW,
+                                           job->lists, job->columns * PHS_WORDS_PER_ENTRY, out);
+        int kept;
+
+        if (out[0] == 0)
+            return refusal;
+        refusal = take_row(job, row, job->lists, 0, has_cell(job, row), &kept);
+        if (refusal != PHS_OK)
+            return refusal;
+        start = kept ? end_of(job, row) : start_of(job, row) + 1;
+    }
+}
+
+/* Notes the freed blocks of the page. */
+static void find_blocks(struct job *job)
+{
+    size_t noted = 0; /* up to there */
+    size_t next;
+
+    memset(job->block_end, 0, job->len * sizeof job->block_end[0]);
+    memset(job->begins, 0, job->len + 1);
+    for (size_t at = two_bytes(job, job->header + 1); at != 0 && at + LINK <= job->len; at = next) {
+        size_t end = at + two_bytes(job, at + 2);
+        job->begins[at] = 1;
+        for (noted = noted > at ? noted : at; noted < end && end <= job->len; noted++)
+            job->block_end[noted] = end;
+        next = two_bytes(job, at);
+        if (next <= at)
+            return;
+    }
+}
+
+/* Whether row ids of two bytes or more stand on the page; its last cell has the largest. */
+static int has_long_ids(const struct job *job)
+{
+    size_t cells = two_bytes(job, job->header + 3);
+    uint64_t length[3], id[3]; /* whether it is whole, its value, the bytes that it takes */
+    size_t cell = cells == 0 ? job->len : two_bytes(job, job->header + 8 + 2 * (cells - 1));
+
+    phs_read_varint(job->page, job->len, cell, length);
+    phs_read_varint(job->page, job->len, cell + (size_t)length[2], id);
+    return !id[0] || id[2] > 1;
+}
+
+/* Whether a row of a freed block, found with the hints behind the first `skip` ones, stands where a cell can: before it is what the
+   link overwrote, and its header's length if that is left; behind it the block ends, or another cell has room. */
+static int has_place(const struct job *job, uint64_t *row, const uint64_t *entries, size_t skip)
+{
+    size_t place = start_of(job, row);
+    size_t types = (size_t)entries[PHS_ENTRY_START] - place; /* their bytes */
+    size_t rest = job->block_end[place] - end_of(job, row);
+    uint8_t length = (types + (types > 126 ? 2 : 1)) & 0x7f; /* of the header, its last byte */
+    size_t most = skip > 0 ? LINK : MOST_BEFORE;
+
+    if (rest > 0 && rest < LINK)
+        return 0;
+    /* Its length may be larger than the row: then what reads as its id is none. */
+    if (row[PHS_ROW_HAS_ID]) {
+        row[PHS_ROW_HAS_ID] = 0;
+        return skip == 0 && has_cell(job, row);
+    }
+    /* Three bytes are before the types of a short row with a short id, so that one of these is lost. */
+    if (skip == 0 && row[PHS_ROW_CONSUMED] < 127 && !has_long_ids(job))
+        return 0;
+    for (size_t before = LINK; before <= most && before <= place; before++)
+        if (job->begins[place - before] && (before == LINK || job->page[place - 1] == length))
+            return 1;
+    return 0;
+}
+
+/* Prints the rows in the freed blocks of the page, by the hints behind the first `skip` ones; returns the refusal. */
+static uint64_t carve_blocks(struct job *job, size_t skip)
+{
+    size_t columns = job->columns - skip;
+    size_t room = LIST_WORDS / (PHS_WORDS_PER_ROW + columns * PHS_WORDS_PER_ENTRY);
+    uint64_t *rows = job->lists;
+    uint64_t *cols = rows + room * PHS_WORDS_PER_ROW;
+    uint64_t out[1];
+    uint64_t refusal = phs_scan_single_page_gap(PHS_EXACT, job->page, job->len, job->header, job->base, job->hints + skip,
+                                                columns, rows, room * PHS_WORDS_PER_ROW, cols,
+                                                room * columns * PHS_WORDS_PER_ENTRY, out);
+
+    for (uint64_t i = 0; i < out[0] && refusal == PHS_OK; i++) {
+        uint64_t *row = rows + i * PHS_WORDS_PER_ROW;
+        const uint64_t *entries = cols + i * columns * PHS_WORDS_PER_ENTRY;
+        int kept;
+        if (job->block_end[row[PHS_ROW_OFFSET] - job->base] != 0) /* The others are the gap's. */
+            refusal = take_row(job, row, entries, skip, has_place(job, row, entries, skip), &kept);
+    }
     return refusal;
 }
 
-/* Complains of a file that does not say that its pages have `size` bytes. */
-static void check_page_size(const char *name, const uint8_t *page, size_t len, size_t size)
+/* Prints the rows in the free space of the page, if it is a leaf of a table; returns the refusal. */
+static uint64_t carve_free_space(struct job *job)
+{
+    size_t gap = job->header + 8 + 2 * two_bytes(job, job->header + 3);
+    size_t content = two_bytes(job, job->header + 5);
+    uint64_t refusal = PHS_OK;
+
+    if (job->header >= job->len || job->page[job->header] != TABLE_LEAF)
+        return PHS_OK;
+    if (content == 0)
+        content = LARGEST_PAGE;
+    find_blocks(job);
+    if (gap < content && content <= job->len)
+        refusal = scan(job, gap, content);
+    if (refusal == PHS_OK)
+        refusal = carve_blocks(job, 0);
+    if (refusal == PHS_OK && has_key(job))
+        refusal = carve_blocks(job, 1);
+    return refusal;
+}
+
+/* Whether the file's first page is a database's. */
+static int is_database(const struct job *job)
 {
     static const char MAGIC[16] = "SQLite format 3";
 
-    if (len < 18 || memcmp(page, MAGIC, sizeof MAGIC) != 0) {
-        fprintf(stderr, "carve: %s: no database: it does not begin with '%s'\n", name, MAGIC);
-        return;
-    }
-    size_t own = (size_t)page[16] << 8 | page[17];
-    if (own == 1)
-        own = LARGEST_PAGE;
-    if (own != size)
-        fprintf(stderr, "carve: %s: its pages have %zu bytes, not %zu\n", name, own, size);
+    return job->len >= 18 && memcmp(job->page, MAGIC, sizeof MAGIC) == 0;
 }
 
-/* Carves the file, one region of `size` bytes after the other; they are pages, or else as large as can be. */
-static int carve_file(FILE *file, const char *name, uint8_t *region, size_t size, int pages, const uint8_t *hints,
-                      size_t columns)
+/* Carves the page, and complains of a refusal, which hides none of the pages behind it. */
+static void carve_page(struct job *job)
 {
-    uint64_t base = 0;
-    uint64_t found = 0;
-    size_t len;
+    job->header = job->base == 0 && is_database(job) ? FILE_HEADER : 0;
+    memset(job->seen, 0, job->len + 1);
+    memset(job->taken, 0, job->len);
+    uint64_t refusal = job->whole ? scan(job, 0, job->len) : carve_free_space(job);
+    if (refusal == PHS_OK)
+        return;
+    job->refused++;
+    fprintf(stderr, "carve: %s: page %" PRIu64 ": refused %" PRIu64 "%s\n", job->name, job->base / job->size + 1, refusal,
+            refusal == PHS_NO_ROOM ? ": the rows need more memory than they may take" : "");
+}
 
+/* Whether it is a page size of the file format. */
+static int is_page_size(unsigned long size)
+{
+    return size >= SMALLEST_PAGE && size <= LARGEST_PAGE && (size & (size - 1)) == 0;
+}
+
+/* Takes the page size from the file's header where none was given, and complains of a header that names another, or none; returns
+   0 where there is none to go on with. */
+static int find_page_size(struct job *job)
+{
+    size_t own = (size_t)job->page[16] << 8 | job->page[17];
+    size_t given = job->size;
+
+    if (!is_database(job)) {
+        fprintf(stderr, "carve: %s: no database: it does not begin with 'SQLite format 3'%s\n", job->name,
+                given == 0 ? "; name a page size" : "");
+        return given != 0;
+    }
+    if (own == 1)
+        own = LARGEST_PAGE;
+    if (given == 0 && !is_page_size(own)) {
+        fprintf(stderr, "carve: %s: its header names no page size, but %zu; name one\n", job->name, own);
+        return 0;
+    }
+    if (given == 0)
+        job->size = own;
+    else if (own != given)
+        fprintf(stderr, "carve: %s: its pages have %zu bytes, not %zu\n", job->name, own, given);
+    return 1;
+}
+
+/* Reads on until the page has `size` bytes or the file ends. */
+static void read_page(struct job *job, size_t size)
+{
+    job->len += fread(job->page + job->len, 1, size - job->len, job->file);
+}
+
+/* Says why the file cannot be opened or read; returns the exit status. */
+static int no_file(const struct job *job)
+{
+    fprintf(stderr, "carve: %s: %s\n", job->name, strerror(errno));
+    return 1;
+}
+
+/* Carves the file, one page after the other; returns the exit status. */
+static int carve_file(struct job *job)
+{
+    int last;
+
+    read_page(job, SMALLEST_PAGE);
+    if (ferror(job->file))
+        return no_file(job);
+    if (!find_page_size(job))
+        return 1;
+    printf("page offset confidence id values\n");
     do {
-        len = fread(region, 1, size, file);
-        if (ferror(file)) {
-            fprintf(stderr, "carve: %s: %s\n", name, strerror(errno));
-            return 1;
-        }
-        if (pages && base == 0)
-            check_page_size(name, region, len, size);
-        uint64_t refusal = carve(region, len, base, hints, columns, &found);
-        if (refusal != PHS_OK) {
-            fprintf(stderr, "carve: %s: refused %" PRIu64 ": %s\n", name, refusal, REFUSALS[refusal]);
-            return 1;
-        }
-        base += len;
-    } while (len == size);
-    printf("rows %" PRIu64 "\n", found);
+        read_page(job, job->size);
+        if (ferror(job->file))
+            return no_file(job);
+        if (job->len > 0)
+            carve_page(job);
+        last = job->len < job->size;
+        job->base += job->len;
+        job->len = 0;
+    } while (!last);
+    printf("rows %" PRIu64 " left out %" PRIu64 "\n", job->rows, job->left_out);
     if (fflush(stdout) != 0 || ferror(stdout)) {
         fprintf(stderr, "carve: the rows cannot be written\n");
         return 1;
     }
-    return 0;
+    return job->refused > 0;
 }
 
 /* The page size that a word names, or 0. */
@@ -251,55 +512,71 @@ static size_t page_size(const char *word)
     char *rest;
     unsigned long size = strtoul(word, &rest, 10);
 
-    if (!isdigit((unsigned char)word[0]) || *rest != '\0' || size < SMALLEST_PAGE || size > LARGEST_PAGE ||
-        (size & (size - 1)) != 0)
-        return 0;
-    return size;
+    return isdigit((unsigned char)word[0]) && *rest == '\0' && is_page_size(size) ? size : 0;
+}
+
+/* Takes the options out of the words and keeps the others; returns how many these are, or -1. */
+static int read_options(struct job *job, int argc, char **argv)
+{
+    int words = 0;
+
+    for (int i = 1; i < argc; i++) {
+        if (strcmp(argv[i], "-a") == 0 || strcmp(argv[i], "--all") == 0)
+            job->all = 1;
+        else if (strcmp(argv[i], "-w") == 0 || strcmp(argv[i], "--whole") == 0)
+            job->whole = 1;
+        else if (argv[i][0] == '-')
+            return -1;
+        else
+            argv[words++] = argv[i];
+    }
+    return words;
+}
+
+/* Reads hints and page size; returns 0 and complains where one is none. */
+static int read_words(struct job *job, int words, char **argv)
+{
+    job->columns = strlen(argv[1]);
+    if (words == 3)
+        job->size = page_size(argv[2]);
+    if (words == 3 && job->size == 0)
+        fprintf(stderr, "carve: a page size is a power of two from %d to %d, not '%s'\n", SMALLEST_PAGE, LARGEST_PAGE,
+                argv[2]);
+    else if (job->columns < 1 || job->columns > PHS_MOST_COLUMNS)
+        fprintf(stderr, "carve: give 1 to %d hints, not %zu\n", PHS_MOST_COLUMNS, job->columns);
+    else if (!read_hints(argv[1], job->hints))
+        fprintf(stderr, "carve: hints are letters of %s or digits from 0 to 5, not '%s'\n", LETTERS, argv[1]);
+    else
+        return 1;
+    return 0;
 }
 
 int main(int argc, char **argv)
 {
-    uint8_t hints[PHS_MOST_COLUMNS];
-    size_t size = PHS_LARGEST_REGION;
+    static struct job job;
 
     if (phs_version() != PHS_VERSION) {
         fprintf(stderr, "carve: the library is of version %" PRIu64 ", not %d\n", phs_version(), PHS_VERSION);
         return 1;
     }
-    if (argc != 3 && argc != 4) {
-        fprintf(stderr, "usage: carve FILE HINTS [PAGE]\n"
-                        "HINTS has a letter for each column: I integer, R real, T text, B blob, N null, A any;\n"
-                        "or a digit, its code from 0 to 5. PAGE is the file's page size\n");
+    int words = read_options(&job, argc, argv);
+    if (words != 2 && words != 3) {
+        fputs(USAGE, stderr);
         return 2;
     }
-    if (argc == 4)
-        size = page_size(argv[3]);
-    if (size == 0) {
-        fprintf(stderr, "carve: a page size is a power of two from %d to %d, not '%s'\n", SMALLEST_PAGE, LARGEST_PAGE,
-                argv[3]);
+    if (!read_words(&job, words, argv))
         return 2;
-    }
-    size_t columns = strlen(argv[2]);
-    if (columns < 1 || columns > PHS_MOST_COLUMNS) {
-        fprintf(stderr, "carve: give 1 to %d hints, not %zu\n", PHS_MOST_COLUMNS, columns);
-        return 2;
-    }
-    if (!read_hints(argv[2], hints)) {
-        fprintf(stderr, "carve: hints are letters of %s or digits from 0 to 5, not '%s'\n", LETTERS, argv[2]);
-        return 2;
-    }
-    FILE *file = fopen(argv[1], "rb");
-    if (file == NULL) {
-        fprintf(stderr, "carve: %s: %s\n", argv[1], strerror(errno));
-        return 1;
-    }
-    uint8_t *region = malloc(size);
+    job.name = argv[0];
+    job.file = fopen(job.name, "rb");
+    if (job.file == NULL)
+        return no_file(&job);
+    job.lists = malloc(LIST_WORDS * sizeof *job.lists);
     int status = 1;
-    if (region == NULL)
+    if (job.lists == NULL)
         fprintf(stderr, "carve: not enough memory\n");
     else
-        status = carve_file(file, argv[1], region, size, argc == 4, hints, columns);
-    free(region);
-    fclose(file);
+        status = carve_file(&job);
+    free(job.lists);
+    fclose(job.file);
     return status;
 }

@@ -5,8 +5,17 @@
 
 use std::sync::Once;
 
-/// The words that this crate knows: `PHS_VERSION` of the header.
+/// The words that this crate knows: `PHS_VERSION` of the header. It moves with the three numbers below.
 const VERSION: u64 = 2;
+
+/// The words of a row, `PHS_WORDS_PER_ROW`.
+pub const ROW_WORDS: usize = 8;
+
+/// The words of a column entry, `PHS_WORDS_PER_ENTRY`.
+pub const ENTRY_WORDS: usize = 4;
+
+/// How many modes the last word of a row tells apart: it holds the mode, plus so many times the table's index.
+pub const MODES: u64 = 4;
 
 /// A refusal number, 0 for none, with the words of `out`.
 pub type Answer<const N: usize> = (u64, [u64; N]);

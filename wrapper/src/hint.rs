@@ -15,6 +15,8 @@ use std::str::FromStr;
 /// assert_eq!("T".parse(), Ok(Hint::Text));
 /// assert_eq!("2".parse(), Ok(Hint::Text));
 /// assert!("TEXT".parse::<Hint>().is_err());
+/// assert_eq!(Hint::try_from(2), Ok(Hint::Text));
+/// assert!(Hint::try_from(6).is_err());
 /// ```
 #[derive(Clone, Copy, Debug, PartialEq, Eq, Hash)]
 pub enum Hint {
@@ -33,18 +35,6 @@ pub enum Hint {
 }
 
 impl Hint {
-    fn of(code: u8) -> Hint {
-        match code {
-            0 => Hint::Integer,
-            1 => Hint::Real,
-            2 => Hint::Text,
-            3 => Hint::Blob,
-            4 => Hint::Null,
-            5 => Hint::Any,
-            other => unreachable!("a hint is 0 to 5, not {other}"),
-        }
-    }
-
     /// The hints of a CREATE TABLE statement, which is meant to be ASCII: one for each piece between commas.
     ///
     /// That is one for each column of a plain table, and not of every table: see `phs_from_create_sql` in
@@ -59,21 +49,40 @@ impl Hint {
     /// // and a name that begins with a constraint's word loses its column.
     /// assert_eq!(Hint::of_statement(b"t(check_day TEXT, n INT)"), Ok(vec![Integer]));
     /// ```
+    ///
+    /// # Errors
+    ///
+    /// [`Refusal::TooLarge`] for more than [`LARGEST_STATEMENT`](crate::LARGEST_STATEMENT) bytes, [`Refusal::NoColumnList`], and
+    /// [`Refusal::ColumnCount`] for the number of hints that come of it.
     pub fn of_statement(statement: &[u8]) -> Result<Vec<Hint>, Refusal> {
         let mut codes = [0; MOST_COLUMNS];
         let (number, [written]) = door::from_create_sql(statement, &mut codes);
-        match Refusal::of(number) {
-            Some(refusal) => Err(refusal),
-            None => Ok(codes[..written as usize]
-                .iter()
-                .map(|&code| Hint::of(code))
-                .collect()),
-        }
+        Refusal::check(number)?;
+        Ok(codes[..written as usize]
+            .iter()
+            .map(|&code| Hint::try_from(code).expect("the library writes codes from 0 to 5"))
+            .collect())
     }
 
     /// Whether a serial type suits the hint.
     pub fn suits(self, kind: u64) -> bool {
         door::is_compatible(self as u8, kind) == (0, [1])
+    }
+}
+
+impl TryFrom<u8> for Hint {
+    type Error = UnknownHint;
+
+    fn try_from(code: u8) -> Result<Hint, UnknownHint> {
+        Ok(match code {
+            0 => Hint::Integer,
+            1 => Hint::Real,
+            2 => Hint::Text,
+            3 => Hint::Blob,
+            4 => Hint::Null,
+            5 => Hint::Any,
+            _ => return Err(UnknownHint),
+        })
     }
 }
 
@@ -130,7 +139,9 @@ mod tests {
             let hint: Hint = letter.to_string().parse().unwrap();
             assert_eq!(hint as u8, code);
             assert_eq!(code.to_string().parse(), Ok(hint));
+            assert_eq!(Hint::try_from(code), Ok(hint));
         }
+        assert_eq!(Hint::try_from(6), Err(UnknownHint));
         for name in ["", "i", "6", "IT", "TEXT"] {
             assert_eq!(name.parse::<Hint>(), Err(UnknownHint));
         }

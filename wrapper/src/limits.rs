@@ -1,4 +1,4 @@
-//! The numbers of `include/phsarodil.h` that a caller may need.
+//! The limits that a caller may need.
 
 /// The most columns that a table may have; more, or none, is [`Refusal::ColumnCount`](crate::Refusal::ColumnCount).
 pub const MOST_COLUMNS: usize = 510;
@@ -17,3 +17,12 @@ pub const LARGEST_BASE: u64 = 1 << 48;
 
 /// The most rows to learn from; more is [`Refusal::TooLarge`](crate::Refusal::TooLarge).
 pub const MOST_LEARNED: usize = 1_024;
+
+/// The bytes that the lists of one page's rows may take where no other limit is set: 64 MiB. That is room for a row of 25
+/// columns at every byte of a page of 65,536 bytes.
+///
+/// How many rows a page has does not follow from its size alone: in the free space nearly every byte may begin one, blocks
+/// may lie over each other, and a row takes 32 bytes for each column. Where the lists would pass the limit, the call is
+/// refused ([`Refusal::NoRoom`](crate::Refusal::NoRoom)), and an iterator over pages names the page
+/// ([`PageError`](crate::PageError)) and goes on.
+pub const DEFAULT_MEMORY: usize = 64 << 20;

@@ -1,10 +1,12 @@
 //! Pages of a database.
 
 use crate::door;
+use crate::lists::zeros;
 use crate::Refusal;
 
 /// A page of a database.
 #[derive(Clone, Copy, Debug, PartialEq, Eq)]
+#[non_exhaustive]
 pub struct Page<'a> {
     /// Where it starts in the database.
     pub start: usize,
@@ -15,23 +17,33 @@ pub struct Page<'a> {
 }
 
 /// The page `number` of a database; pages count from 1.
+///
+/// # Errors
+///
+/// [`Refusal::TooLarge`], [`Refusal::PageSize`] and [`Refusal::NoSuchPage`].
 pub fn page(db: &[u8], page_size: usize, number: u64) -> Result<Page<'_>, Refusal> {
     let (refusal, [start, len, header]) = door::get_page_data(db, page_size as u64, number);
-    match Refusal::of(refusal) {
-        Some(refusal) => Err(refusal),
-        None => Ok(Page {
-            start: start as usize,
-            header: header as usize,
-            bytes: &db[start as usize..][..len as usize],
-        }),
-    }
+    Refusal::check(refusal)?;
+    Ok(Page {
+        start: start as usize,
+        header: header as usize,
+        bytes: &db[start as usize..][..len as usize],
+    })
 }
 
 /// The numbers of the leaf pages of the table whose root is the page `root`, in the order of the walk: of a page the
 /// children of its cells from the last to the first, and then its right child, each with all that is below it. A root that
 /// is not there, or no page of a table, has none.
+///
+/// The walk's stack grows as it has to, up to four times the database's size: so much takes one that is made to do so.
+///
+/// # Errors
+///
+/// [`Refusal::TooLarge`], [`Refusal::PageSize`], and [`Refusal::NoRoom`] where the machine has no memory for the stack.
 pub fn leaf_pages(db: &[u8], page_size: usize, root: u64) -> Result<Vec<u64>, Refusal> {
     let pages = db.len().checked_div(page_size).unwrap_or(0);
+    // No page size of the file format is smaller, and any other is refused.
+    let pages = pages.min(db.len() / 512);
     let mut flags = vec![0; pages];
     let mut leaves = vec![0; pages];
     let mut stack = vec![0; 64];
@@ -45,7 +57,10 @@ pub fn leaf_pages(db: &[u8], page_size: usize, root: u64) -> Result<Vec<u64>, Re
             &mut leaves,
         );
         match Refusal::of(number) {
-            Some(Refusal::WalkSpace) => stack = vec![0; stack.len() * 8],
+            // A page is looked at once, and a pointer to a child takes two bytes of it.
+            Some(Refusal::WalkSpace) if stack.len() < db.len() / 2 => {
+                stack = zeros((stack.len() * 8).min(db.len() / 2))?;
+            }
             Some(refusal) => return Err(refusal),
             None => {
                 leaves.truncate(written as usize);

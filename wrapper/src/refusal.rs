@@ -3,9 +3,9 @@
 use std::error::Error;
 use std::fmt;
 
-/// A refusal; its number is that of the header. The calls of this crate go on themselves after [`Refusal::WalkSpace`] and
-/// [`Refusal::NoRoom`].
+/// A refusal; its number is that of the header.
 #[derive(Clone, Copy, Debug, PartialEq, Eq, Hash)]
+#[non_exhaustive]
 pub enum Refusal {
     /// No columns, or more than [`MOST_COLUMNS`](crate::MOST_COLUMNS); with
     /// [`Rebuilding::OneByte`](crate::Rebuilding::OneByte), [`MOST_ONE_BYTE_COLUMNS`](crate::MOST_ONE_BYTE_COLUMNS).
@@ -13,7 +13,7 @@ pub enum Refusal {
     /// An unknown hint code, or bad column entries.
     Malformed = 2,
     /// A region, a haystack or a database of more than 16 MiB, a statement of more than 65,536 bytes, or more than 1,024
-    /// tables or rows to learn from.
+    /// rows to learn from.
     TooLarge = 3,
     /// A base above 2^48.
     BaseTooFar = 4,
@@ -23,9 +23,9 @@ pub enum Refusal {
     NoSuchPage = 6,
     /// A statement without brackets around its columns.
     NoColumnList = 7,
-    /// Too few page flags, or a full page stack.
+    /// Too few page flags, or a full page stack. This crate lends as much as any walk takes.
     WalkSpace = 8,
-    /// One row, hint or place more than there is room for.
+    /// The rows of one call need more memory than the caller's limit, or than the machine has.
     NoRoom = 9,
 }
 
@@ -51,6 +51,20 @@ impl Refusal {
             other => unreachable!("the library returns 0 to 9, not {other}"),
         })
     }
+
+    /// Whether there is more than the lists took, where that is to be gone on from and no refusal.
+    pub(crate) fn more(number: u64) -> Result<bool, Refusal> {
+        match Refusal::of(number) {
+            None => Ok(false),
+            Some(Refusal::NoRoom) => Ok(true),
+            Some(refusal) => Err(refusal),
+        }
+    }
+
+    /// What a call returned, as a result.
+    pub(crate) fn check(number: u64) -> Result<(), Refusal> {
+        Refusal::of(number).map_or(Ok(()), Err)
+    }
 }
 
 impl fmt::Display for Refusal {
@@ -59,14 +73,14 @@ impl fmt::Display for Refusal {
             Refusal::ColumnCount => "a table has 1 to 510 columns, or to 126 with OneByte",
             Refusal::Malformed => "an unknown hint, or bad column entries",
             Refusal::TooLarge => {
-                "more than 16 MiB, than 65,536 bytes of a statement, or than 1,024 tables or rows to learn from"
+                "more than 16 MiB, than 65,536 bytes of a statement, or than 1,024 rows to learn from"
             }
             Refusal::BaseTooFar => "the base is above 2^48",
             Refusal::PageSize => "not a page size",
             Refusal::NoSuchPage => "no such page",
             Refusal::NoColumnList => "the statement has no column list",
             Refusal::WalkSpace => "too little space for the walk",
-            Refusal::NoRoom => "no room for another row, hint or place",
+            Refusal::NoRoom => "the rows need more memory than they may take",
         };
         write!(f, "refused {}: {why}", self.number())
     }

@@ -1,10 +1,12 @@
 //! One attempt, and the region scan.
 
-use crate::door;
-use crate::{Entry, Hint, Refusal, State, Value};
+use crate::door::{self, MODES};
+use crate::lists::{most, Lists};
+use crate::{Entry, Hint, Refusal, State, Table, Value, DEFAULT_MEMORY};
 
 /// Where a row was found, with its percent where there is one.
 #[derive(Clone, Copy, Debug, PartialEq, Eq, Hash)]
+#[non_exhaustive]
 pub enum Source {
     /// In a region.
     Scan,
@@ -18,6 +20,7 @@ pub enum Source {
 
 /// Which of the three modes of [`carve_freeblock`](crate::carve_freeblock) read a row.
 #[derive(Clone, Copy, Debug, PartialEq, Eq, Hash)]
+#[non_exhaustive]
 pub enum Mode {
     /// None of them.
     Plain,
@@ -25,12 +28,14 @@ pub enum Mode {
     Normal,
     /// The header was there, but for its length.
     ColumnsOnly,
-    /// The first four bytes were taken for lost, and the first column with them.
+    /// The first four bytes were taken for lost, and the first column with them. Bodies are read behind the types, though that of
+    /// the lost column stands there: unless it has none, as a key, every value is read from the wrong place.
     FirstColMissing,
 }
 
 /// A row that was found.
 #[derive(Clone, Copy, Debug, PartialEq)]
+#[non_exhaustive]
 pub struct Row {
     /// Of its first byte: the base, plus the row's place in the region, page or database.
     pub offset: u64,
@@ -45,14 +50,12 @@ pub struct Row {
     pub confidence: f32,
     /// How it was read.
     pub mode: Mode,
-    /// The table's index, where tables are lent.
-    pub table: u64,
+    /// The table's index, where tables are lent, else 0; [`Record::table`] has the table itself, with its name.
+    pub table: usize,
 }
 
 impl Row {
-    const WORDS: usize = 8;
-
-    fn of(words: &[u64]) -> Row {
+    pub(crate) fn of(words: &[u64]) -> Row {
         let percent = words[5];
         Row {
             offset: words[0],
@@ -66,71 +69,78 @@ impl Row {
                 other => unreachable!("a source is 0 to 3, not {other}"),
             },
             confidence: f32::from_bits(words[6] as u32),
-            mode: match words[7] % 4 {
+            mode: match words[7] % MODES {
                 0 => Mode::Plain,
                 1 => Mode::Normal,
                 2 => Mode::ColumnsOnly,
                 _ => Mode::FirstColMissing,
             },
-            table: words[7] / 4,
+            table: (words[7] / MODES) as usize,
         }
     }
 }
 
 /// A row with its column entries and the region that they lie in.
 #[derive(Clone, Debug, PartialEq)]
+#[non_exhaustive]
 pub struct Record<'a> {
     /// The row.
     pub row: Row,
-    /// One entry for each column; [`carve_freeblock`](crate::carve_freeblock) may find fewer than it is told there are.
+    /// One entry for each column; [`carve_freeblock`](crate::carve_freeblock) and
+    /// [`carve_unallocated`](crate::carve_unallocated) may find fewer than they are told there are.
     pub entries: Vec<Entry>,
     region: &'a [u8],
+    table: Option<&'a Table>,
 }
 
 impl<'a> Record<'a> {
+    pub(crate) fn new(row: Row, entries: Vec<Entry>, region: &'a [u8]) -> Record<'a> {
+        Record {
+            row,
+            entries,
+            region,
+            table: None,
+        }
+    }
+
     /// The value of each column.
+    ///
+    /// # Errors
+    ///
+    /// [`Refusal::Malformed`], where `entries` was changed to hold what [`Entry::read`] refuses.
     pub fn values(&self) -> Result<Vec<Value<'a>>, Refusal> {
         self.entries
             .iter()
             .map(|entry| entry.read(self.region))
             .collect()
     }
-}
 
-/// The two lists that are lent to a call.
-#[derive(Debug)]
-pub(crate) struct Lists {
-    pub(crate) rows: Vec<u64>,
-    pub(crate) cols: Vec<u64>,
-    columns: usize,
-}
-
-impl Lists {
-    pub(crate) fn new(room: usize, columns: usize) -> Lists {
-        Lists {
-            rows: vec![0; room * Row::WORDS],
-            cols: vec![0; room * columns * Entry::WORDS],
-            columns,
-        }
+    /// The table that the row is of, where tables are lent.
+    pub fn table(&self) -> Option<&'a Table> {
+        self.table
     }
 
-    pub(crate) fn record<'a>(&self, i: usize, region: &'a [u8]) -> Record<'a> {
-        let width = self.columns * Entry::WORDS;
-        Record {
-            row: Row::of(&self.rows[i * Row::WORDS..][..Row::WORDS]),
-            entries: self.cols[i * width..][..width]
-                .chunks_exact(Entry::WORDS)
-                .map(Entry::of)
-                .collect(),
-            region,
-        }
-    }
-}
-
-impl Record<'_> {
     /// Without the entries that pad its group.
     pub(crate) fn used(mut self) -> Self {
         self.entries.retain(|entry| entry.state != State::Unused);
+        self
+    }
+
+    /// With its entries in the whole, of which its region was the part from `start` on.
+    pub(crate) fn in_whole(mut self, whole: &'a [u8], start: usize) -> Self {
+        for entry in &mut self.entries {
+            if entry.state == State::Body {
+                entry.start += start as u64;
+            }
+        }
+        self.region = whole;
+        self
+    }
+
+    /// As a row of the table with that index.
+    pub(crate) fn of_table(mut self, index: usize, table: &'a Table) -> Self {
+        self.row.table = index;
+        self.table = Some(table);
         self
     }
 }
@@ -140,6 +150,10 @@ pub(crate) fn codes(hints: &[Hint]) -> Vec<u8> {
 }
 
 /// The row that starts at an offset of the region, if there is one. `base` is where the region lies in its file.
+///
+/// # Errors
+///
+/// [`Refusal::ColumnCount`] for the number of hints, [`Refusal::TooLarge`] and [`Refusal::BaseTooFar`].
 pub fn try_parse_record<'a>(
     region: &'a [u8],
     hints: &[Hint],
@@ -147,17 +161,19 @@ pub fn try_parse_record<'a>(
     offset: usize,
 ) -> Result<Option<Record<'a>>, Refusal> {
     let codes = codes(hints);
-    let mut lists = Lists::new(1, codes.len());
+    let mut lists = Lists::new(1, codes.len())?;
     let Lists { rows, cols, .. } = &mut lists;
     let (number, [written, _, _]) =
         door::try_parse_record(region, &codes, base, offset, rows, cols);
-    match Refusal::of(number) {
-        Some(refusal) => Err(refusal),
-        None => Ok((written == 1).then(|| lists.record(0, region))),
-    }
+    Refusal::check(number)?;
+    Ok((written == 1).then(|| lists.record(0, region)))
 }
 
 /// All rows of a region, one behind the other. `base` is where the region lies in its file. For the rest see [`Scan`].
+///
+/// # Errors
+///
+/// Those of [`Scan::rows`].
 pub fn scan<'a>(region: &'a [u8], hints: &[Hint], base: u64) -> Result<Rows<'a>, Refusal> {
     Scan::new(region, hints).base(base).rows()
 }
@@ -208,18 +224,22 @@ impl<'a> Scan<'a> {
         Scan { start, ..self }
     }
 
-    /// How many rows the lent lists take at a time, 64 if it is not said, and at least one. The rows are the same with
-    /// any room.
+    /// How many rows the lent lists take at a time: 64 if it is not said, at least one, and no more than
+    /// [`DEFAULT_MEMORY`] has room for. The rows are the same with any room.
     pub fn room(self, room: usize) -> Scan<'a> {
         Scan { room, ..self }
     }
 
     /// The rows; a refusal shows here, and none later.
+    ///
+    /// # Errors
+    ///
+    /// [`Refusal::ColumnCount`] for the number of hints, [`Refusal::TooLarge`] and [`Refusal::BaseTooFar`].
     pub fn rows(self) -> Result<Rows<'a>, Refusal> {
         // No row takes fewer than two bytes.
-        let room = self.room.clamp(1, self.region.len() / 2 + 1);
+        let most = most(self.codes.len(), DEFAULT_MEMORY).min(self.region.len() / 2 + 1);
         let mut rows = Rows {
-            lists: Lists::new(room, self.codes.len()),
+            lists: Lists::new(self.room.clamp(1, most), self.codes.len())?,
             place: self.start,
             scan: self,
             filled: 0,
@@ -263,11 +283,7 @@ impl Rows<'_> {
         } = &self.scan;
         let (number, [written, place, read]) =
             door::scan_region(region, codes, *base, self.place, rows, cols);
-        self.more = match Refusal::of(number) {
-            None => false,
-            Some(Refusal::NoRoom) => true,
-            Some(refusal) => return Err(refusal),
-        };
+        self.more = Refusal::more(number)?;
         self.filled = written as usize;
         self.given = 0;
         self.place = place as usize;
@@ -326,7 +342,7 @@ mod tests {
         );
         assert_eq!(
             record.values().unwrap(),
-            [Value::Integer(42), Value::Text(b"hipik")]
+            [Value::Integer(42), Value::Text("hipik")]
         );
         assert_eq!(scan.next(), None);
         assert_eq!(scan.header_bytes(), 3);
@@ -376,7 +392,7 @@ mod tests {
         assert_eq!(record.row.offset, 8);
         assert_eq!(
             record.values().unwrap(),
-            [Value::Integer(42), Value::Text(b"hipik")]
+            [Value::Integer(42), Value::Text("hipik")]
         );
     }
 

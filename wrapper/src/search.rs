@@ -5,20 +5,65 @@ use crate::Refusal;
 
 /// The places of a pattern in a haystack, rising; they may overlap. An empty pattern is nowhere. At worst, as in a
 /// haystack of one byte over and over, the time grows with both lengths multiplied.
-pub fn search(haystack: &[u8], pattern: &[u8]) -> Result<Vec<usize>, Refusal> {
-    let mut places = vec![0; 64];
-    loop {
-        let (number, [written]) = door::boyer_moore_search(haystack, pattern, &mut places);
-        match Refusal::of(number) {
-            Some(Refusal::NoRoom) => places = vec![0; places.len() * 8],
-            Some(refusal) => return Err(refusal),
-            None => {
-                return Ok(places[..written as usize]
-                    .iter()
-                    .map(|&place| place as usize)
-                    .collect())
-            }
+///
+/// # Errors
+///
+/// [`Refusal::TooLarge`] for a haystack of more than [`LARGEST_REGION`](crate::LARGEST_REGION) bytes.
+pub fn search<'a>(haystack: &'a [u8], pattern: &'a [u8]) -> Result<Places<'a>, Refusal> {
+    let mut places = Places {
+        haystack,
+        pattern,
+        start: 0,
+        batch: [0; ROOM],
+        filled: 0,
+        given: 0,
+        more: false,
+    };
+    places.go_on(0)?;
+    Ok(places)
+}
+
+/// The places of a batch.
+const ROOM: usize = 256;
+
+/// The places of a pattern; made by [`search`]. It holds no more than 256 of them at a time: where a batch is used up, the search
+/// goes on behind its last place.
+#[derive(Debug)]
+pub struct Places<'a> {
+    haystack: &'a [u8],
+    pattern: &'a [u8],
+    /// The batch is of the haystack from `start` on.
+    start: usize,
+    batch: [u64; ROOM],
+    filled: usize,
+    given: usize,
+    more: bool,
+}
+
+impl Places<'_> {
+    fn go_on(&mut self, start: usize) -> Result<(), Refusal> {
+        let (number, [written]) =
+            door::boyer_moore_search(&self.haystack[start..], self.pattern, &mut self.batch);
+        self.more = Refusal::more(number)?;
+        (self.start, self.filled, self.given) = (start, written as usize, 0);
+        Ok(())
+    }
+}
+
+impl Iterator for Places<'_> {
+    type Item = usize;
+
+    fn next(&mut self) -> Option<usize> {
+        if self.given == self.filled {
+            return None;
         }
+        let place = self.start + self.batch[self.given] as usize;
+        self.given += 1;
+        if self.given == self.filled && self.more {
+            self.go_on(place + 1)
+                .expect("what was searched once is not refused");
+        }
+        Some(place)
     }
 }
 
@@ -27,19 +72,29 @@ mod tests {
     use super::*;
     use crate::LARGEST_REGION;
 
+    fn places(haystack: &[u8], pattern: &[u8]) -> Vec<usize> {
+        search(haystack, pattern).unwrap().collect()
+    }
+
     #[test]
     fn places_rise_and_overlap() {
-        assert_eq!(search(b"plot plot", b"plot"), Ok(vec![0, 5]));
-        assert_eq!(search(b"aaaa", b"aa"), Ok(vec![0, 1, 2]));
-        assert_eq!(search(b"aaaa", b""), Ok(vec![]));
-        assert_eq!(search(&[7; 1000], &[7]), Ok((0..1000).collect()));
+        assert_eq!(places(b"plot plot", b"plot"), [0, 5]);
+        assert_eq!(places(b"aaaa", b"aa"), [0, 1, 2]);
+        assert!(places(b"aaaa", b"").is_empty());
+    }
+
+    #[test]
+    fn more_places_than_a_batch() {
+        for count in [ROOM - 1, ROOM, ROOM + 1, 2 * ROOM, 1000] {
+            assert!(places(&vec![7; count + 1], &[7, 7])
+                .into_iter()
+                .eq(0..count));
+        }
     }
 
     #[test]
     fn a_large_haystack_is_refused() {
-        assert_eq!(
-            search(&vec![0; LARGEST_REGION + 1], b"x"),
-            Err(Refusal::TooLarge)
-        );
+        let refused = search(&vec![0; LARGEST_REGION + 1], b"x").map(|_| ());
+        assert_eq!(refused, Err(Refusal::TooLarge));
     }
 }

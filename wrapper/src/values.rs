@@ -1,9 +1,18 @@
 //! Varints, serial types, values and column entries.
 
-use crate::door;
+use crate::door::{self, ENTRY_WORDS};
 use crate::Refusal;
+use std::borrow::Cow;
+use std::str;
 
-/// A value, with the bytes of a text or a blob where they lie.
+/// A value, with the bytes of a text or a blob where they lie. It prints as SQL would write it, but for a text: that stands in
+/// double quotes, a quote or a backslash in it behind a backslash, and what is no readable character as `\\x` and two digits.
+///
+/// ```
+/// # use phsarodil::Value;
+/// let values = [Value::Integer(42), Value::Real(20.0), Value::Text("caf\u{e9}\n"), Value::Blob(&[0, 255])];
+/// assert_eq!(values.map(|value| value.to_string()), ["42", "20.0", "\"caf\u{e9}\\x0a\"", "x'00ff'"]);
+/// ```
 #[derive(Clone, Copy, Debug, PartialEq)]
 pub enum Value<'a> {
     /// NULL.
@@ -12,8 +21,10 @@ pub enum Value<'a> {
     Integer(i64),
     /// A real; a NaN keeps its payload.
     Real(f64),
-    /// Bytes that need not be UTF-8.
-    Text(&'a [u8]),
+    /// A text. Whether the database's texts are UTF-8 its header says; one of another encoding may pass for it.
+    Text(&'a str),
+    /// A text whose bytes are not UTF-8.
+    TextBytes(&'a [u8]),
     /// Bytes.
     Blob(&'a [u8]),
 }
@@ -27,10 +38,34 @@ impl<'a> Value<'a> {
             1 => Value::Null,
             2 => Value::Integer(bits as i64),
             3 => Value::Real(f64::from_bits(bits)),
-            4 => Value::Text(part()),
+            4 => str::from_utf8(part()).map_or(Value::TextBytes(part()), Value::Text),
             5 => Value::Blob(part()),
             other => unreachable!("a tag is 0 to 5, not {other}"),
         })
+    }
+
+    /// The bytes of a text or a blob.
+    pub fn bytes(self) -> Option<&'a [u8]> {
+        match self {
+            Value::Text(text) => Some(text.as_bytes()),
+            Value::TextBytes(bytes) | Value::Blob(bytes) => Some(bytes),
+            _ => None,
+        }
+    }
+
+    /// A text, with U+FFFD in place of what is not UTF-8.
+    ///
+    /// ```
+    /// # use phsarodil::Value;
+    /// assert_eq!(Value::TextBytes(b"caf\xe9").text_lossy().unwrap(), "caf\u{fffd}");
+    /// assert_eq!(Value::Blob(b"caf").text_lossy(), None);
+    /// ```
+    pub fn text_lossy(self) -> Option<Cow<'a, str>> {
+        match self {
+            Value::Text(text) => Some(Cow::Borrowed(text)),
+            Value::TextBytes(bytes) => Some(String::from_utf8_lossy(bytes)),
+            _ => None,
+        }
     }
 }
 
@@ -94,8 +129,6 @@ pub struct Entry {
 }
 
 impl Entry {
-    pub(crate) const WORDS: usize = 4;
-
     pub(crate) fn of(words: &[u64]) -> Entry {
         Entry {
             state: State::of(words[0]),
@@ -105,19 +138,20 @@ impl Entry {
         }
     }
 
-    pub(crate) fn words(self) -> [u64; Entry::WORDS] {
+    pub(crate) fn words(self) -> [u64; ENTRY_WORDS] {
         [self.state as u64, self.kind, self.start, self.length]
     }
 
-    /// The entry's value over the bytes that its row was found in, or [`Refusal::Malformed`] for a bad entry: a body
-    /// whose length is not its type's, whose type is 10 or 11, or that ends behind these bytes, whatever its type.
+    /// The entry's value over the bytes that its row was found in.
+    ///
+    /// # Errors
+    ///
+    /// [`Refusal::Malformed`] for a bad entry: a body whose length is not its type's, whose type is 10 or 11, or that ends
+    /// behind these bytes, whatever its type.
     pub fn read(self, bytes: &[u8]) -> Result<Value<'_>, Refusal> {
         let (number, [tag, bits, start, length]) = door::read_entry(self.words(), bytes);
-        match Refusal::of(number) {
-            Some(refusal) => Err(refusal),
-            None => Ok(Value::of(tag, bits, bytes, start, length)
-                .expect("what is not refused has a value")),
-        }
+        Refusal::check(number)?;
+        Ok(Value::of(tag, bits, bytes, start, length).expect("what is not refused has a value"))
     }
 
     /// The bytes of a text or a blob; any other entry, a bad one too, has none.
@@ -186,14 +220,32 @@ mod tests {
     fn texts_and_blobs_are_parts_of_the_slice() {
         assert_eq!(
             decode_serial_type(23, b"..hipik", 2),
-            Some((Value::Text(b"hipik"), 5))
+            Some((Value::Text("hipik"), 5))
         );
         assert_eq!(
             decode_serial_type(16, b"..hipik", 2),
             Some((Value::Blob(b"hi"), 2))
         );
+        assert_eq!(
+            decode_serial_type(19, b"A\xffB", 0),
+            Some((Value::TextBytes(b"A\xffB"), 3))
+        );
         assert_eq!(decode_serial_type(23, b"..hipik", 3), None);
         assert_eq!(decode_serial_type(10, b"..hipik", 0), None);
+    }
+
+    #[test]
+    fn bytes_and_lossy_texts() {
+        assert_eq!(Value::Text("h").bytes(), Some(&b"h"[..]));
+        assert_eq!(Value::TextBytes(b"\xff").bytes(), Some(&b"\xff"[..]));
+        assert_eq!(Value::Blob(b"").bytes(), Some(&b""[..]));
+        assert_eq!(Value::Integer(1).bytes(), None);
+        assert_eq!(Value::Text("h").text_lossy(), Some(Cow::Borrowed("h")));
+        assert_eq!(
+            Value::TextBytes(b"A\xff").text_lossy().as_deref(),
+            Some("A\u{fffd}")
+        );
+        assert_eq!(Value::Null.text_lossy(), None);
     }
 
     #[test]
@@ -204,7 +256,7 @@ mod tests {
             start: 2,
             length: 5,
         };
-        assert_eq!(text.read(b"..hipik"), Ok(Value::Text(b"hipik")));
+        assert_eq!(text.read(b"..hipik"), Ok(Value::Text("hipik")));
         assert_eq!(text.view(b"..hipik"), b"hipik");
         assert_eq!(text.read(b"..hipi"), Err(Refusal::Malformed));
         assert_eq!(text.view(b"..hipi"), b"");

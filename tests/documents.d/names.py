@@ -7,7 +7,7 @@ import re
 from declared import all_items, definitions
 from tree import code, crate_of, line_of, lines_of, prose, quoted
 
-PROMISES, DIFFERENCES, HEADER = "docs/PROMISES.md", "docs/DIFFERENCES.md", "include/phsarodil.h"
+PROMISES, DIFFERENCES, WRAPPER, HEADER = "docs/PROMISES.md", "docs/DIFFERENCES.md", "wrapper/README.md", "include/phsarodil.h"
 
 # Names that are neither ours nor the Rust's, by the reason why a document has them.
 OTHERS = {
@@ -72,10 +72,10 @@ def words(text):
 
 
 def of_the_rust(tree):
-    """Names and files of the given Rust: those in the columns of docs/DIFFERENCES.md that speak of it, and what the oracle opens."""
-    for line in lines_of(tree.files[DIFFERENCES]):
+    """Names and files of the given Rust: those in the columns of two documents that speak of it, and what the oracle opens."""
+    for line in (line for path in (DIFFERENCES, WRAPPER) for line in lines_of(tree.files[path])):
         for column, cell in line.cells:
-            if column in ("Rust", "Left out", "File"):
+            if column in ("Rust", "The Rust", "Left out", "File"):
                 yield from quoted(cell)
     yield from (f"{module}.rs" for module in re.findall(r'module: "(\w+)"', tree.files["oracle/build.rs"]))
 
@@ -131,7 +131,7 @@ def check_c_names(tree):
 def where(tree, path, word, line):
     """The places at which a file that is named in a line may stand."""
     if word.split("/")[0] not in OF_A_CRATE:
-        return [word]
+        return [word, posixpath.join(posixpath.dirname(path), word)]
     if crate_of(path):
         return [f"crates/{crate_of(path)}/{word}"]
     named = set(quoted(line.text)) & set(tree.crates) | crates_of(tree, line.heading) or set(tree.crates)

@@ -13,9 +13,10 @@
  * its body with it: hints from the second column on would read every value from the wrong place, and are not used.
  *
  * A row is printed if its confidence is at least 0.85, it is not all NULL, and it stands where a cell can: behind its length and
- * its row id, or in a freed block behind what the block's link overwrote. -a prints the rest, of which most are none. -w scans
- * whole pages instead of their free space: that is the call for a table that was cleared, and it lists rows that are not deleted,
- * too. The free space may hold old copies of such rows as well, where SQLite moved them.
+ * its row id, or behind the link that overwrote these. Such links are left in freed blocks, also in joined ones, and in the gap of
+ * a page from whose end rows were deleted. -a prints the rest, of which most are none. -w scans whole pages instead of their free
+ * space: that is the call for a table that was cleared, and it lists rows that are not deleted, too. The free space may hold old
+ * copies of such rows as well, where SQLite moved them.
  *
  * wrapper/examples/carve prints the same, to the byte.
  */
@@ -45,8 +46,9 @@ static const float KEPT = 0.85f;
 /* What the lists of a page's rows may take, in words: 64 MiB. Memory that is not written costs nothing. */
 enum { LIST_WORDS = 8 << 20 };
 
-/* Of the file format. A link is the first four bytes of a freed block: where the next one is, and its own size. Before a record of
-   a page stand at most its length, in three bytes, its row id in nine and its header's length in two. */
+/* Of the file format. A link is the first four bytes of a freed block: where the next one is, and its own size. SQLite writes one also
+   where it then adds the block to the gap, and leaves it where blocks are joined. Before a record of a page stand at most its length,
+   in three bytes, its row id in nine and its header's length in two. */
 enum { SMALLEST_PAGE = 512, LARGEST_PAGE = 65536, FILE_HEADER = 100, TABLE_LEAF = 13, LINK = 4, MOST_BEFORE = 14 };
 
 /* In the order of the hint codes. */
@@ -62,7 +64,8 @@ struct job {
     uint8_t page[LARGEST_PAGE];
     size_t len; /* of what was read of the page */
     uint64_t base;
-    size_t header; /* where the page's b-tree header stands */
+    size_t header;       /* where the page's b-tree header stands */
+    size_t gap, content; /* where the gap between the cell pointers and the content starts and ends */
     size_t block_end[LARGEST_PAGE];   /* of the freed block that holds a place, or 0 */
     uint8_t begins[LARGEST_PAGE + 1]; /* whether a freed cell begins at a place: a block, or what is behind a row in one */
     uint8_t taken[LARGEST_PAGE];      /* whether a place is in a row that was kept */
@@ -233,31 +236,32 @@ static size_t end_of(const struct job *job, const uint64_t *row)
     return start_of(job, row) + (size_t)row[PHS_ROW_CONSUMED];
 }
 
-/* Whether a row has the confidence, says something, and has its bytes for itself. */
-static int is_likely(const struct job *job, const uint64_t *row, const uint64_t *entries, size_t skip)
+/* Whether a row has the confidence, says something, and has its bytes for itself, with the `head` ones before it. */
+static int is_likely(const struct job *job, const uint64_t *row, const uint64_t *entries, size_t skip, size_t head)
 {
     size_t nulls = 0;
 
     while (nulls < job->columns - skip && entries[nulls * PHS_WORDS_PER_ENTRY + PHS_ENTRY_KIND] == 0)
         nulls++;
     return confidence(row) >= KEPT && nulls < job->columns - skip &&
-           memchr(job->taken + start_of(job, row), 1, (size_t)row[PHS_ROW_CONSUMED]) == NULL;
+           memchr(job->taken + start_of(job, row) - head, 1, head + (size_t)row[PHS_ROW_CONSUMED]) == NULL;
 }
 
-/* Prints a row if it is to be printed; returns the refusal. `sound`: it stands where a cell can. `kept`: it is likely, too. */
-static uint64_t take_row(struct job *job, const uint64_t *row, const uint64_t *entries, size_t skip, int sound, int *kept)
+/* Prints a row if it is to be printed; returns the refusal. `head`: the bytes of its cell before it, or 0 where no cell can stand.
+   `kept`: it has one, and is likely. */
+static uint64_t take_row(struct job *job, const uint64_t *row, const uint64_t *entries, size_t skip, size_t head, int *kept)
 {
     size_t first = has_key(job) - skip; /* the first column behind the key */
     uint8_t *seen = &job->seen[entries[first * PHS_WORDS_PER_ENTRY + PHS_ENTRY_START]];
 
-    *kept = !*seen && sound && is_likely(job, row, entries, skip);
+    *kept = !*seen && head > 0 && is_likely(job, row, entries, skip, head);
     if (!*kept && (*seen || !job->all)) {
         job->left_out += !*seen;
         return PHS_OK;
     }
     if (*kept) {
         *seen = 1;
-        memset(job->taken + start_of(job, row), 1, (size_t)row[PHS_ROW_CONSUMED]);
+        memset(job->taken + start_of(job, row) - head, 1, head + (size_t)row[PHS_ROW_CONSUMED]);
         job->begins[end_of(job, row)] = 1;
     }
     job->rows++;
@@ -270,8 +274,36 @@ static size_t two_bytes(const struct job *job, size_t place)
     return place + 2 > job->len ? 0 : (size_t)job->page[place] << 8 | job->page[place + 1];
 }
 
-/* Whether the row's length and row id stand before it, and then puts the id into it; or the link of a freed block of its size. */
-static int has_cell(const struct job *job, uint64_t *row)
+/* Where a freed block ends whose link stands at a place, or 0 where none can: the next block is behind it, or there is none. */
+static size_t link_end(const struct job *job, size_t at)
+{
+    size_t next = two_bytes(job, at);
+    size_t size = two_bytes(job, at + 2);
+    size_t end = at + size;
+
+    return size >= LINK && end <= job->len && (next == 0 || (next >= end + LINK && next + LINK <= job->len)) ? end : 0;
+}
+
+/* Whether a freed cell left its link at a place: what is left of it stands from `left` on and ends at `end`. The link has its size, or
+   that of the block that it was joined with as well, whose own link has the same end. No younger link stands in it. */
+static int was_freed(const struct job *job, size_t at, size_t left, size_t end)
+{
+    size_t own = link_end(job, at);
+
+    if (own != end && (own < end || link_end(job, end) != own))
+        return 0;
+    /* The rest of its row id. */
+    for (size_t i = at + LINK; i < left; i++)
+        if ((job->page[i] < 0x80) != (i + 1 == left))
+            return 0;
+    for (size_t i = left; i + LINK <= end; i++)
+        if (link_end(job, i) == end || link_end(job, i) == own)
+            return 0;
+    return 1;
+}
+
+/* The bytes before a row where its length and row id stand there, and then puts the id into it; or the link of its freed cell; or 0. */
+static size_t cell_head(const struct job *job, uint64_t *row)
 {
     size_t place = start_of(job, row);
 
@@ -282,10 +314,10 @@ static int has_cell(const struct job *job, uint64_t *row)
         if (length[0] && length[1] == row[PHS_ROW_CONSUMED] && id[0] && length[2] + id[2] == before) {
             row[PHS_ROW_HAS_ID] = 1;
             row[PHS_ROW_ID] = id[1];
-            return 1;
+            return before;
         }
-        if (before >= LINK && two_bytes(job, place - before + 2) == before + row[PHS_ROW_CONSUMED])
-            return 1;
+        if (before >= LINK && was_freed(job, place - before, place, end_of(job, row)))
+            return before;
     }
     return 0;
 }
@@ -304,7 +336,7 @@ static uint64_t scan(struct job *job, size_t start, size_t end)
 
         if (out[0] == 0)
             return refusal;
-        refusal = take_row(job, row, job->lists, 0, has_cell(job, row), &kept);
+        refusal = take_row(job, row, job->lists, 0, cell_head(job, row), &kept);
         if (refusal != PHS_OK)
             return refusal;
         start = kept ? end_of(job, row) : start_of(job, row) + 1;
@@ -342,9 +374,15 @@ static int has_long_ids(const struct job *job)
     return !id[0] || id[2] > 1;
 }
 
-/* Whether a row of a freed block, found with the hints behind the first `skip` ones, stands where a cell can: before it is what the
-   link overwrote, and its header's length if that is left; behind it the block ends, or another cell has room. */
-static int has_place(const struct job *job, uint64_t *row, const uint64_t *entries, size_t skip)
+/* Whether the link took a type of a row as well: three bytes are before the types of a short row with a short id. */
+static int lost_type(const struct job *job, const uint64_t *row, size_t skip)
+{
+    return skip == 0 && row[PHS_ROW_CONSUMED] < 127 && !has_long_ids(job);
+}
+
+/* The bytes before a row of a freed block, found with the hints behind the first `skip` ones, where a cell can stand: they are what
+   the link overwrote, and its header's length if that is left; behind it the block ends, or another cell has room. Or 0. */
+static size_t freed_head(const struct job *job, uint64_t *row, const uint64_t *entries, size_t skip)
 {
     size_t place = start_of(job, row);
     size_t types = (size_t)entries[PHS_ENTRY_START] - place; /* their bytes */
@@ -357,35 +395,104 @@ static int has_place(const struct job *job, uint64_t *row, const uint64_t *entri
     /* Its length may be larger than the row: then what reads as its id is none. */
     if (row[PHS_ROW_HAS_ID]) {
         row[PHS_ROW_HAS_ID] = 0;
-        return skip == 0 && has_cell(job, row);
+        return skip == 0 ? cell_head(job, row) : 0;
     }
-    /* Three bytes are before the types of a short row with a short id, so that one of these is lost. */
-    if (skip == 0 && row[PHS_ROW_CONSUMED] < 127 && !has_long_ids(job))
+    if (lost_type(job, row, skip))
         return 0;
     for (size_t before = LINK; before <= most && before <= place; before++)
-        if (job->begins[place - before] && (before == LINK || job->page[place - 1] == length))
-            return 1;
+        if ((job->begins[place - before] || was_freed(job, place - before, place - (before > LINK), end_of(job, row))) &&
+            (before == LINK || job->page[place - 1] == length))
+            return before;
     return 0;
+}
+
+/* The lists of the rows that a call finds, with as much room as they may take. */
+struct lists {
+    uint64_t *rows, *cols;
+    size_t rows_len, cols_len;
+};
+
+static struct lists lists_of(const struct job *job, size_t columns)
+{
+    size_t room = LIST_WORDS / (PHS_WORDS_PER_ROW + columns * PHS_WORDS_PER_ENTRY);
+    size_t rows_len = room * PHS_WORDS_PER_ROW;
+    struct lists lists = {job->lists, job->lists + rows_len, rows_len, room * columns * PHS_WORDS_PER_ENTRY};
+
+    return lists;
 }
 
 /* Prints the rows in the freed blocks of the page, by the hints behind the first `skip` ones; returns the refusal. */
 static uint64_t carve_blocks(struct job *job, size_t skip)
 {
     size_t columns = job->columns - skip;
-    size_t room = LIST_WORDS / (PHS_WORDS_PER_ROW + columns * PHS_WORDS_PER_ENTRY);
-    uint64_t *rows = job->lists;
-    uint64_t *cols = rows + room * PHS_WORDS_PER_ROW;
+    struct lists lists = lists_of(job, columns);
     uint64_t out[1];
     uint64_t refusal = phs_scan_single_page_gap(PHS_EXACT, job->page, job->len, job->header, job->base, job->hints + skip,
-                                                columns, rows, room * PHS_WORDS_PER_ROW, cols,
-                                                room * columns * PHS_WORDS_PER_ENTRY, out);
+                                                columns, lists.rows, lists.rows_len, lists.cols, lists.cols_len, out);
 
     for (uint64_t i = 0; i < out[0] && refusal == PHS_OK; i++) {
-        uint64_t *row = rows + i * PHS_WORDS_PER_ROW;
-        const uint64_t *entries = cols + i * columns * PHS_WORDS_PER_ENTRY;
+        uint64_t *row = lists.rows + i * PHS_WORDS_PER_ROW;
+        const uint64_t *entries = lists.cols + i * columns * PHS_WORDS_PER_ENTRY;
         int kept;
         if (job->block_end[row[PHS_ROW_OFFSET] - job->base] != 0) /* The others are the gap's. */
-            refusal = take_row(job, row, entries, skip, has_place(job, row, entries, skip), &kept);
+            refusal = take_row(job, row, entries, skip, freed_head(job, row, entries, skip), &kept);
+    }
+    return refusal;
+}
+
+/* Whether a row of the gap stands behind a freed cell's link, and behind it another one or the gap's end. What has more of its cell than
+   its types is left to the scan. */
+static int is_freed_in_gap(const struct job *job, const uint64_t *row, size_t skip)
+{
+    size_t place = start_of(job, row);
+    size_t behind = end_of(job, row);
+
+    return !row[PHS_ROW_HAS_ID] && place >= job->gap + LINK && was_freed(job, place - LINK, place, behind) &&
+           (behind + LINK > job->content || link_end(job, behind) != 0) && !lost_type(job, row, skip);
+}
+
+/* Prints the rows of freed cells from `start` to `end` in the gap, by the hints behind the first `skip` ones; returns the refusal.
+   SQLite fills the gap from its end, over the ends of older rows, so the last row goes first. */
+static uint64_t carve_stretch(struct job *job, size_t start, size_t end, size_t skip)
+{
+    size_t columns = job->columns - skip;
+    struct lists lists = lists_of(job, columns);
+    uint64_t out[1];
+    uint64_t refusal = phs_parse_cells_from_freeblock(PHS_EXACT, job->page + start, end - start, job->base + start,
+                                                      job->hints + skip, columns, lists.rows, lists.rows_len, lists.cols,
+                                                      lists.cols_len, out);
+
+    for (uint64_t i = out[0]; i-- > 0 && refusal == PHS_OK;) {
+        const uint64_t *row = lists.rows + i * PHS_WORDS_PER_ROW;
+        uint64_t *entries = lists.cols + i * columns * PHS_WORDS_PER_ENTRY;
+        int kept;
+        if (!is_freed_in_gap(job, row, skip))
+            continue;
+        for (size_t column = 0; column < columns; column++)
+            entries[column * PHS_WORDS_PER_ENTRY + PHS_ENTRY_START] += start;
+        refusal = take_row(job, row, entries, skip, LINK, &kept);
+    }
+    return refusal;
+}
+
+/* Prints the rows of freed cells in the gap; returns the refusal. Only what links say they are of is lent: zeros would read as rows. */
+static uint64_t carve_gap(struct job *job)
+{
+    size_t ways = has_key(job) ? 2 : 1;
+    uint64_t refusal = PHS_OK;
+    size_t end;
+
+    for (size_t start = job->gap; start < job->content; start = end) {
+        end = start + 1;
+        if (link_end(job, start) == 0)
+            continue;
+        for (size_t at = start; at <= end && at < job->content; at++)
+            if (link_end(job, at) > end)
+                end = link_end(job, at);
+        if (end > job->content)
+            end = job->content;
+        for (size_t skip = 0; skip < ways && refusal == PHS_OK; skip++)
+            refusal = carve_stretch(job, start, end, skip);
     }
     return refusal;
 }
@@ -393,22 +500,24 @@ static uint64_t carve_blocks(struct job *job, size_t skip)
 /* Prints the rows in the free space of the page, if it is a leaf of a table; returns the refusal. */
 static uint64_t carve_free_space(struct job *job)
 {
-    size_t gap = job->header + 8 + 2 * two_bytes(job, job->header + 3);
-    size_t content = two_bytes(job, job->header + 5);
     uint64_t refusal = PHS_OK;
 
     if (job->header >= job->len || job->page[job->header] != TABLE_LEAF)
         return PHS_OK;
-    if (content == 0)
-        content = LARGEST_PAGE;
+    job->gap = job->header + 8 + 2 * two_bytes(job, job->header + 3);
+    job->content = two_bytes(job, job->header + 5);
+    if (job->content == 0)
+        job->content = LARGEST_PAGE;
+    if (job->content > job->len)
+        job->content = 0;
     find_blocks(job);
-    if (gap < content && content <= job->len)
-        refusal = scan(job, gap, content);
+    if (job->gap < job->content)
+        refusal = scan(job, job->gap, job->content);
     if (refusal == PHS_OK)
         refusal = carve_blocks(job, 0);
     if (refusal == PHS_OK && has_key(job))
         refusal = carve_blocks(job, 1);
-    return refusal;
+    return refusal == PHS_OK ? carve_gap(job) : refusal;
 }
 
 /* Whether the file's first page is a database's. */

@@ -7,20 +7,23 @@
 //! its body with it: hints from the second column on would read every value from the wrong place, and are not used.
 //!
 //! A row is printed if its confidence is at least 0.85, it is not all NULL, and it stands where a cell can: behind its length and
-//! its row id, or in a freed block behind what the block's link overwrote. -a prints the rest, of which most are none. -w scans
-//! whole pages instead of their free space: that is the call for a table that was cleared, and it lists rows that are not deleted,
-//! too. The free space may hold old copies of such rows as well, where SQLite moved them.
+//! its row id, or behind the link that overwrote these. Such links are left in freed blocks, also in joined ones, and in the gap of
+//! a page from whose end rows were deleted. -a prints the rest, of which most are none. -w scans whole pages instead of their free
+//! space: that is the call for a table that was cleared, and it lists rows that are not deleted, too. The free space may hold old
+//! copies of such rows as well, where SQLite moved them.
 //!
 //! examples/c/carve.c at the repository's top prints the same, to the byte.
 
 mod places;
 
 use phsarodil::{
-    scan_single_page_gap, Hint, Rebuilding, Record, Refusal, Scan, DEFAULT_MEMORY, MOST_COLUMNS,
+    parse_cells_from_freeblock, scan_single_page_gap, Hint, Rebuilding, Record, Refusal, Scan,
+    DEFAULT_MEMORY, MOST_COLUMNS,
 };
-use places::{Page, TABLE_LEAF};
+use places::{Page, LINK, TABLE_LEAF};
 use std::fs::File;
 use std::io::{self, BufWriter, Read, StdoutLock, Write};
+use std::ops::Range;
 use std::process::ExitCode;
 
 const USAGE: &str = "usage: carve [-a] [-w] FILE HINTS [PAGE]
@@ -256,12 +259,20 @@ impl Carving<'_> {
             return Ok(());
         }
         page.find_blocks();
-        if let Some((start, end)) = page.gap() {
+        let gap = page.gap();
+        if let Some((start, end)) = gap {
             self.scan(page, start, end)?;
         }
-        self.carve_blocks(page, 0)?;
-        if self.job.has_key() {
-            self.carve_blocks(page, 1)?;
+        let ways = if self.job.has_key() { 2 } else { 1 };
+        for skip in 0..ways {
+            self.carve_blocks(page, skip)?;
+        }
+        let gap = gap.unwrap_or((0, 0));
+        // Only what links say they are of is lent: zeros would read as rows.
+        for stretch in page.stretches(gap) {
+            for skip in 0..ways {
+                self.carve_stretch(page, gap, stretch.clone(), skip)?;
+            }
         }
         Ok(())
     }
@@ -273,8 +284,8 @@ impl Carving<'_> {
             .base(page.base)
             .room(1);
         while let Some(mut record) = from.clone().start(start).rows()?.next() {
-            let sound = page.has_cell(&mut record);
-            let kept = self.take(page, &record, 0, sound)?;
+            let head = page.cell_head(&mut record);
+            let kept = self.take(page, &record, 0, 0, head)?;
             start = match kept {
                 true => page.end_of(&record),
                 false => page.start_of(&record) + 1,
@@ -297,32 +308,59 @@ impl Carving<'_> {
         for mut record in records {
             // The others are the gap's.
             if page.is_in_block(&record) {
-                let sound = page.has_place(&mut record, skip);
-                self.take(page, &record, skip, sound)?;
+                let head = page.freed_head(&mut record, skip);
+                self.take(page, &record, 0, skip, head)?;
             }
         }
         Ok(())
     }
 
-    /// Prints a row if it is to be printed, and answers whether it is kept: it is likely, and stands where a cell can, which `sound`
-    /// says.
+    /// Prints the rows of freed cells of a stretch of the gap, by the hints behind the first `skip` ones. SQLite fills the gap from its
+    /// end, over the ends of older rows, so the last row goes first.
+    fn carve_stretch(
+        &mut self,
+        page: &mut Page,
+        gap: (usize, usize),
+        stretch: Range<usize>,
+        skip: usize,
+    ) -> Result<(), Trouble> {
+        let start = stretch.start;
+        let records = parse_cells_from_freeblock(
+            Rebuilding::Exact,
+            &page.bytes[stretch],
+            page.base + start as u64,
+            &self.job.hints[skip..],
+            DEFAULT_MEMORY,
+        )?;
+        let freed: Vec<Record> = records
+            .filter(|record| page.is_freed_in_gap(record, gap, skip))
+            .collect();
+        for record in freed.iter().rev() {
+            self.take(page, record, start, skip, LINK)?;
+        }
+        Ok(())
+    }
+
+    /// Prints a row if it is to be printed, and answers whether it is kept: it is likely, and has a `head`, which is the bytes of its
+    /// cell before it, or 0 where no cell can stand. `lent` is where the bytes start that it was found in.
     fn take(
         &mut self,
         page: &mut Page,
         record: &Record,
+        lent: usize,
         skip: usize,
-        sound: bool,
+        head: usize,
     ) -> Result<bool, Trouble> {
         // The first column behind the key.
         let first = usize::from(self.job.has_key()) - skip;
-        let values = record.entries[first].start as usize;
+        let values = lent + record.entries[first].start as usize;
         let seen = page.seen[values];
         let says = record.entries.iter().any(|entry| entry.kind != 0);
-        let likely = record.row.confidence >= KEPT && says && page.is_free(record);
-        let kept = !seen && sound && likely;
+        let likely = record.row.confidence >= KEPT && says;
+        let kept = !seen && head > 0 && likely && page.is_free(record, head);
         if kept {
             page.seen[values] = true;
-            page.keep(record);
+            page.keep(record, head);
         }
         if !kept && (seen || !self.job.all) {
             self.left_out += u64::from(!seen);

@@ -1,12 +1,14 @@
 //! Where a row can stand on a page.
 
 use phsarodil::{read_varint, Record};
+use std::ops::Range;
 
 /// The type of a page that is a leaf of a table.
 pub const TABLE_LEAF: u8 = 13;
 
-/// The first bytes of a freed block: where the next one is, and its own size, two bytes each.
-const LINK: usize = 4;
+/// The first bytes of a freed block: where the next one is, and its own size, two bytes each. SQLite writes them also where it then adds
+/// the block to the gap, and leaves them where blocks are joined.
+pub const LINK: usize = 4;
 
 /// Before a record of a page stand at most its length, in three bytes, its row id in nine and its header's length in two.
 const MOST_BEFORE: usize = 14;
@@ -90,19 +92,47 @@ impl<'a> Page<'a> {
         self.block_end[self.start_of(record)] != 0
     }
 
-    /// Whether no row that was kept has any of its bytes.
-    pub fn is_free(&self, record: &Record) -> bool {
-        !self.taken[self.start_of(record)..self.end_of(record)].contains(&true)
+    /// Whether no row that was kept has any of its bytes, or of the `head` ones before it.
+    pub fn is_free(&self, record: &Record, head: usize) -> bool {
+        !self.taken[self.start_of(record) - head..self.end_of(record)].contains(&true)
     }
 
-    pub fn keep(&mut self, record: &Record) {
+    pub fn keep(&mut self, record: &Record, head: usize) {
         let (start, end) = (self.start_of(record), self.end_of(record));
-        self.taken[start..end].fill(true);
+        self.taken[start - head..end].fill(true);
         self.begins[end] = true;
     }
 
-    /// Whether the row's length and row id stand before it, and then puts the id into it; or the link of a freed block of its size.
-    pub fn has_cell(&self, record: &mut Record) -> bool {
+    /// Where a freed block ends whose link stands at a place, or 0 where none can: the next block is behind it, or there is none.
+    fn link_end(&self, at: usize) -> usize {
+        let (next, size) = (self.two_bytes(at), self.two_bytes(at + 2));
+        let end = at + size;
+        let len = self.bytes.len();
+        match size >= LINK && end <= len && (next == 0 || next >= end + LINK && next + LINK <= len)
+        {
+            true => end,
+            false => 0,
+        }
+    }
+
+    /// Whether a freed cell left its link at a place: what is left of it stands from `left` on and ends at `end`. The link has its size,
+    /// or that of the block that it was joined with as well, whose own link has the same end. No younger link stands in it.
+    fn was_freed(&self, at: usize, left: usize, end: usize) -> bool {
+        let own = self.link_end(at);
+        if own != end && (own < end || self.link_end(end) != own) {
+            return false;
+        }
+        // The rest of its row id.
+        if (at + LINK..left).any(|i| (self.bytes[i] < 0x80) != (i + 1 == left)) {
+            return false;
+        }
+        let mut places = left..(end + 1).saturating_sub(LINK);
+        !places.any(|i| [end, own].contains(&self.link_end(i)))
+    }
+
+    /// The bytes before a row where its length and row id stand there, and then puts the id into it; or the link of its freed cell; or
+    /// 0.
+    pub fn cell_head(&self, record: &mut Record) -> usize {
         let place = self.start_of(record);
         let before_it = &self.bytes[..place];
         for before in 2..=MOST_BEFORE.min(place) {
@@ -111,15 +141,14 @@ impl<'a> Page<'a> {
             if let (Some((length, taken)), Some((id, more))) = (length, id) {
                 if length == record.row.consumed && taken + more == before {
                     record.row.id = Some(id as i64);
-                    return true;
+                    return before;
                 }
             }
-            let size = self.two_bytes(place - before + 2);
-            if before >= LINK && size == before + record.row.consumed as usize {
-                return true;
+            if before >= LINK && self.was_freed(place - before, place, self.end_of(record)) {
+                return before;
             }
         }
-        false
+        0
     }
 
     /// Whether row ids of two bytes or more stand on the page; its last cell has the largest.
@@ -132,29 +161,64 @@ impl<'a> Page<'a> {
         read_varint(self.bytes, cell + taken).is_none_or(|(_, taken)| taken > 1)
     }
 
-    /// Whether a row of a freed block, found with the hints behind the first `skip` ones, stands where a cell can: before it is what
-    /// the link overwrote, and its header's length if that is left; behind it the block ends, or another cell has room.
-    pub fn has_place(&self, record: &mut Record, skip: usize) -> bool {
-        let place = self.start_of(record);
-        let rest = self.block_end[place].wrapping_sub(self.end_of(record));
+    /// Whether the link took a type of a row as well: three bytes are before the types of a short row with a short id.
+    fn lost_type(&self, record: &Record, skip: usize) -> bool {
+        skip == 0 && record.row.consumed < 127 && !self.has_long_ids()
+    }
+
+    /// The bytes before a row of a freed block, found with the hints behind the first `skip` ones, where a cell can stand: they are what
+    /// the link overwrote, and its header's length if that is left; behind it the block ends, or another cell has room. Or 0.
+    pub fn freed_head(&self, record: &mut Record, skip: usize) -> usize {
+        let (place, end) = (self.start_of(record), self.end_of(record));
+        let rest = self.block_end[place].wrapping_sub(end);
         if (1..LINK).contains(&rest) {
-            return false;
+            return 0;
         }
         // Its length may be larger than the row: then what reads as its id is none.
         if record.row.id.take().is_some() {
-            return skip == 0 && self.has_cell(record);
+            return if skip == 0 { self.cell_head(record) } else { 0 };
         }
-        // Three bytes are before the types of a short row with a short id, so that one of these is lost.
-        if skip == 0 && record.row.consumed < 127 && !self.has_long_ids() {
-            return false;
+        if self.lost_type(record, skip) {
+            return 0;
         }
         let types = record.entries[0].start as usize - place;
         // The last byte of the header's length.
         let length = (types + if types > 126 { 2 } else { 1 }) & 0x7f;
         let most = if skip > 0 { LINK } else { MOST_BEFORE };
-        (LINK..=most.min(place)).any(|before| {
-            self.begins[place - before]
-                && (before == LINK || usize::from(self.bytes[place - 1]) == length)
-        })
+        let stands = |before: &usize| {
+            let (at, left) = (place - before, place - usize::from(*before > LINK));
+            (self.begins[at] || self.was_freed(at, left, end))
+                && (*before == LINK || usize::from(self.bytes[place - 1]) == length)
+        };
+        (LINK..=most.min(place)).find(stands).unwrap_or(0)
+    }
+
+    /// Whether a row of the gap stands behind a freed cell's link, and behind it another one or the gap's end. What has more of its cell
+    /// than its types is left to the scan.
+    pub fn is_freed_in_gap(&self, record: &Record, gap: (usize, usize), skip: usize) -> bool {
+        let (place, behind) = (self.start_of(record), self.end_of(record));
+        record.row.id.is_none()
+            && place >= gap.0 + LINK
+            && self.was_freed(place - LINK, place, behind)
+            && (behind + LINK > gap.1 || self.link_end(behind) != 0)
+            && !self.lost_type(record, skip)
+    }
+
+    /// The stretches of the gap that links say they are of.
+    pub fn stretches(&self, gap: (usize, usize)) -> Vec<Range<usize>> {
+        let (mut start, content) = gap;
+        let mut found = Vec::new();
+        while start < content {
+            let (mut at, mut end) = (start, start + 1);
+            while self.link_end(start) != 0 && at <= end && at < content {
+                end = end.max(self.link_end(at));
+                at += 1;
+            }
+            if self.link_end(start) != 0 {
+                found.push(start..end.min(content));
+            }
+            start = end;
+        }
+        found
     }
 }

@@ -43,6 +43,9 @@ static const char USAGE[] =
 /* Rows below it are printed only if all are asked for. */
 static const float KEPT = 0.85f;
 
+/* A whole cell from there on has its bytes for itself, printed or not: it may stand in what is left of an older row. */
+static const float STANDS = 0.5f;
+
 /* What the lists of a page's rows may take, in words: 64 MiB. Memory that is not written costs nothing. */
 enum { LIST_WORDS = 8 << 20 };
 
@@ -68,7 +71,7 @@ struct job {
     size_t gap, content; /* where the gap between the cell pointers and the content starts and ends */
     size_t block_end[LARGEST_PAGE];   /* of the freed block that holds a place, or 0 */
     uint8_t begins[LARGEST_PAGE + 1]; /* whether a freed cell begins at a place: a block, or what is behind a row in one */
-    uint8_t taken[LARGEST_PAGE];      /* whether a place is in a row that was kept */
+    uint8_t taken[LARGEST_PAGE];      /* whether a place is in a cell that has its bytes for itself */
     uint8_t seen[LARGEST_PAGE + 1];   /* whether a row was kept whose values behind the key start there */
     uint64_t *lists;
     uint64_t rows, left_out, refused;
@@ -255,13 +258,14 @@ static uint64_t take_row(struct job *job, const uint64_t *row, const uint64_t *e
     uint8_t *seen = &job->seen[entries[first * PHS_WORDS_PER_ENTRY + PHS_ENTRY_START]];
 
     *kept = !*seen && head > 0 && is_likely(job, row, entries, skip, head);
+    if (*kept || (head > 0 && row[PHS_ROW_HAS_ID] && confidence(row) >= STANDS))
+        memset(job->taken + start_of(job, row) - head, 1, head + (size_t)row[PHS_ROW_CONSUMED]);
     if (!*kept && (*seen || !job->all)) {
         job->left_out += !*seen;
         return PHS_OK;
     }
     if (*kept) {
         *seen = 1;
-        memset(job->taken + start_of(job, row) - head, 1, head + (size_t)row[PHS_ROW_CONSUMED]);
         job->begins[end_of(job, row)] = 1;
     }
     job->rows++;

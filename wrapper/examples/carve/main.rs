@@ -38,6 +38,9 @@ PAGE is the page size, if it is not to be the one that the file's header names.
 /// Rows below it are printed only if all are asked for.
 const KEPT: f32 = 0.85;
 
+/// A whole cell from there on has its bytes for itself, printed or not: it may stand in what is left of an older row.
+const STANDS: f32 = 0.5;
+
 /// Of the file format.
 const SMALLEST_PAGE: usize = 512;
 const LARGEST_PAGE: usize = 65_536;
@@ -358,9 +361,12 @@ impl Carving<'_> {
         let says = record.entries.iter().any(|entry| entry.kind != 0);
         let likely = record.row.confidence >= KEPT && says;
         let kept = !seen && head > 0 && likely && page.is_free(record, head);
+        if kept || head > 0 && record.row.id.is_some() && record.row.confidence >= STANDS {
+            page.take(record, head);
+        }
         if kept {
             page.seen[values] = true;
-            page.keep(record, head);
+            page.begin_behind(record);
         }
         if !kept && (seen || !self.job.all) {
             self.left_out += u64::from(!seen);

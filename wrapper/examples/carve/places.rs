@@ -23,7 +23,7 @@ pub struct Page<'a> {
     block_end: Vec<usize>,
     /// Whether a freed cell begins at a place: a block, or what is behind a row in one.
     begins: Vec<bool>,
-    /// Whether a place is in a row that was kept.
+    /// Whether a place is in a cell that has its bytes for itself.
     taken: Vec<bool>,
     /// Whether a row was kept whose values behind the key start at a place.
     pub seen: Vec<bool>,
@@ -92,14 +92,20 @@ impl<'a> Page<'a> {
         self.block_end[self.start_of(record)] != 0
     }
 
-    /// Whether no row that was kept has any of its bytes, or of the `head` ones before it.
+    /// Whether no other row has any of its bytes, or of the `head` ones before it.
     pub fn is_free(&self, record: &Record, head: usize) -> bool {
         !self.taken[self.start_of(record) - head..self.end_of(record)].contains(&true)
     }
 
-    pub fn keep(&mut self, record: &Record, head: usize) {
+    /// No other row may have its bytes and the `head` ones before it.
+    pub fn take(&mut self, record: &Record, head: usize) {
         let (start, end) = (self.start_of(record), self.end_of(record));
         self.taken[start - head..end].fill(true);
+    }
+
+    /// A freed cell begins where the row ends.
+    pub fn begin_behind(&mut self, record: &Record) {
+        let end = self.end_of(record);
         self.begins[end] = true;
     }
 

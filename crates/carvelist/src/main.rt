@@ -54,8 +54,9 @@ fn say_aside(text: &[u8]) {
 
 fn say_reads() {
     say_aside(
-        b" reads from standard input: how many columns, in two bytes, high byte first; a hint code for each; and the region; 65,536 bytes in all at the most\n",
+        b" reads from standard input: how many columns, in two bytes, high byte first; a hint code for each; ",
     );
+    say_aside(b"and the region; 65,536 bytes in all at the most\n");
 }
 
 // What the number means here; `judge` gives these three.

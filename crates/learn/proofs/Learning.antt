@@ -14,9 +14,9 @@ use lib.ListN.{length, take, set, length-append}
 use lib.Seq.{take-all, take-append-le}
 use Rattle.record.proofs.Numbers.{by-order}
 use Rattle.record.specs.declared.entry.Entry.{Entry}
-use Rattle.sheet.specs.Filled.{filledNumber, filledWritten, filledBy, writtenAfter, laid}
+use Rattle.sheet.specs.Filled.{filledNumber, filledWritten, filledBy, laid}
 use Rattle.sheet.specs.Limits.{largestRegion, countFits}
-use Rattle.sheet.specs.Refusal.{firstHeld, after}
+use Rattle.sheet.specs.Refusal.{firstHeld}
 use Rattle.sheet.specs.Sheet.{overlay}
 use Rattle.sheet.specs.declared.filled.Filled.{Filled}
 use Rattle.sheet.specs.declared.filled.Filled.the-variants.{Refused}
@@ -26,7 +26,7 @@ use Rattle.sheet.specs.declared.refusal.Refusal.{Refusal}
 use Rattle.sheet.specs.declared.refusal.Refusal.the-variants.{ColumnCount, Malformed, TooLarge}
 use Rattle.sheet.proofs.Laws.{overlay-length, overlay-more, Numbers, filled-numbers}
 use Rattle.learn.specs.Inner.{judgedRows}
-use Rattle.learn.specs.Learn.{mostRows, rowCount, rowsIn, rowsOf, badRows, hintOf, hintsBelow, longest, hintsOf, miscounted, malformed, tooLarge, learned, learnNumber, learnWritten, learnChecks, learnAnswer, learnTypes}
+use Rattle.learn.specs.Learn.{mostRows, rowCount, rowsIn, rowsOf, badRows, hintOf, hintsBelow, longest, hintsOf, tooLarge, learned, learnNumber, learnWritten, learnChecks, learnAnswer, learnTypes}
 use Rattle.learn.specs.declared.learn.Judged.the-variants.{Columns, Bad}
 use Rattle.learn.proofs.Rows.{longest-most}
 
@@ -98,18 +98,8 @@ module _ (s : List ℕ) (width : ℕ) (words : List ℕ) {columns : ℕ} (good :
 -- THE LAW: its number is that of the first check that holds
 numbers : (s : List ℕ) (width : ℕ) (words : List ℕ) (room : ℕ) →
     Numbers (learnAnswer s width words room) (learnNumber s width words room) (learnWritten s width words room)
-unfolding learnAnswer learnChecks learnNumber learnWritten
-numbers s width words room = go (miscounted width) (malformed s width words) (tooLarge s width words)
-  where
-    go : (a b c : Bool) →
-        let checked = cond a (Stopped ColumnCount) (cond b (Stopped Malformed) (cond c (Stopped TooLarge) Passed)) in
-        let number : ℕ = cond a 1 (cond b 2 (cond c 3 (cond (ltb room (length (learned s width words))) 9 0))) in
-        Numbers (after Refused checked (filledBy (length (learned s width words)) room)) number
-        (writtenAfter number (length (learned s width words)) room)
-    go true b c = (refl, refl)
-    go false true c = (refl, refl)
-    go false false true = (refl, refl)
-    go false false false = filled-numbers (length (learned s width words)) room
+unfolding learnAnswer learnNumber learnWritten
+numbers s width words room = filled-numbers (firstHeld (learnChecks s width words)) (length (learned s width words)) room
 
 abbrev Answers : List ℕ → ℕ → List ℕ → List ℕ → Filled → List ℕ → Type 0
 Answers s width words old r list =

@@ -9,13 +9,13 @@ use Rattle.record.specs.Entry.{unusedState, readEntry}
 use Rattle.record.specs.declared.entry.Entry.{Entry}
 use Rattle.record.specs.declared.entry.EntryRead.{EntryRead}
 use Rattle.record.specs.declared.entry.EntryRead.the-variants.{Of, Refused as Bad}
-use Rattle.sheet.specs.Filled.{filledBy, writtenAfter, laid}
+use Rattle.sheet.specs.Filled.{filledBy, numberAfter, writtenAfter, laid}
 use Rattle.sheet.specs.Limits.{wordsPerEntry, largestRegion, countFits}
-use Rattle.sheet.specs.Refusal.{Check, firstHeld, refusalNumber, after, afterOrKept}
+use Rattle.sheet.specs.Refusal.{Check, firstHeld, after, afterOrKept}
 use Rattle.sheet.specs.Sheet.{entriesIn}
 use Rattle.sheet.specs.declared.filled.Filled.{Filled}
 use Rattle.sheet.specs.declared.filled.Filled.the-variants.{Refused}
-use Rattle.sheet.specs.declared.refusal.Refusal.the-variants.{ColumnCount, Malformed, TooLarge, NoRoom}
+use Rattle.sheet.specs.declared.refusal.Refusal.the-variants.{ColumnCount, Malformed, TooLarge}
 use Rattle.learn.specs.Types.{valueType, commonestOf}
 
 -- the most rows to learn from
@@ -123,19 +123,7 @@ tooLarge s width words = ltb largestRegion (length s) || ltb mostRows (rowCount 
 abbrev pub learned : List ℕ → ℕ → List ℕ → List ℕ
 learned s width words = hintsOf s (rowsOf width words)
 
--- Rule 13.1: the number that the call answers with; 0 stands for none
-unfoldable pub learnNumber : List ℕ → ℕ → List ℕ → ℕ → ℕ
-learnNumber s width words room =
-    cond (miscounted width) (refusalNumber ColumnCount)
-    (cond (malformed s width words) (refusalNumber Malformed)
-    (cond (tooLarge s width words) (refusalNumber TooLarge)
-    (cond (ltb room (length (learned s width words))) (refusalNumber NoRoom) 0)))
-
--- and how many hints it says are written
-unfoldable pub learnWritten : List ℕ → ℕ → List ℕ → ℕ → ℕ
-learnWritten s width words room = writtenAfter (learnNumber s width words room) (length (learned s width words)) room
-
--- the checks that leave the list as it was
+-- Rule 13.1: their order; each leaves the list as it was
 unfoldable pub learnChecks : List ℕ → ℕ → List ℕ → List Check
 learnChecks s width words =
     record { refusal = ColumnCount; holds = miscounted width }
@@ -143,7 +131,15 @@ learnChecks s width words =
     ∷ record { refusal = TooLarge; holds = tooLarge s width words }
     ∷ []
 
--- what the call returns, by the slice, the width, the entries' words and how many cells are lent
+-- Rule 13.1: the number that the call answers with, and how many hints it says are written, by the slice, the width, the entries' words and how
+-- many cells are lent
+unfoldable pub learnNumber : List ℕ → ℕ → List ℕ → ℕ → ℕ
+learnNumber s width words room = numberAfter (firstHeld (learnChecks s width words)) (length (learned s width words)) room
+
+unfoldable pub learnWritten : List ℕ → ℕ → List ℕ → ℕ → ℕ
+learnWritten s width words room = writtenAfter (firstHeld (learnChecks s width words)) (length (learned s width words)) room
+
+-- what the call returns
 unfoldable pub learnAnswer : List ℕ → ℕ → List ℕ → ℕ → Filled
 learnAnswer s width words room = after Refused (firstHeld (learnChecks s width words)) (filledBy (length (learned s width words)) room)
 

@@ -95,7 +95,4 @@ pagedNumber (At start len head) = 0
 pagedNumber (Refused r) = refusalNumber r
 
 unfoldable pub pageRefusal : ℕ → ℕ → ℕ → ℕ
-pageRefusal len size p =
-    cond (ltb largestRegion len) (refusalNumber TooLarge)
-    (cond (not (sizeFits size)) (refusalNumber PageSize)
-    (cond (not (hasPage len size p)) (refusalNumber NoSuchPage) 0))
+pageRefusal len size p = after refusalNumber (firstHeld (pageChecks len size p)) 0

@@ -1,19 +1,17 @@
 -- Demand 3 of `phs_scan_region`: what it returns and leaves is the sheet and the count of the scan rule, so two regions that agree at the header
 -- places of the first give the same ones here, too.
 -- Assumes nothing.
-use Prim.Native.Nat.{ℕ, _*_, _≤_}
+use Prim.Native.Nat.{ℕ}
 use mathlib.Core.Path.{_≡_, sym, _∙_}
 use contract.Lifetimes.{Lfts}
 use denote.Ref.{now}
 use denote.Triple.Clauses.{AtExit}
 use borrow.Fn.Kinds.{Dens, resT, endedOf}
 use lib.ListN.{length, getD}
-use Rattle.attempt.specs.Places.{mostPlaces}
 use Rattle.scan.proofs.Laws.{count-passed}
 use Rattle.scan.proofs.Leaving.{sheet-left, count-left}
 use Rattle.scan.proofs.SameRun.{same-sheet}
-use Rattle.scan.specs.Scan.{finishedPlaces, triedOffsets}
-use Rattle.scan.specs.Sheet.{Sheet, sheetOf, Asked, asked, askedChecked, askedRun, askedSheet, askedCount, Alike}
+use Rattle.scan.specs.Sheet.{Sheet, sheetOf, Asked, asked, askedChecked, askedSheet, askedCount, Alike, Counts}
 use Rattle.sheet.specs.declared.refusal.Checked.the-variants.{Passed}
 use Rattle.phsarodil.proofs.rows.phs_scan_region.Kinds as kinds
 use Rattle.phsarodil.proofs.rows.phs_scan_region.Reads as phs-scan-region
@@ -46,8 +44,6 @@ module _ (k : Lfts 5) where
       let same = same-sheet (question a) (question b) e in
       (first .0 ∙ same .0 ∙ sym (second .0), first .1 ∙ same .1 ∙ sym (second .1))
 
-  -- of a call that is not refused, the count is at most 520 for each offset tried
-  pub counts-places : (a : Dens k kinds.ps) (x : resT kinds.r k .Denot) (s : AtExit (endedOf 5 kinds.ps kinds.r) k) → phs-scan-region.Post k a x s → askedChecked (question a) ≡ Passed →
-      let t = askedRun (question a) in
-      (word s 2 ≡ length (finishedPlaces (now (a .0)) t)) × (length (finishedPlaces (now (a .0)) t) ≤ mostPlaces * triedOffsets t)
+  pub counts-places : (a : Dens k kinds.ps) (x : resT kinds.r k .Denot) (s : AtExit (endedOf 5 kinds.ps kinds.r) k) → phs-scan-region.Post k a x s
+      → askedChecked (question a) ≡ Passed → Counts (question a) (word s 2)
   counts-places a x s p e = count-passed (question a) (word s 2) (sheet-is a x s p .1) e

@@ -55,8 +55,8 @@ takenFrom v (ended at) = cond (leb (at - v) mostTypeBytes) (takes (at - v)) noHe
 takenFrom v cut = noHeader
 takenFrom v (kind t rest) = takenFrom v rest
 
--- Rule 11.6: the one-byte mode has a byte for each column; rule 11.9: the exact mode reads so many types. More columns than `mostBy` are refused
--- before a header is rebuilt (rule 11.10, `tooWide` of crate carving), so no answer comes of this definition there.
+-- Rule 11.6: the one-byte mode has a byte for each column; rule 11.9: the exact mode reads so many types. More columns than `mostBy` are
+-- refused before a header is rebuilt (rule 11.10, `tooWide` of crate carving), so no answer comes of this definition there.
 unfoldable pub guessed : Rebuilding → List ℕ → ℕ → ℕ → Guess
 guessed OneByte d columns v = takes columns
 guessed Exact d columns v = takenFrom v (exactTypes d columns v)

@@ -2,16 +2,14 @@
 -- hints, base, start and room, that agree at every header place of the first give the same sheet and the same count, whatever the lists held and
 -- however long they are. The count is the number of header places of the attempts that the scan finished with.
 -- Assumes nothing.
-use Prim.Native.Nat.{_*_, _≤_}
 use mathlib.Core.Path.{_≡_, sym, _∙_}
 use contract.Lifetimes.{Lfts}
 use denote.Ref.{now}
 use denote.Triple.Clauses.{AtExit}
 use borrow.Fn.Kinds.{Dens, resT, endedOf}
 use lib.ListN.{length}
-use Rattle.attempt.specs.Places.{mostPlaces}
-use Rattle.scan.specs.Scan.{finishedPlaces, triedOffsets, numberOf, writtenOf, placeOf, readOf}
-use Rattle.scan.specs.Sheet.{Sheet, sheetOf, Asked, asked, askedChecked, askedRun, askedSheet, askedCount, Alike}
+use Rattle.scan.specs.Scan.{numberOf, writtenOf, placeOf, readOf}
+use Rattle.scan.specs.Sheet.{Sheet, sheetOf, Asked, asked, askedChecked, askedSheet, askedCount, Alike, Counts}
 use Rattle.scan.proofs.Leaving.{sheet-left, count-left}
 use Rattle.scan.proofs.Laws.{count-passed}
 use Rattle.scan.proofs.SameRun.{same-sheet}
@@ -45,8 +43,6 @@ module _ (k : Lfts 4) where
       let same = same-sheet (question a) (question b) e in
       (first .0 ∙ same .0 ∙ sym (second .0), first .1 ∙ same .1 ∙ sym (second .1))
 
-  -- of a call that is not refused, the count is at most 520 for each offset tried
-  pub counts-places : (a : Dens k kinds.ps) (x : resT kinds.r k .Denot) (s : AtExit (endedOf 4 kinds.ps kinds.r) k) → scan-region.Post k a x s → askedChecked (question a) ≡ Passed →
-      let t = askedRun (question a) in
-      (readOf x ≡ length (finishedPlaces (now (a .0)) t)) × (length (finishedPlaces (now (a .0)) t) ≤ mostPlaces * triedOffsets t)
+  pub counts-places : (a : Dens k kinds.ps) (x : resT kinds.r k .Denot) (s : AtExit (endedOf 4 kinds.ps kinds.r) k) → scan-region.Post k a x s
+      → askedChecked (question a) ≡ Passed → Counts (question a) (readOf x)
   counts-places a x s p e = count-passed (question a) (readOf x) (sheet-is a x s p .1) e

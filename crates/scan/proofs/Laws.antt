@@ -10,7 +10,7 @@ use Rattle.attempt.specs.Attempt.{Tried, miss, hit, attemptAt}
 use Rattle.attempt.specs.Places.{mostPlaces}
 use Rattle.record.proofs.Numbers.{by-order}
 use Rattle.scan.specs.Scan.{Run, through, noRoom, missed, found, scanFrom, rowCount, finishedPlaces, triedOffsets, endOf, answerOf, scanChecked, scanAnswer, writtenOf, readOf}
-use Rattle.scan.specs.Sheet.{Asked, askedChecked, askedRun, askedCount}
+use Rattle.scan.specs.Sheet.{Asked, askedChecked, askedRun, askedCount, Counts}
 use Rattle.scan.specs.declared.schema_sig.Scanned.{Scanned}
 use Rattle.scan.specs.declared.schema_sig.Scanned.the-variants.{Full, Refused}
 pub use Rattle.scan.proofs.Running.{scan-none, scan-missed, scan-found, scan-full, scan-end}
@@ -100,8 +100,9 @@ scan-bounded s hints base start rows cols = go (scanChecked s hints base) (roomO
         (omega (arith, g .few, finished-few s t)) t (λ r. goes-past s hints room (length s) start r)
     go (Held r) room = record { rows-fit = omega arith; read-few = omega arith; past = λ n q k e. absurd (let z : _≡_ {A = ℕ} 0 1 = cc in omega arith) }
 
--- ---- the count: that of a call that no check refuses is the number of header places, at most 520 for each offset tried
-pub count-passed : (a : Asked) (count : ℕ) → count ≡ askedCount a → askedChecked a ≡ Passed
-    → (count ≡ length (finishedPlaces (a .region) (askedRun a))) × (length (finishedPlaces (a .region) (askedRun a)) ≤ mostPlaces * triedOffsets (askedRun a))
+-- ---- the count of a call that no check refuses
+pub count-passed : (a : Asked) (count : ℕ) → count ≡ askedCount a → askedChecked a ≡ Passed → Counts a count
 unfolding askedCount
-count-passed a count is e = (rw e at is, finished-few (a .region) (askedRun a))
+count-passed a count is e =
+    let n : count ≡ length (finishedPlaces (a .region) (askedRun a)) = rw e at is in
+    record { places = n; few = omega (arith, n, finished-few (a .region) (askedRun a)) }

@@ -1,14 +1,15 @@
 -- The layout sheet of a scan, and the places that decide it (rules 4.14 and 4.15).
 -- Assumes nothing.
-use Prim.Native.Nat.{ℕ, _*_}
+use Prim.Native.Nat.{ℕ, _*_, _≤_}
 use mathlib.Core.Path.{_≡_}
 use mathlib.Core.List.{List, [], _++_}
 use lib.ListN.{length, take}
+use Rattle.attempt.specs.Places.{mostPlaces}
 use Rattle.attempt.specs.Values.{rowValues}
 use Rattle.record.specs.Places.{AgreeAt}
 use Rattle.record.specs.declared.record.Value.{Value}
 use Rattle.scan.specs.Once.{onceRun}
-use Rattle.scan.specs.Scan.{Run, through, noRoom, missed, found, rowsOf, rowCount, entriesOf, runNumber, runPlace, allPlaces, finishedPlaces, scanFrom, scanChecked}
+use Rattle.scan.specs.Scan.{Run, through, noRoom, missed, found, rowsOf, rowCount, entriesOf, runNumber, runPlace, allPlaces, finishedPlaces, triedOffsets, scanFrom, scanChecked}
 use Rattle.sheet.specs.Columns.{roomOf}
 use Rattle.sheet.specs.Limits.{wordsPerRow, wordsPerEntry}
 use Rattle.sheet.specs.Refusal.{refusalNumber, after, afterOr0, afterOrKept}
@@ -74,6 +75,11 @@ pub record Alike (a b : Asked) : Type 0 where
   pub start-same : a .start ≡ b .start
   pub room-same : a .room ≡ b .room
   pub places-agree : AgreeAt (a .region) (b .region) (askedPlaces a)
+
+-- Demand 3: the count is the number of header places of the attempts that the scan finished with, at most 520 for each offset tried
+pub record Counts (a : Asked) (count : ℕ) : Type 0 where
+  pub places : count ≡ length (finishedPlaces (a .region) (askedRun a))
+  pub few : count ≤ mostPlaces * triedOffsets (askedRun a)
 
 -- Rule 4.13: the values of the rows that a run finds, row by row, and of those of a call
 abbrev pub runValues : List ℕ → Run → List Value

@@ -9,21 +9,19 @@ use native.Mathlib.Decide.{ℕ-discrete, le-ind}
 use native.Mathlib.Numerals.{add-one}
 use native.Mathlib.Omega.{arith}
 use borrow.Author.Tests.{eq-eqb, eqb-true, eqb-false, le-leb, lt-leb}
-use lib.Dec.{eqb, ltb}
+use lib.Dec.{eqb}
 use lib.ListN.{length, getD, drop, set, replicate, length-append, length-drop, length-set, length-replicate, getD-replicate}
 use lib.Seq.{sets, length-sets, set-out, getD-set-same, getD-set-other, getD-drop, take-all, take-at}
 use Rattle.record.proofs.Numbers.{by-test}
-use Rattle.sheet.specs.Filled.{filledNumber, filledWritten, filledBy, writtenAfter, laid}
+use Rattle.sheet.specs.Filled.{filledNumber, filledWritten, filledBy, laid}
 use Rattle.sheet.specs.Limits.{largestRegion}
-use Rattle.sheet.specs.Refusal.{after}
+use Rattle.sheet.specs.Refusal.{firstHeld}
 use Rattle.sheet.specs.Sheet.{overlay}
 use Rattle.sheet.specs.declared.filled.Filled.{Filled}
-use Rattle.sheet.specs.declared.filled.Filled.the-variants.{Done, Full, Refused}
-use Rattle.sheet.specs.declared.refusal.Checked.the-variants.{Passed, Refused as Stopped}
-use Rattle.sheet.specs.declared.refusal.Refusal.the-variants.{TooLarge}
+use Rattle.sheet.specs.declared.filled.Filled.the-variants.{Done, Full}
 use Rattle.sheet.proofs.Laws.{overlay-length, overlay-more, Numbers, filled-numbers}
 use Rattle.search.specs.Inner.{Tells, AtMost, Entered, lastOf, Staying, Windows, Skips}
-use Rattle.search.specs.Search.{matches, standsAt, placeAt, placesBelow, placesOf, tooLarge, searchNumber, searchWritten, searchAnswer, searchPlaces}
+use Rattle.search.specs.Search.{matches, standsAt, placeAt, placesBelow, placesOf, searchChecks, searchNumber, searchWritten, searchAnswer, searchPlaces}
 
 -- ---- a match, byte by byte
 matches-fits : (p s : List ℕ) → matches p s ≡ true → length p ≤ length s
@@ -336,14 +334,7 @@ module _ {haystack pattern old places : List ℕ} {at n : ℕ} (s : Seen haystac
 numbers : (haystack pattern : List ℕ) (room : ℕ) →
     Numbers (searchAnswer haystack pattern room) (searchNumber haystack pattern room) (searchWritten haystack pattern room)
 unfolding searchAnswer searchNumber searchWritten
-numbers haystack pattern room = go (tooLarge haystack)
-  where
-    go : (large : Bool) →
-        let number : ℕ = cond large 3 (cond (ltb room (length (placesOf haystack pattern))) 9 0) in
-        Numbers (after Refused (cond large (Stopped TooLarge) Passed) (filledBy (length (placesOf haystack pattern)) room)) number
-        (writtenAfter number (length (placesOf haystack pattern)) room)
-    go true = (refl, refl)
-    go false = filled-numbers (length (placesOf haystack pattern)) room
+numbers haystack pattern room = filled-numbers (firstHeld (searchChecks haystack)) (length (placesOf haystack pattern)) room
 
 pub answers : (haystack pattern old : List ℕ) {r : Filled} {list : List ℕ} →
     (r ≡ searchAnswer haystack pattern (length old)) × (list ≡ searchPlaces haystack pattern old) →

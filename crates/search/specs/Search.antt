@@ -5,12 +5,12 @@ use mathlib.Core.Bool.{Bool, true, false, cond, _&&_}
 use mathlib.Core.List.{List, [], _∷_, _++_}
 use lib.Dec.{eqb, ltb}
 use lib.ListN.{length, drop}
-use Rattle.sheet.specs.Filled.{filledBy, writtenAfter, laid}
+use Rattle.sheet.specs.Filled.{filledBy, numberAfter, writtenAfter, laid}
 use Rattle.sheet.specs.Limits.{largestRegion}
-use Rattle.sheet.specs.Refusal.{Check, firstHeld, refusalNumber, after, afterOrKept}
+use Rattle.sheet.specs.Refusal.{Check, firstHeld, after, afterOrKept}
 use Rattle.sheet.specs.declared.filled.Filled.{Filled}
 use Rattle.sheet.specs.declared.filled.Filled.the-variants.{Refused}
-use Rattle.sheet.specs.declared.refusal.Refusal.the-variants.{TooLarge, NoRoom}
+use Rattle.sheet.specs.declared.refusal.Refusal.the-variants.{TooLarge}
 
 -- ---- places
 
@@ -44,21 +44,18 @@ placesOf haystack (p ∷ pattern) = placesBelow haystack (p ∷ pattern) (length
 abbrev pub tooLarge : List ℕ → Bool
 tooLarge haystack = ltb largestRegion (length haystack)
 
--- Rule 1.1: the number that the call answers with; 0 stands for none
-unfoldable pub searchNumber : List ℕ → List ℕ → ℕ → ℕ
-searchNumber haystack pattern room =
-    cond (tooLarge haystack) (refusalNumber TooLarge)
-    (cond (ltb room (length (placesOf haystack pattern))) (refusalNumber NoRoom) 0)
-
--- and how many places it says are written
-unfoldable pub searchWritten : List ℕ → List ℕ → ℕ → ℕ
-searchWritten haystack pattern room = writtenAfter (searchNumber haystack pattern room) (length (placesOf haystack pattern)) room
-
 -- the check that leaves the list as it was
 abbrev pub searchChecks : List ℕ → List Check
 searchChecks haystack = record { refusal = TooLarge; holds = tooLarge haystack } ∷ []
 
--- what a search answers, with so many cells lent
+-- Rule 1.1: the number that the call answers with, and how many places it says are written, with so many cells lent
+unfoldable pub searchNumber : List ℕ → List ℕ → ℕ → ℕ
+searchNumber haystack pattern room = numberAfter (firstHeld (searchChecks haystack)) (length (placesOf haystack pattern)) room
+
+unfoldable pub searchWritten : List ℕ → List ℕ → ℕ → ℕ
+searchWritten haystack pattern room = writtenAfter (firstHeld (searchChecks haystack)) (length (placesOf haystack pattern)) room
+
+-- what a search answers
 unfoldable pub searchAnswer : List ℕ → List ℕ → ℕ → Filled
 searchAnswer haystack pattern room = after Refused (firstHeld (searchChecks haystack)) (filledBy (length (placesOf haystack pattern)) room)
 

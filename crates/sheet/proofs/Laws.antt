@@ -14,15 +14,17 @@ use lib.Seq.{sets, sets-eq, take-append-seam, drop-append-add, drop-cons, drop-d
 use Rattle.record.proofs.Numbers.{by-order}
 use Rattle.record.specs.Entry.{badNumber}
 use Rattle.sheet.specs.Columns.{columnWords, unusedWords, roomOf}
-use Rattle.sheet.specs.Filled.{filledNumber, filledWritten, filledBy, writtenAfter}
+use Rattle.sheet.specs.Filled.{filledNumber, filledWritten, filledBy, numberAfter, writtenAfter}
 use Rattle.sheet.specs.Limits.{mostColumns, wordsPerRow, wordsPerEntry, largestRegion, largestBase, highestHint, countFits, hintsKnown}
-use Rattle.sheet.specs.Refusal.{refusalNumber, Check, firstHeld}
+use Rattle.sheet.specs.Refusal.{refusalNumber, Check, firstHeld, after}
 use Rattle.sheet.specs.Row.{rowWords}
 use Rattle.sheet.specs.Sheet.{overlay, rowsWords, columnsWords}
 use Rattle.sheet.specs.Slice.{sliceChecks}
 use Rattle.sheet.specs.declared.columns.Column.{Column}
 use Rattle.sheet.specs.declared.columns.Column.the-variants.{Body, Unfit, Lost, Unused}
 use Rattle.sheet.specs.declared.filled.Filled.{Filled}
+use Rattle.sheet.specs.declared.filled.Filled.the-variants.{Refused as Barred}
+use Rattle.sheet.specs.declared.refusal.Checked.{Checked}
 use Rattle.sheet.specs.declared.refusal.Checked.the-variants.{Passed, Refused}
 use Rattle.sheet.specs.declared.refusal.Refusal.{Refusal}
 use Rattle.sheet.specs.declared.refusal.Refusal.the-variants.{ColumnCount, Malformed, TooLarge, BaseTooFar, PageSize, NoSuchPage, NoColumnList, WalkSpace, NoRoom}
@@ -143,12 +145,13 @@ sets-next l at vs i h = rw (add-one, add-suc, drop-cons vs i 0)
 abbrev pub Numbers : Filled → ℕ → ℕ → Type 0
 Numbers answer number written = (filledNumber answer ≡ number) × (filledWritten answer ≡ written)
 
--- THE LAW: it is 9 where there are more things than cells, and as many are written as fit
-pub filled-numbers : (n room : ℕ) → let number : ℕ = cond (ltb room n) 9 0 in Numbers (filledBy n room) number (writtenAfter number n room)
-filled-numbers n room =
+-- THE LAW: they are those of the first check that holds; behind the checks it is 9 where there are more things than cells, and as many are written as fit
+pub filled-numbers : (c : Checked) (n room : ℕ) → Numbers (after Barred c (filledBy n room)) (numberAfter c n room) (writtenAfter c n room)
+filled-numbers (Refused r) n room = (refl, refl)
+filled-numbers Passed n room =
     by-order room n
-    (λ more. simp (lt-leb n room more, lt-ltb room n more, min-eq-right (le-of-lt more)) (refl, refl))
-    (λ fit. simp (le-leb n room fit, le-ltb room n fit, min-eq-left fit) (refl, refl))
+    (λ more. simp (lt-leb n room more, lt-ltb room n more, min-eq-left (le-of-lt more)) (refl, refl))
+    (λ fit. simp (le-leb n room fit, le-ltb room n fit, min-eq-right fit) (refl, refl))
 
 -- ---- room
 least : (b : Bool) (x y : ℕ) → cond b x (min x y) ≤ x

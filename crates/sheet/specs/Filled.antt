@@ -1,15 +1,16 @@
 -- Calls that fill one lent list: the numbers of their answer, and what the list holds in the end.
 -- Assumes nothing.
 use Prim.Native.Nat.{ℕ, min}
-use mathlib.Core.Bool.{cond, _&&_}
+use mathlib.Core.Bool.{cond}
 use mathlib.Core.List.{List}
-use lib.Dec.{leb}
+use lib.Dec.{ltb, leb}
 use lib.ListN.{length, take}
-use Rattle.sheet.specs.Refusal.{refusalNumber}
+use Rattle.sheet.specs.Refusal.{refusalNumber, after, afterOr0}
 use Rattle.sheet.specs.Sheet.{overlay}
 use Rattle.sheet.specs.declared.filled.Filled.{Filled}
 use Rattle.sheet.specs.declared.filled.Filled.the-variants.{Done, Full, Refused}
-use Rattle.sheet.specs.declared.refusal.Refusal.the-variants.{ColumnCount, NoColumnList, NoRoom}
+use Rattle.sheet.specs.declared.refusal.Checked.{Checked}
+use Rattle.sheet.specs.declared.refusal.Refusal.the-variants.{NoRoom}
 
 -- Rule 1.1: the number of an answer; 0 stands for none
 abbrev pub filledNumber : Filled → ℕ
@@ -27,10 +28,13 @@ filledWritten (Refused r) = 0
 abbrev pub filledBy : ℕ → ℕ → Filled
 filledBy n room = cond (leb n room) (Done n) (Full room)
 
--- and how many are written by a call that gives this number: none after 1 to 7, else as many as fit
-abbrev pub writtenAfter : ℕ → ℕ → ℕ → ℕ
-writtenAfter number n room =
-    cond (leb (refusalNumber ColumnCount) number && leb number (refusalNumber NoColumnList)) 0 (min n room)
+-- Rule 1.1: the number of a call whose checks come to c and that has n things for so many cells: that of the check, or 9 for one thing more
+abbrev pub numberAfter : Checked → ℕ → ℕ → ℕ
+numberAfter c n room = after refusalNumber c (cond (ltb room n) (refusalNumber NoRoom) 0)
+
+-- Rule 1.2: how many it says are written: none where a check refuses, else as many as fit
+abbrev pub writtenAfter : Checked → ℕ → ℕ → ℕ
+writtenAfter c n room = afterOr0 c (min room n)
 
 -- Rule 1.2: the first things over what a list held, as many as it has cells
 abbrev pub laid : {A : Type 0} → List A → List A → List A

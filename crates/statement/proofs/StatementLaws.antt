@@ -2,20 +2,20 @@
 -- Assumes nothing.
 use Prim.Native.Nat.{ℕ, _+_, _-_, _≤_, _<_}
 use mathlib.Core.Path.{_≡_, refl, sym, ap, _∙_}
-use mathlib.Core.Bool.{Bool, true, false, cond, not, and-eq-true-iff}
+use mathlib.Core.Bool.{true, false, cond, not, and-eq-true-iff}
 use mathlib.Core.List.{List, [], _∷_, _++_, append-nil, append-assoc}
 use native.Mathlib.Omega.{arith}
 use borrow.Author.Tests.{lt-ltb, le-ltb, le-leb, lt-leb, leb-true, leb-false}
 use lib.Dec.{ltb, leb}
 use lib.ListN.{length, take, drop, length-append}
 use lib.Seq.{sets, set-out, take-all, take-nil, take-append-seam, take-append-le, length-take-le}
-use Rattle.statement.specs.Statement.{largestStatement, opening, closing, between, pieceHints, allHints, hintsOf, tooLarge, unlisted, miscounted, statementNumber, statementWritten, statementChecks, statementAnswer, statementHints}
+use Rattle.statement.specs.Statement.{largestStatement, opening, closing, between, pieceHints, allHints, hintsOf, statementNumber, statementWritten, statementChecks, statementAnswer, statementHints}
 use Rattle.statement.specs.Inner.{Kept, PieceEnds, piecesFrom}
 use Rattle.statement.specs.Words.{trim, isNot, has, behindFirst, beforeLast, pieces}
 use Rattle.statement.proofs.WordsLaws.{behind-has, kept-has, kept-before, pieces-none}
-use Rattle.sheet.specs.Filled.{filledNumber, filledWritten, filledBy, writtenAfter, laid}
+use Rattle.sheet.specs.Filled.{filledNumber, filledWritten, laid}
 use Rattle.sheet.specs.Limits.{mostColumns, countFits}
-use Rattle.sheet.specs.Refusal.{firstHeld, after}
+use Rattle.sheet.specs.Refusal.{firstHeld}
 use Rattle.sheet.specs.declared.filled.Filled.{Filled}
 use Rattle.sheet.specs.declared.filled.Filled.the-variants.{Done, Full, Refused}
 use Rattle.sheet.specs.declared.refusal.Checked.the-variants.{Passed, Refused as Stopped}
@@ -97,17 +97,8 @@ fits-most n h = leb-true n mostColumns (and-eq-true-iff (leb 1 n) (leb n mostCol
 
 -- THE LAW: the number is that of the first check that holds
 numbers : (s : List ℕ) (room : ℕ) → Numbers (statementAnswer s room) (statementNumber s room) (statementWritten s room)
-unfolding statementAnswer statementChecks statementNumber statementWritten
-numbers s room = go (tooLarge s) (unlisted s) (miscounted s)
-  where
-    go : (a b c : Bool) →
-        let checked = cond a (Stopped TooLarge) (cond b (Stopped NoColumnList) (cond c (Stopped ColumnCount) Passed)) in
-        let number : ℕ = cond a 3 (cond b 7 (cond c 1 (cond (ltb room (length (hintsOf s))) 9 0))) in
-        Numbers (after Refused checked (filledBy (length (hintsOf s)) room)) number (writtenAfter number (length (hintsOf s)) room)
-    go true b c = (refl, refl)
-    go false true c = (refl, refl)
-    go false false true = (refl, refl)
-    go false false false = filled-numbers (length (hintsOf s)) room
+unfolding statementAnswer statementNumber statementWritten
+numbers s room = filled-numbers (firstHeld (statementChecks s)) (length (hintsOf s)) room
 
 abbrev Answers : List ℕ → List ℕ → Filled → List ℕ → Type 0
 Answers s old r hints =

@@ -7,12 +7,12 @@ use mathlib.Core.List.{List, [], _∷_, _++_}
 use lib.Dec.{ltb, eqb}
 use lib.ListN.{length}
 use Rattle.statement.specs.Words.{bytes, trim, has, behindFirst, beforeLast, pieces, secondWord, holds, startsWithOne, equalsOne}
-use Rattle.sheet.specs.Filled.{filledBy, writtenAfter, laid}
+use Rattle.sheet.specs.Filled.{filledBy, numberAfter, writtenAfter, laid}
 use Rattle.sheet.specs.Limits.{integerHint, realHint, textHint, blobHint, anyHint, countFits}
-use Rattle.sheet.specs.Refusal.{Check, firstHeld, refusalNumber, after, afterOrKept}
+use Rattle.sheet.specs.Refusal.{Check, firstHeld, after, afterOrKept}
 use Rattle.sheet.specs.declared.filled.Filled.{Filled}
 use Rattle.sheet.specs.declared.filled.Filled.the-variants.{Refused}
-use Rattle.sheet.specs.declared.refusal.Refusal.the-variants.{ColumnCount, TooLarge, NoColumnList, NoRoom}
+use Rattle.sheet.specs.declared.refusal.Refusal.the-variants.{ColumnCount, TooLarge, NoColumnList}
 
 -- the most bytes that a statement may have
 abbrev pub largestStatement : ℕ
@@ -93,19 +93,7 @@ unlisted s = not (has opening s) || not (has closing (behindFirst opening s))
 abbrev pub miscounted : List ℕ → Bool
 miscounted s = not (countFits (length (hintsOf s)))
 
--- Rule 6.6: the number that the call answers with; 0 stands for none
-unfoldable pub statementNumber : List ℕ → ℕ → ℕ
-statementNumber s room =
-    cond (tooLarge s) (refusalNumber TooLarge)
-    (cond (unlisted s) (refusalNumber NoColumnList)
-    (cond (miscounted s) (refusalNumber ColumnCount)
-    (cond (ltb room (length (hintsOf s))) (refusalNumber NoRoom) 0)))
-
--- and how many hints it says are written
-unfoldable pub statementWritten : List ℕ → ℕ → ℕ
-statementWritten s room = writtenAfter (statementNumber s room) (length (hintsOf s)) room
-
--- the checks that leave the list as it was
+-- Rule 6.6: their order; each leaves the list as it was
 unfoldable pub statementChecks : List ℕ → List Check
 statementChecks s =
     record { refusal = TooLarge; holds = tooLarge s }
@@ -113,7 +101,14 @@ statementChecks s =
     ∷ record { refusal = ColumnCount; holds = miscounted s }
     ∷ []
 
--- what the call returns, by the statement and how many cells are lent
+-- Rule 6.6: the number that the call answers with, and how many hints it says are written, by the statement and how many cells are lent
+unfoldable pub statementNumber : List ℕ → ℕ → ℕ
+statementNumber s room = numberAfter (firstHeld (statementChecks s)) (length (hintsOf s)) room
+
+unfoldable pub statementWritten : List ℕ → ℕ → ℕ
+statementWritten s room = writtenAfter (firstHeld (statementChecks s)) (length (hintsOf s)) room
+
+-- what the call returns
 unfoldable pub statementAnswer : List ℕ → ℕ → Filled
 statementAnswer s room = after Refused (firstHeld (statementChecks s)) (filledBy (length (hintsOf s)) room)
 

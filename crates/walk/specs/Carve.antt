@@ -1,21 +1,21 @@
 -- Carving over walks (rules 9.12 to 9.14): one definition for all that carve pages. A carver of pages knows of no room: that is applied once, at the end.
 -- Assumes nothing.
-use Prim.Native.Nat.{ℕ, suc, _+_, _-_, min, max}
+use Prim.Native.Nat.{ℕ, suc, _+_, _-_, max}
 use mathlib.Core.Bool.{Bool, true, false, cond, not, _&&_, _||_}
 use mathlib.Core.List.{List, [], _∷_, _++_}
 use lib.Dec.{ltb, eqb}
 use lib.ListN.{length, take, drop}
 use Rattle.page.specs.Page.{sizeFits, wholePages}
 use Rattle.sheet.specs.Columns.{unusedWords, roomOf}
-use Rattle.sheet.specs.Filled.{filledBy}
+use Rattle.sheet.specs.Filled.{filledBy, numberAfter, writtenAfter}
 use Rattle.sheet.specs.Limits.{largestRegion, countFits, hintsKnown}
-use Rattle.sheet.specs.Refusal.{Check, refusalNumber, after, afterOr0, afterOrKept}
+use Rattle.sheet.specs.Refusal.{Check, after, afterOrKept}
 use Rattle.sheet.specs.Sheet.{overlay, rowsWords, columnsWords}
 use Rattle.sheet.specs.declared.columns.Column.{Column}
 use Rattle.sheet.specs.declared.filled.Filled.{Filled}
 use Rattle.sheet.specs.declared.filled.Filled.the-variants.{Refused as Barred}
 use Rattle.sheet.specs.declared.refusal.Checked.{Checked}
-use Rattle.sheet.specs.declared.refusal.Refusal.the-variants.{ColumnCount, Malformed, TooLarge, PageSize, NoRoom}
+use Rattle.sheet.specs.declared.refusal.Refusal.the-variants.{ColumnCount, Malformed, TooLarge, PageSize}
 use Rattle.sheet.specs.declared.row.Row.{Row}
 use Rattle.walk.specs.Collect.{walkedOf, ifFlagged, walkNumber, walkWritten}
 use Rattle.walk.specs.Walk.{Walk, walk, hitsOf, overflows}
@@ -152,7 +152,7 @@ abbrev pub pageColsOf : Checked → List Hit → ℕ → List ℕ → List ℕ �
 pageColsOf c hits width rows cols = afterOrKept c (overlay (groupsWords width (take (roomOf (length rows) (length cols) width) hits)) cols) cols
 
 abbrev pub pageNumberOf : Checked → List Hit → ℕ → ℕ → ℕ → ℕ
-pageNumberOf c hits width rows cols = after refusalNumber c (cond (ltb (roomOf rows cols width) (length hits)) (refusalNumber NoRoom) 0)
+pageNumberOf c hits width rows cols = numberAfter c (length hits) (roomOf rows cols width)
 
 abbrev pub pageWrittenOf : Checked → List Hit → ℕ → ℕ → ℕ → ℕ
-pageWrittenOf c hits width rows cols = afterOr0 c (min (roomOf rows cols width) (length hits))
+pageWrittenOf c hits width rows cols = writtenAfter c (length hits) (roomOf rows cols width)

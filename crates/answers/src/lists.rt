@@ -1,0 +1,78 @@
+// Calls that fill a list of hints, places, leaves or types.
+use cases::case::number;
+use cases::case::slice;
+use cases::case::word_list;
+use cases::case::words;
+use cases::line::answered;
+use cases::line::say_bytes;
+use cases::line::say_list;
+use cases::lists::Cells;
+use phsarodil::learned::phs_learn_signatures;
+use phsarodil::lists::phs_boyer_moore_search;
+use phsarodil::lists::phs_from_create_sql;
+use phsarodil::pages::phs_collect_leaf_pages;
+use streams::Output;
+
+pub fn from_create_sql(said: Output, head: &[u8], body: &[u8], hints: &mut [u8]) -> Output {
+    let mut out = [0; 1];
+    let answer = phs_from_create_sql(slice(head, body, 0), hints, &mut out);
+    say_bytes(answered(said, answer, &[out[0]]), b"hints", hints)
+}
+
+pub fn boyer_moore_search(said: Output, head: &[u8], body: &[u8], places: &mut [u64]) -> Output {
+    let mut out = [0; 1];
+    let answer = phs_boyer_moore_search(
+        slice(head, body, 0),
+        slice(head, body, 1),
+        places,
+        &mut out,
+    );
+    say_list(
+        answered(said, answer, &[out[0]]),
+        b"places",
+        Cells::Words,
+        places,
+    )
+}
+
+pub fn collect_leaf_pages(
+    said: Output,
+    head: &[u8],
+    body: &[u8],
+    flags: &mut [u8],
+    stack: &mut [u64],
+    leaves: &mut [u64],
+) -> Output {
+    let mut out = [0; 1];
+    let answer = phs_collect_leaf_pages(
+        slice(head, body, 0),
+        number(head, 0),
+        number(head, 1),
+        flags,
+        stack,
+        leaves,
+        &mut out,
+    );
+    let said = say_bytes(answered(said, answer, &[out[0]]), b"flags", flags);
+    let said = say_list(said, b"stack", Cells::Words, stack);
+    say_list(said, b"leaves", Cells::Words, leaves)
+}
+
+pub fn learn_signatures(said: Output, head: &[u8], body: &[u8], types: &mut [u64]) -> Output {
+    let mut entries = word_list();
+    let n = words(slice(head, body, 1), &mut entries);
+    let mut out = [0; 1];
+    let answer = phs_learn_signatures(
+        slice(head, body, 0),
+        number(head, 0) as usize,
+        &entries[..n],
+        types,
+        &mut out,
+    );
+    say_list(
+        answered(said, answer, &[out[0]]),
+        b"types",
+        Cells::Words,
+        types,
+    )
+}

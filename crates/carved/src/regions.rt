@@ -1,0 +1,100 @@
+// Calls on a region or a block that is lent by itself.
+use cases::case::number;
+use cases::case::slice;
+use cases::case::word_list;
+use cases::case::words;
+use cases::line::answered;
+use cases::line::say_rows;
+use phsarodil::learned::phs_carve_unallocated;
+use phsarodil::modes::phs_carve_freeblock;
+use phsarodil::rows::phs_scan_region;
+use phsarodil::rows::phs_try_parse_record;
+use streams::Output;
+
+pub fn try_parse_record(
+    said: Output,
+    head: &[u8],
+    body: &[u8],
+    rows: &mut [u64],
+    cols: &mut [u64],
+) -> Output {
+    let mut out = [0; 3];
+    let answer = phs_try_parse_record(
+        slice(head, body, 0),
+        slice(head, body, 1),
+        number(head, 0),
+        number(head, 1) as usize,
+        rows,
+        cols,
+        &mut out,
+    );
+    say_rows(
+        answered(said, answer, &[out[0], out[1], out[2]]),
+        rows,
+        cols,
+    )
+}
+
+pub fn scan_region(
+    said: Output,
+    head: &[u8],
+    body: &[u8],
+    rows: &mut [u64],
+    cols: &mut [u64],
+) -> Output {
+    let mut out = [0; 3];
+    let answer = phs_scan_region(
+        slice(head, body, 0),
+        slice(head, body, 1),
+        number(head, 0),
+        number(head, 1) as usize,
+        rows,
+        cols,
+        &mut out,
+    );
+    say_rows(
+        answered(said, answer, &[out[0], out[1], out[2]]),
+        rows,
+        cols,
+    )
+}
+
+pub fn carve_freeblock(
+    said: Output,
+    head: &[u8],
+    body: &[u8],
+    rows: &mut [u64],
+    cols: &mut [u64],
+) -> Output {
+    let mut out = [0; 1];
+    let answer = phs_carve_freeblock(
+        slice(head, body, 0),
+        number(head, 0),
+        number(head, 1) as usize,
+        rows,
+        cols,
+        &mut out,
+    );
+    say_rows(answered(said, answer, &[out[0]]), rows, cols)
+}
+
+pub fn carve_unallocated(
+    said: Output,
+    head: &[u8],
+    body: &[u8],
+    rows: &mut [u64],
+    cols: &mut [u64],
+) -> Output {
+    let mut types = word_list();
+    let n = words(slice(head, body, 1), &mut types);
+    let mut out = [0; 1];
+    let answer = phs_carve_unallocated(
+        slice(head, body, 0),
+        &types[..n],
+        number(head, 0),
+        rows,
+        cols,
+        &mut out,
+    );
+    say_rows(answered(said, answer, &[out[0]]), rows, cols)
+}

@@ -1,0 +1,138 @@
+// A case: a head of words, and a body, which is its name and the bytes of its slices.
+use record::inner::big_endian;
+ghost use mathlib.Core.Path.{_≡_};
+ghost use lib.ListN.{length};
+ghost use Rattle.io.specs.Counts.{Counts};
+
+// Bytes of a head, and of a body at most;
+pub const HEAD: usize = 160;
+
+pub const BODY: usize = 100_000;
+
+// cells of a list, and words of a slice, at most.
+pub const CELLS: usize = 4_096;
+
+pub const WORDS: usize = 2_400;
+
+pub fn word_list() -> [u64; WORDS]
+    ensures { λ r. ⌜ 2400 ≡ length r ⌝ }
+{
+    [0; WORDS]
+}
+
+// Where the words of a head stand: eight numbers, where the name and each of five slices ends in the body, cells of four lists.
+const CALL: usize = 0;
+
+const NUMBERS: usize = 8;
+
+const ENDS: usize = 72;
+
+const LISTS: usize = 120;
+
+const RUST: usize = 152;
+
+// The largest index of each.
+const LAST_NUMBER: usize = 7;
+
+const LAST_SLICE: usize = 5;
+
+const LAST_LIST: usize = 3;
+
+// A word, highest byte first; 0 where the bytes end before it does.
+fn word_at(bytes: &[u8], at: usize) -> u64 {
+    if bytes.len() < 8 {
+        return 0;
+    }
+    if at > bytes.len() - 8 {
+        return 0;
+    }
+    big_endian(bytes, at, 8)
+}
+
+pub fn call(head: &[u8]) -> u64 {
+    word_at(head, CALL)
+}
+
+// Whether the Rust was asked and agreed; the oracle says so.
+pub fn has_rust(head: &[u8]) -> bool {
+    word_at(head, RUST) == 1
+}
+
+// A number of the call, the first by 0.
+pub fn number(head: &[u8], i: usize) -> u64 {
+    if i > LAST_NUMBER {
+        return 0;
+    }
+    word_at(head, NUMBERS + 8 * i)
+}
+
+// How many cells a list has: the first is of bytes, the others of words.
+pub fn cells(head: &[u8], i: usize) -> usize {
+    if i > LAST_LIST {
+        return 0;
+    }
+    word_at(head, LISTS + 8 * i) as usize
+}
+
+// Where a slice ends in the body, the first by 1; the name stands before it, and ends where 0 says.
+fn end(head: &[u8], i: usize) -> usize {
+    if i > LAST_SLICE {
+        return 0;
+    }
+    word_at(head, ENDS + 8 * i) as usize
+}
+
+// Bytes of the body.
+pub fn size(head: &[u8]) -> usize {
+    end(head, LAST_SLICE)
+}
+
+// Whether no part ends before it starts.
+pub fn is_whole(head: &[u8]) -> bool {
+    let mut i = 0;
+    while i < LAST_SLICE {
+        if end(head, i) > end(head, i + 1) {
+            return false;
+        }
+        i = i + 1;
+    }
+    true
+}
+
+// A part of the body, empty where the body does not have it.
+fn part(body: &[u8], from: usize, to: usize) -> &[u8] {
+    if to > body.len() {
+        return &body[..0];
+    }
+    if from > to {
+        return &body[..0];
+    }
+    &body[from..to]
+}
+
+pub fn name<'a>(head: &[u8], body: &'a [u8]) -> &'a [u8] {
+    part(body, 0, end(head, 0))
+}
+
+// A slice of the call, the first by 0.
+pub fn slice<'a>(head: &[u8], body: &'a [u8], i: usize) -> &'a [u8] {
+    if i >= LAST_SLICE {
+        return &body[..0];
+    }
+    part(body, end(head, i), end(head, i + 1))
+}
+
+// The words of a slice, eight bytes each, and how many; a rest is left out.
+pub fn words(bytes: &[u8], list: &mut [u64]) -> usize
+    ensures { λ r. ⌜ Counts r (now (list .exit)) ⌝ }
+{
+    let mut i = 0;
+    while i < list.len() {
+        if i >= bytes.len() / 8 {
+            return i;
+        }
+        list[i] = word_at(bytes, 8 * i);
+        i = i + 1;
+    }
+    i
+}

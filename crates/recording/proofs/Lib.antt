@@ -1,3 +1,0 @@
-pub mod Laws
-mod Recorded
-pub mod Unique

@@ -1,3 +1,0 @@
-mod Coded
-pub mod Unique
-mod Words

@@ -1,2 +1,0 @@
-// Recorded calls that write rows and column entries, each held to its recorded answer.
-pub mod rows;

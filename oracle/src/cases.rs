@@ -24,6 +24,7 @@ pub mod telling;
 pub mod values;
 pub mod varints;
 pub mod walks;
+pub mod worked;
 
 use crate::random::Random;
 use crate::runner::Sink;

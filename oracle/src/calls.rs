@@ -103,6 +103,12 @@ pub const CALLS: &[Call] = &[
 ];
 
 impl Call {
+    /// Whether a case has as many numbers, slices and lists as the call.
+    pub fn takes(&self, case: &Case) -> bool {
+        let shape = (case.numbers.len(), case.slices.len(), case.words.len(), case.lists.len());
+        shape == (self.numbers, self.slices, self.words, self.lists.len())
+    }
+
     pub fn writes_rows(&self) -> bool {
         self.lists.iter().any(|list| list.cell == Cell::Row)
     }

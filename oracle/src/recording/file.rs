@@ -37,6 +37,7 @@ pub fn put_heading(file: &mut Vec<u8>, name: &str) {
 }
 
 pub fn put_case(file: &mut Vec<u8>, name: &str, case: &Case, rust: bool) {
+    assert!(calls::of(case).takes(case));
     put(file, u64::from(case.call), name, case, rust);
 }
 

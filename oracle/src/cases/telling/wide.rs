@@ -1,5 +1,4 @@
-//! Tables of as many columns as there may be and of one more, in each call that is not on free space. Learned types and rows to
-//! learn from of more than a recorded slice of words has are left out.
+//! Tables of as many columns as there may be and of one more, in each call that is not on free space.
 
 use crate::calls::{LEARN, MODES, RECOVER_PAGE, RECOVER_SLICE, STATEMENT, UNALLOC};
 use crate::case::Case;
@@ -25,8 +24,10 @@ pub fn all(sink: &mut dyn Sink) {
         let statement = format!("({})", vec!["a"; columns].join(","));
         sink.put(Case::new(STATEMENT, &[], &[statement.as_bytes()], &[columns]));
         sink.put(Case::new(LEARN, &[columns as u64], &[&[7]], &[1]).with_words(&[&[]]));
+        let entries = [0, 1, 0, 1].repeat(columns);
+        sink.put(Case::new(LEARN, &[columns as u64], &[&[7]], &[columns]).with_words(&[&entries]));
     }
-    for columns in [127, 300] {
+    for columns in [127, 300, 510, 511] {
         let types = vec![9; columns];
         for read in [1, columns] {
             let mut region = header(&vec![(8, 1); read], 1);

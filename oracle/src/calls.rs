@@ -13,7 +13,7 @@ pub mod sheet;
 pub mod statement;
 pub mod value;
 
-use crate::case::{Answer, Case, Cell};
+use crate::case::{Answer, Case, Cell, List};
 use crate::rules::limits::Limits;
 
 /// What the given Rust says of an answer.
@@ -33,7 +33,7 @@ pub struct Call {
     pub words: usize,
     /// The words of `out`.
     pub out: usize,
-    pub lists: &'static [Cell],
+    pub lists: &'static [List],
     pub answer: fn(&Limits, &Case) -> Answer,
     pub given: fn(&Case, &Answer) -> Given,
 }
@@ -61,9 +61,17 @@ pub const MODES: u8 = 20;
 pub const LEARN: u8 = 21;
 pub const UNALLOC: u8 = 22;
 
-const ROWS_AND_COLUMNS: &[Cell] = &[Cell::Word, Cell::Entry];
-const WALK_AND_LEAVES: &[Cell] = &[Cell::Flag, Cell::Word, Cell::Word];
-const WALK_AND_ROWS: &[Cell] = &[Cell::Flag, Cell::Word, Cell::Word, Cell::Entry];
+const FLAGS: List = List { label: "flags", cell: Cell::Flag };
+const STACK: List = List { label: "stack", cell: Cell::Word };
+const ROWS: List = List { label: "rows", cell: Cell::Row };
+const ENTRIES: List = List { label: "entries", cell: Cell::Entry };
+
+const HINTS: &[List] = &[List { label: "hints", cell: Cell::Byte }];
+const PLACES: &[List] = &[List { label: "places", cell: Cell::Word }];
+const TYPES: &[List] = &[List { label: "types", cell: Cell::Word }];
+const ROWS_AND_ENTRIES: &[List] = &[ROWS, ENTRIES];
+const WALK_AND_LEAVES: &[List] = &[FLAGS, STACK, List { label: "leaves", cell: Cell::Word }];
+const WALK_AND_ROWS: &[List] = &[FLAGS, STACK, ROWS, ENTRIES];
 
 /// The call with the number n stands at n - 1.
 pub const CALLS: &[Call] = &[
@@ -73,31 +81,43 @@ pub const CALLS: &[Call] = &[
     call("read_entry", (4, 1, 4), &[], entry::read, entry::given_read),
     call("view_entry", (4, 1, 2), &[], entry::view, entry::given_view),
     call("is_compatible", (2, 0, 1), &[], value::compatible, value::given_compatible),
-    call("try_parse_record", (2, 2, 3), ROWS_AND_COLUMNS, scan::attempt, scan::given_attempt),
-    call("scan_region", (2, 2, 3), ROWS_AND_COLUMNS, scan::scan, scan::given_scan),
-    call("from_create_sql", (0, 1, 1), &[Cell::Byte], statement::statement, statement::given_statement),
-    call("boyer_moore_search", (0, 2, 1), &[Cell::Word], statement::search, statement::given_search),
+    call("try_parse_record", (2, 2, 3), ROWS_AND_ENTRIES, scan::attempt, scan::given_attempt),
+    call("scan_region", (2, 2, 3), ROWS_AND_ENTRIES, scan::scan, scan::given_scan),
+    call("from_create_sql", (0, 1, 1), HINTS, statement::statement, statement::given_statement),
+    call("boyer_moore_search", (0, 2, 1), PLACES, statement::search, statement::given_search),
     call("get_page_data", (2, 1, 3), &[], page::data, page::given_data),
     call("collect_leaf_pages", (2, 1, 1), WALK_AND_LEAVES, page::leaves, page::given_leaves),
     Call {
         words: 2,
         ..call("recover_freeblocks", (1, 2, 1), WALK_AND_ROWS, freeblock::tables, freeblock::given_tables)
     },
-    call("recover_page_freeblocks", (2, 2, 1), ROWS_AND_COLUMNS, freeblock::page, freeblock::given_page),
-    call("recover_slice_freeblocks", (2, 2, 1), ROWS_AND_COLUMNS, freeblock::slice, freeblock::given_slice),
+    call("recover_page_freeblocks", (2, 2, 1), ROWS_AND_ENTRIES, freeblock::page, freeblock::given_page),
+    call("recover_slice_freeblocks", (2, 2, 1), ROWS_AND_ENTRIES, freeblock::slice, freeblock::given_slice),
     Call { words: 2, ..call("scan_page_gaps", (2, 2, 1), WALK_AND_ROWS, gap::tables, gap::given_tables) },
-    call("scan_page_gap", (3, 2, 1), ROWS_AND_COLUMNS, gap::page, gap::given_page),
-    call("scan_single_page_gap", (3, 2, 1), ROWS_AND_COLUMNS, gap::slice, gap::given_slice),
-    call("parse_cells_from_freeblock", (2, 2, 1), ROWS_AND_COLUMNS, gap::block, gap::given_block),
-    call("carve_freeblock", (2, 1, 1), ROWS_AND_COLUMNS, carve::modes, carve::given_modes),
-    Call { words: 1, ..call("learn_signatures", (1, 1, 1), &[Cell::Word], learn::learn, learn::given_learn) },
-    Call { words: 1, ..call("carve_unallocated", (1, 1, 1), ROWS_AND_COLUMNS, learn::carve, learn::given_carve) },
+    call("scan_page_gap", (3, 2, 1), ROWS_AND_ENTRIES, gap::page, gap::given_page),
+    call("scan_single_page_gap", (3, 2, 1), ROWS_AND_ENTRIES, gap::slice, gap::given_slice),
+    call("parse_cells_from_freeblock", (2, 2, 1), ROWS_AND_ENTRIES, gap::block, gap::given_block),
+    call("carve_freeblock", (2, 1, 1), ROWS_AND_ENTRIES, carve::modes, carve::given_modes),
+    Call { words: 1, ..call("learn_signatures", (1, 1, 1), TYPES, learn::learn, learn::given_learn) },
+    Call { words: 1, ..call("carve_unallocated", (1, 1, 1), ROWS_AND_ENTRIES, learn::carve, learn::given_carve) },
 ];
+
+impl Call {
+    /// Whether a case has as many numbers, slices and lists as the call.
+    pub fn takes(&self, case: &Case) -> bool {
+        let shape = (case.numbers.len(), case.slices.len(), case.words.len(), case.lists.len());
+        shape == (self.numbers, self.slices, self.words, self.lists.len())
+    }
+
+    pub fn writes_rows(&self) -> bool {
+        self.lists.iter().any(|list| list.cell == Cell::Row)
+    }
+}
 
 const fn call(
     name: &'static str,
     (numbers, slices, out): (usize, usize, usize),
-    lists: &'static [Cell],
+    lists: &'static [List],
     answer: fn(&Limits, &Case) -> Answer,
     given: fn(&Case, &Answer) -> Given,
 ) -> Call {

@@ -1,5 +1,7 @@
 //! A case: one call with all that is lent to it; and an answer: all that a call leaves.
 
+use crate::rules::limits::{WORDS_PER_ENTRY, WORDS_PER_ROW};
+
 /// What one call is given. The numbers, slices and lists stand in the order of the C interface.
 #[derive(Clone, Debug, Default, PartialEq, Eq)]
 pub struct Case {
@@ -40,6 +42,8 @@ pub fn flag_pattern(i: usize) -> u64 {
 #[derive(Clone, Copy, Debug, PartialEq, Eq)]
 pub enum Cell {
     Word,
+    /// A word of a row.
+    Row,
     /// A word of a column entry.
     Entry,
     Byte,
@@ -49,20 +53,48 @@ pub enum Cell {
 impl Cell {
     pub fn pattern(self, i: usize) -> u64 {
         match self {
-            Cell::Word | Cell::Entry => word_pattern(i),
-            Cell::Byte => byte_pattern(i),
             Cell::Flag => flag_pattern(i),
+            _ => self.recorded_pattern(i),
+        }
+    }
+
+    /// The same in the programs that print recorded cases, which have one pattern for all bytes.
+    pub fn recorded_pattern(self, i: usize) -> u64 {
+        if self.is_byte() {
+            byte_pattern(i)
+        } else {
+            word_pattern(i)
+        }
+    }
+
+    pub fn is_byte(self) -> bool {
+        matches!(self, Cell::Byte | Cell::Flag)
+    }
+
+    /// How many of them belong together, where they do.
+    pub fn group(self) -> Option<usize> {
+        match self {
+            Cell::Row => Some(WORDS_PER_ROW),
+            Cell::Entry => Some(WORDS_PER_ENTRY),
+            _ => None,
         }
     }
 
     /// What the server calls it.
     pub fn code(self) -> u8 {
         match self {
-            Cell::Word | Cell::Entry => 0,
+            Cell::Word | Cell::Row | Cell::Entry => 0,
             Cell::Byte => 1,
             Cell::Flag => 2,
         }
     }
+}
+
+/// A list that a call is lent: what it is called where it is printed, and its cells.
+#[derive(Clone, Copy, Debug, PartialEq, Eq)]
+pub struct List {
+    pub label: &'static str,
+    pub cell: Cell,
 }
 
 impl Case {
@@ -81,7 +113,7 @@ impl Case {
     }
 
     /// The case as the server has it: its counts, the numbers, the lengths, what the lists are, the bytes, the words.
-    pub fn frame(&self, cells: &[Cell], to: &mut Vec<u8>) {
+    pub fn frame(&self, lists: &[List], to: &mut Vec<u8>) {
         let counts = [self.numbers.len(), self.slices.len(), self.words.len(), self.lists.len()];
         to.push(self.call);
         to.extend(counts.iter().map(|&n| n as u8));
@@ -92,7 +124,7 @@ impl Case {
         for length in slices.chain(self.lists.iter().copied()) {
             to.extend((length as u32).to_le_bytes());
         }
-        to.extend(cells.iter().map(|c| c.code()));
+        to.extend(lists.iter().map(|list| list.cell.code()));
         for slice in &self.slices {
             to.extend(slice);
         }

@@ -28,6 +28,7 @@ pub mod worked;
 
 use crate::random::Random;
 use crate::runner::Sink;
+use worked::Worked;
 
 /// How many random cases to make, over all calls.
 pub struct Plan {
@@ -61,8 +62,25 @@ const GAP_GROUPS: [(usize, Group); 4] = [(28, gaps::all), (10, gaps::walks), (24
 /// The same for the three modes, and for learning.
 const CARVING_GROUPS: [(usize, Group); 3] = [(24, modes::all), (20, learning::all), (24, learned::all)];
 
-/// The calls on values, regions and statements.
+/// All but the worked ones.
 pub fn all(sink: &mut dyn Sink, plan: &Plan) {
+    values_and_regions(sink, plan);
+    pages(sink, plan);
+    gaps(sink, plan);
+    carving(sink, plan);
+}
+
+/// The worked ones, without their names.
+pub fn worked(sink: &mut dyn Sink) {
+    for part in worked::all() {
+        if let Worked::Case { case, .. } = part {
+            sink.put(case);
+        }
+    }
+}
+
+/// The calls on values, regions and statements.
+fn values_and_regions(sink: &mut dyn Sink, plan: &Plan) {
     groups(sink, plan, &GROUPS, 0);
     if plan.large {
         large::all(sink, &mut Random::new(plan.seed), plan.long);
@@ -70,7 +88,7 @@ pub fn all(sink: &mut dyn Sink, plan: &Plan) {
 }
 
 /// The calls on pages.
-pub fn pages(sink: &mut dyn Sink, plan: &Plan) {
+fn pages(sink: &mut dyn Sink, plan: &Plan) {
     groups(sink, plan, &PAGE_GROUPS, GROUPS.len());
     if plan.large {
         large::databases(sink, plan.long);
@@ -78,7 +96,7 @@ pub fn pages(sink: &mut dyn Sink, plan: &Plan) {
 }
 
 /// The carver of gaps and freed blocks.
-pub fn gaps(sink: &mut dyn Sink, plan: &Plan) {
+fn gaps(sink: &mut dyn Sink, plan: &Plan) {
     groups(sink, plan, &GAP_GROUPS, GROUPS.len() + PAGE_GROUPS.len());
     if plan.large {
         large::gaps(sink);
@@ -86,7 +104,7 @@ pub fn gaps(sink: &mut dyn Sink, plan: &Plan) {
 }
 
 /// The three modes, and learning.
-pub fn carving(sink: &mut dyn Sink, plan: &Plan) {
+fn carving(sink: &mut dyn Sink, plan: &Plan) {
     groups(sink, plan, &CARVING_GROUPS, GROUPS.len() + PAGE_GROUPS.len() + GAP_GROUPS.len());
     if plan.large {
         large::carving(sink);

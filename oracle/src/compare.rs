@@ -45,8 +45,8 @@ pub fn against_ours(case: &Case, answer: &Answer, ours: &Left) -> Option<String>
         return Some(format!("out: ours {:?}, expected {:?}", ours.out, answer.out));
     }
     let lists = answer.lists.iter().zip(&ours.lists).zip(call.lists);
-    lists.enumerate().find_map(|(l, ((written, left), cell))| {
-        let due = |i: usize| written.get(i).copied().unwrap_or(cell.pattern(i));
+    lists.enumerate().find_map(|(l, ((written, left), list))| {
+        let due = |i: usize| written.get(i).copied().unwrap_or(list.cell.pattern(i));
         let i = (0..left.len()).find(|&i| left[i] != due(i))?;
         let which = if i < written.len() { "cell" } else { "an untouched cell" };
         Some(shown(&format!("list {l}, {which} {i}"), left[i], due(i)))

@@ -98,10 +98,8 @@ fn compare(mut runner: Runner, options: &Options) -> bool {
         }
     }
     let plan = cases::Plan { seed: options.seed, random: options.cases, large: true, long: options.long };
+    cases::worked(&mut runner);
     cases::all(&mut runner, &plan);
-    cases::pages(&mut runner, &plan);
-    cases::gaps(&mut runner, &plan);
-    cases::carving(&mut runner, &plan);
     runner.finish();
     runner.tally.print();
     let seconds = begun.elapsed().as_secs_f64();

@@ -23,7 +23,7 @@ pub const USAGE: &str = "usage: oracle [--seed N] [--cases N] [--long] [--partia
        oracle --case 'LINE' -- SERVER [WORD..]     one case, as a difference prints it
        oracle --self-test -- SERVER [WORD..]       a changed constant must be found
        oracle --tablets DIR -- SERVER [WORD..]     what comes back of real databases
-       oracle [--seed N] --record DIR              cases and answers, to be replayed without the Rust";
+       oracle [--seed N] --record DIR              cases, and what programs must print of them";
 
 pub fn parse(words: impl Iterator<Item = String>) -> Result<Options, String> {
     let mut words = words;

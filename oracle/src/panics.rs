@@ -7,6 +7,7 @@ use crate::case::Case;
 use crate::cases::bytes::varint;
 use crate::cases::chains::LAST_HEAD;
 use crate::cases::databases::leaf;
+use crate::cases::regions::lists;
 use crate::compare::{against_ours, expected, Asked};
 use crate::rules::gap::{each_cell, payloads};
 use crate::rules::limits::{Limits, ONE_BYTE};
@@ -84,7 +85,7 @@ fn statements() -> Vec<Case> {
 
 /// A b-tree header so far off that the Rust's sum of its place and its length passes the last place of all.
 pub fn of_pages() -> Vec<Case> {
-    let lent = |head: u64| Case::new(RECOVER_SLICE, &[head, 0], &[&[2; 16], &[0]], &[8, 4]);
+    let lent = |head: u64| Case::new(RECOVER_SLICE, &[head, 0], &[&[2; 16], &[0]], &lists(1, 1));
     (LAST_HEAD + 1..=u64::MAX).map(lent).collect()
 }
 
@@ -92,17 +93,18 @@ pub fn of_pages() -> Vec<Case> {
 /// and b-tree headers too far off.
 fn of_gaps() -> Vec<Case> {
     let mut cases = Vec::new();
+    let room = lists(10, 1);
     for (length, before) in [(u64::MAX, 0), (u64::MAX - 9, 0), (u64::MAX - 9, 1), (u64::MAX - 255, 250)] {
         let block = [vec![0; before], varint(length, 9), vec![7, 2, 8]].concat();
         let mut page = vec![0; 512];
         leaf(&mut page, 0, &[vec![2, 8], block.clone()]);
-        cases.push(Case::new(BLOCK, &[ONE_BYTE, 0], &[&block, &[0]], &[80, 40]));
-        cases.push(Case::new(GAP_SLICE, &[ONE_BYTE, 0, 0], &[&page, &[0]], &[80, 40]));
-        cases.push(Case::new(GAP_PAGE, &[ONE_BYTE, 512, 2], &[&page.repeat(2), &[0]], &[80, 40]));
-        let tables = Case::new(GAPS, &[ONE_BYTE, 512], &[&page.repeat(2), &[0]], &[2, 1, 80, 40]);
+        cases.push(Case::new(BLOCK, &[ONE_BYTE, 0], &[&block, &[0]], &room));
+        cases.push(Case::new(GAP_SLICE, &[ONE_BYTE, 0, 0], &[&page, &[0]], &room));
+        cases.push(Case::new(GAP_PAGE, &[ONE_BYTE, 512, 2], &[&page.repeat(2), &[0]], &room));
+        let tables = Case::new(GAPS, &[ONE_BYTE, 512], &[&page.repeat(2), &[0]], &[2, 1, room[0], room[1]]);
         cases.push(tables.with_words(&[&[2], &[1]]));
     }
-    let far = |head: u64| Case::new(GAP_SLICE, &[ONE_BYTE, head, 0], &[&[2; 16], &[0]], &[8, 4]);
+    let far = |head: u64| Case::new(GAP_SLICE, &[ONE_BYTE, head, 0], &[&[2; 16], &[0]], &lists(1, 1));
     cases.extend((LAST_GAP_HEAD + 1..=u64::MAX).map(far));
     cases
 }

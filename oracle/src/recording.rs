@@ -1,60 +1,69 @@
-//! Cases with their answers in one file, for a program that has no Rust at hand. README.md has the format.
+//! Cases for the programs `answers` and `carved`, and what they must print: the answers by the rules, at one with the Rust
+//! where it was asked. README.md has the formats.
 
-use crate::calls::{self, Given};
-use crate::case::{Answer, Case};
+mod file;
+mod line;
+mod program;
+
+use crate::calls::{self, Given, GAPS, LEAVES, RECOVER};
+use crate::case::Case;
+use crate::cases::worked::{self, Worked};
 use crate::cases::{self, limits, regions, telling, Plan};
 use crate::compare::{against_the_rust, expected, Asked};
 use crate::panics;
 use crate::rules::limits::Limits;
 use crate::runner::Sink;
 use crate::text;
+use program::Program;
 use std::collections::{HashMap, HashSet};
-use std::{fs, io, path::Path};
+use std::{io, path::Path};
 
-/// Bytes of a slice and cells of a list of a recorded case, words of a slice, and bytes of the whole file, at most. A row of as
-/// many columns as there may be goes in.
-const LARGEST: usize = 2400;
-const MOST_WORDS: usize = 300;
-const LARGEST_FILE: usize = 3_000_000;
-
-/// Slices and cells in all of a case that is one of many.
+/// Slices and cells in all of a case that is one of many, and of a walk: about eight pages with the lists.
 const LARGEST_OF_MANY: usize = 1200;
+const LARGEST_WALK: usize = 8 * 512 + 700;
+
+/// Words of a slice of a case that is one of many.
+const MOST_WORDS_OF_MANY: usize = 300;
 
 /// Cases of one kind: the first few, and then ever fewer of the many, the sooner the larger they are.
 const FIRST: usize = 6;
 const GROWTH: f64 = 2.0;
 const GROWTH_BY_SIZE: f64 = 1.0 / 500.0;
 
+/// A case's line stands behind its name where it is no longer.
+const LONGEST_LINE: usize = 240;
+
+const UNNAMED: &str = "Cases by their place";
+
 struct Recorder {
-    file: Vec<u8>,
-    cases: usize,
-    with_the_rust: usize,
+    answers: Program,
+    carved: Program,
     limits: Limits,
     /// By call, number and rows: how many came, and the next one to take.
     kinds: HashMap<(u8, u64, u64), (usize, f64)>,
     /// As the server would have them, so that none comes twice.
     taken: HashSet<Vec<u8>>,
     keep_all: bool,
-    differs: Option<String>,
+    /// Why there is no recording.
+    fails: Option<String>,
 }
 
 impl Sink for Recorder {
     fn put(&mut self, case: Case) {
-        if !fits(&case) || self.file.len() > LARGEST_FILE || self.differs.is_some() {
-            return;
-        }
-        let answer = (calls::of(&case).answer)(&self.limits, &case);
-        if self.keep_all || self.wanted(&case, &answer) {
-            self.take(&case);
+        if self.fails.is_none() && file::fits("", &case) && (self.keep_all || self.wanted(&case)) {
+            self.take("", &case);
         }
     }
 }
 
 impl Recorder {
-    fn wanted(&mut self, case: &Case, answer: &Answer) -> bool {
-        if case.size() > LARGEST_OF_MANY {
+    fn wanted(&mut self, case: &Case) -> bool {
+        let walks = matches!(case.call, LEAVES | RECOVER | GAPS);
+        let largest = if walks { LARGEST_WALK } else { LARGEST_OF_MANY };
+        if case.size() > largest || case.words.iter().any(|words| words.len() > MOST_WORDS_OF_MANY) {
             return false;
         }
+        let answer = (calls::of(case).answer)(&self.limits, case);
         let found = answer.out[0].min(3);
         let (seen, next) = self.kinds.entry((case.call, answer.number, found)).or_insert((0, 0.0));
         *seen += 1;
@@ -65,74 +74,81 @@ impl Recorder {
         false
     }
 
-    fn take(&mut self, case: &Case) {
+    /// False where the case was taken before.
+    fn take(&mut self, name: &str, case: &Case) -> bool {
+        let call = calls::of(case);
         let mut frame = Vec::new();
-        case.frame(calls::of(case).lists, &mut frame);
+        case.frame(call.lists, &mut frame);
         if !self.taken.insert(frame) {
-            return;
+            return false;
         }
         let (answer, asked) = expected(&self.limits, case);
         if let Some(why) = against_the_rust(case, &asked) {
-            self.differs = Some(format!("{why}: {}", text::line(case)));
-            return;
+            self.fail("DIFFERENCE", &format!("{why}: {}", text::line(case)));
         }
-        let rust = asked == Asked::Said(Given::Agrees);
-        self.cases += 1;
-        self.with_the_rust += usize::from(rust);
-        put_case(&mut self.file, case, &answer, rust);
+        let program = if call.writes_rows() { &mut self.carved } else { &mut self.answers };
+        program.put(name, case, &answer, asked == Asked::Said(Given::Agrees));
+        true
+    }
+
+    /// The first reason is the one that is told.
+    fn fail(&mut self, what: &str, why: &str) {
+        self.fails.get_or_insert(format!("{what}: {why}"));
+    }
+
+    fn head(&mut self, name: &str) {
+        if !file::name_fits(name) {
+            self.fail("a heading is too long", name);
+        }
+        self.answers.head(name);
+        self.carved.head(name);
+    }
+
+    fn work(&mut self, part: Worked) {
+        match part {
+            Worked::Heading(name) => self.head(&name),
+            Worked::Case { name, case } => {
+                let name = with_line(&name, &case);
+                if !file::fits(&name, &case) {
+                    self.fail("a worked case is too long", &name);
+                } else if !self.take(&name, &case) {
+                    self.fail("a worked case comes twice", &name);
+                }
+            }
+        }
+    }
+
+    fn write(&self, folder: &Path, seed: u64) -> io::Result<()> {
+        for (name, program) in [("answers", &self.answers), ("carved", &self.carved)] {
+            program.write(&folder.join(name))?;
+            println!("{name}: {}, seed {seed}", program.summary());
+        }
+        Ok(())
     }
 }
 
-/// A head has room for two slices and two lists: walks take more.
-fn fits(case: &Case) -> bool {
-    case.slices.len() + case.words.len() <= 2
-        && case.slices.iter().all(|slice| slice.len() <= LARGEST)
-        && case.words.iter().all(|words| words.len() <= MOST_WORDS)
-        && case.lists.len() <= 2
-        && case.lists.iter().all(|&cells| cells <= LARGEST)
-}
-
-/// A head of eighteen words, then the bytes of the slices, those of words behind the others, then the written cells of the
-/// lists.
-fn put_case(file: &mut Vec<u8>, case: &Case, answer: &Answer, rust: bool) {
-    let words = case.words.iter().map(|words| words.iter().flat_map(|word| word.to_be_bytes()).collect());
-    let slices: Vec<Vec<u8>> = case.slices.iter().map(|slice| slice.to_vec()).chain(words).collect();
-    let mut body: Vec<u8> = slices.concat();
-    body.extend(answer.lists.iter().flatten().flat_map(|cell| cell.to_be_bytes()));
-    let lengths: Vec<u64> = slices.iter().map(|slice| slice.len() as u64).collect();
-    let cells: Vec<u64> = case.lists.iter().map(|&n| n as u64).collect();
-    let written: Vec<u64> = answer.lists.iter().map(|list| list.len() as u64).collect();
-    put_words(file, &[body.len() as u64, u64::from(case.call)], 2);
-    put_words(file, &case.numbers, 4);
-    for sizes in [lengths, cells, written] {
-        put_words(file, &sizes, 2);
+/// The name of a worked case, with its line for a reader who wants to try it.
+fn with_line(name: &str, case: &Case) -> String {
+    let line = text::line(case);
+    if line.len() > LONGEST_LINE {
+        return name.to_string();
     }
-    put_words(file, &[answer.number], 1);
-    put_words(file, &answer.out, 4);
-    put_words(file, &[u64::from(rust)], 1);
-    file.extend(body);
+    format!("{name} [{line}]")
 }
 
-/// As many words as the head has room for; the rest are 0.
-fn put_words(file: &mut Vec<u8>, words: &[u64], room: usize) {
-    assert!(words.len() <= room);
-    for i in 0..room {
-        file.extend(words.get(i).unwrap_or(&0).to_be_bytes());
-    }
-}
-
-/// Writes DIR/cases.bin; false where the Rust and the rules differ.
+/// Writes the files of each program to a folder of its own; false where the Rust and the rules differ, or a worked case cannot be recorded.
 pub fn record(folder: &str, seed: u64) -> io::Result<bool> {
     let mut recorder = Recorder {
-        file: Vec::new(),
-        cases: 0,
-        with_the_rust: 0,
+        answers: Program::default(),
+        carved: Program::default(),
         limits: Limits::of_the_rules(),
         kinds: HashMap::new(),
         taken: HashSet::new(),
         keep_all: true,
-        differs: None,
+        fails: None,
     };
+    worked::all().into_iter().for_each(|part| recorder.work(part));
+    recorder.head(UNNAMED);
     for case in panics::list() {
         recorder.put(case);
     }
@@ -140,22 +156,10 @@ pub fn record(folder: &str, seed: u64) -> io::Result<bool> {
     telling::all(&mut recorder);
     limits::to_be_recorded(&mut recorder);
     recorder.keep_all = false;
-    let plan = Plan { seed, random: 200_000, large: false, long: false };
-    cases::all(&mut recorder, &plan);
-    cases::pages(&mut recorder, &plan);
-    cases::gaps(&mut recorder, &plan);
-    cases::carving(&mut recorder, &plan);
-    if let Some(why) = recorder.differs {
-        println!("DIFFERENCE: {why}");
-        return Ok(false);
+    cases::all(&mut recorder, &Plan { seed, random: 200_000, large: false, long: false });
+    match &recorder.fails {
+        Some(why) => println!("{why}"),
+        None => recorder.write(Path::new(folder), seed)?,
     }
-    fs::create_dir_all(folder)?;
-    fs::write(Path::new(folder).join("cases.bin"), &recorder.file)?;
-    println!(
-        "{} cases, {} of them with the Rust's answer, in {} bytes, seed {seed}",
-        recorder.cases,
-        recorder.with_the_rust,
-        recorder.file.len()
-    );
-    Ok(true)
+    Ok(recorder.fails.is_none())
 }

@@ -574,10 +574,9 @@ mod tests {
         }
     }
 
-    /// But for those of walks and of the longest rows, which are not recorded.
     #[test]
     fn the_recorded_cases_show_the_changes_of_rebuilding() {
-        for change in rebuilding::CHANGES.iter().filter(|c| c.call == BLOCK && c.at_most < 65_536) {
+        for change in rebuilding::CHANGES {
             assert!(noticed(change, |sink| telling::all(sink)), "{}", change.what);
         }
     }

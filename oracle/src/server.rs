@@ -2,7 +2,7 @@
 //! side waits for the other with a full pipe.
 
 use crate::calls;
-use crate::case::{Case, Cell};
+use crate::case::Case;
 use std::io::{self, BufReader, Read, Write};
 use std::process::{Child, ChildStdin, ChildStdout, Command, Stdio};
 
@@ -52,10 +52,11 @@ impl Server {
         let call = calls::of(case);
         let head = self.words(1 + call.out)?;
         let mut lists = Vec::with_capacity(case.lists.len());
-        for (&length, &cell) in case.lists.iter().zip(call.lists) {
-            lists.push(match cell {
-                Cell::Word | Cell::Entry => self.words(length)?,
-                Cell::Byte | Cell::Flag => self.bytes(length)?.into_iter().map(u64::from).collect(),
+        for (&length, list) in case.lists.iter().zip(call.lists) {
+            lists.push(if list.cell.is_byte() {
+                self.bytes(length)?.into_iter().map(u64::from).collect()
+            } else {
+                self.words(length)?
             });
         }
         Ok(Left { number: head[0], out: head[1..].to_vec(), lists })

@@ -53,7 +53,7 @@ impl Tally {
             self.values[answer.out[0] as usize] += 1;
         }
         let lists = answer.lists.iter().zip(CALLS[case.call as usize - 1].lists);
-        for entry in lists.filter(|l| *l.1 == Cell::Entry).flat_map(|l| l.0.chunks(4)) {
+        for entry in lists.filter(|l| l.1.cell == Cell::Entry).flat_map(|l| l.0.chunks(4)) {
             self.states_written[entry[0] as usize] += 1;
         }
     }

@@ -51,9 +51,7 @@ pub fn parse(line: &str) -> Option<Case> {
             _ => return None,
         }
     }
-    let call = &CALLS[at];
-    let shape = (case.numbers.len(), case.slices.len(), case.words.len(), case.lists.len());
-    (shape == (call.numbers, call.slices, call.words, call.lists.len())).then_some(case)
+    CALLS[at].takes(&case).then_some(case)
 }
 
 fn numbers(text: &str) -> Option<Vec<u64>> {

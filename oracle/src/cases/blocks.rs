@@ -8,7 +8,7 @@ use crate::calls::BLOCK;
 use crate::case::Case;
 use crate::random::Random;
 use crate::rules::gap::{block_rows, Sought};
-use crate::rules::limits::Limits;
+use crate::rules::limits::{Limits, WORDS_PER_ROW};
 use crate::runner::Sink;
 
 pub fn all(sink: &mut dyn Sink, random: &mut Random, count: usize) {
@@ -244,7 +244,9 @@ fn rooms(sink: &mut dyn Sink, random: &mut Random) {
     let [most_r, most_c] = lists(found + 1, hints.len());
     for room in (0..=found + 1).rev().take(12).chain([0, 1]) {
         let [r, c] = lists(room, hints.len());
-        for lent in [[r, c], [r, most_c], [most_r, c], [r + 7, c + 4 * hints.len() - 1], [r.max(1) - 1, c]] {
+        for lent in
+            [[r, c], [r, most_c], [most_r, c], [r + WORDS_PER_ROW - 1, c + 4 * hints.len() - 1], [r.max(1) - 1, c]]
+        {
             both_ways(sink, Case::new(BLOCK, &[1 << 20], &[&payload, &hints], &lent));
         }
     }

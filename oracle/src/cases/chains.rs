@@ -9,7 +9,7 @@ use crate::calls::{RECOVER_PAGE, RECOVER_SLICE};
 use crate::case::Case;
 use crate::random::Random;
 use crate::rules::freeblock::rows;
-use crate::rules::limits::Limits;
+use crate::rules::limits::{Limits, WORDS_PER_ROW};
 use crate::runner::Sink;
 
 /// The last header place that does not make the Rust panic; those behind it stand in the list of panics.
@@ -284,7 +284,9 @@ fn rooms(sink: &mut dyn Sink, random: &mut Random) {
     let [most_r, most_c] = lists(found + 1, hints.len());
     for room in 0..=found + 1 {
         let [r, c] = lists(room, hints.len());
-        for lent in [[r, c], [r, most_c], [most_r, c], [r + 7, c + 4 * hints.len() - 1], [r.max(1) - 1, c]] {
+        for lent in
+            [[r, c], [r, most_c], [most_r, c], [r + WORDS_PER_ROW - 1, c + 4 * hints.len() - 1], [r.max(1) - 1, c]]
+        {
             sink.put(Case::new(RECOVER_SLICE, &[0, 1 << 20], &[&page, &hints], &lent));
             sink.put(Case::new(RECOVER_PAGE, &[512, 2], &[&db, &hints], &lent));
         }

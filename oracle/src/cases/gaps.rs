@@ -11,7 +11,7 @@ use crate::calls::{GAPS, GAP_PAGE, GAP_SLICE, RECOVER, RECOVER_PAGE, RECOVER_SLI
 use crate::case::Case;
 use crate::random::Random;
 use crate::rules::gap::{rows, Sought};
-use crate::rules::limits::{Limits, EXACT, ONE_BYTE};
+use crate::rules::limits::{Limits, EXACT, ONE_BYTE, WORDS_PER_ROW};
 use crate::runner::Sink;
 
 pub const WAYS: [u64; 2] = [ONE_BYTE, EXACT];
@@ -380,7 +380,9 @@ fn rooms(sink: &mut dyn Sink, random: &mut Random) {
     let [most_r, most_c] = lists(found + 1, hints.len());
     for room in (0..=found + 1).rev().take(12).chain([0, 1]) {
         let [r, c] = lists(room, hints.len());
-        for lent in [[r, c], [r, most_c], [most_r, c], [r + 7, c + 4 * hints.len() - 1], [r.max(1) - 1, c]] {
+        for lent in
+            [[r, c], [r, most_c], [most_r, c], [r + WORDS_PER_ROW - 1, c + 4 * hints.len() - 1], [r.max(1) - 1, c]]
+        {
             both_ways(sink, Case::new(GAP_SLICE, &[0, 1 << 20], &[&page, &hints], &lent));
             both_ways(sink, Case::new(GAP_PAGE, &[512, 2], &[&db, &hints], &lent));
         }

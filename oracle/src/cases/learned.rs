@@ -10,7 +10,7 @@ use crate::calls::UNALLOC;
 use crate::case::Case;
 use crate::random::Random;
 use crate::rules::learn::rows;
-use crate::rules::limits::Limits;
+use crate::rules::limits::{Limits, WORDS_PER_ROW};
 use crate::rules::value::body_length;
 use crate::runner::Sink;
 
@@ -251,7 +251,9 @@ fn rooms(sink: &mut dyn Sink, random: &mut Random) {
     let [most_r, most_c] = lists(found + 1, types.len());
     for room in (0..=found + 1).take(8) {
         let [r, c] = lists(room, types.len());
-        for lent in [[r, c], [r, most_c], [most_r, c], [r + 7, c + 4 * types.len() - 1], [r.max(1) - 1, c]] {
+        for lent in
+            [[r, c], [r, most_c], [most_r, c], [r + WORDS_PER_ROW - 1, c + 4 * types.len() - 1], [r.max(1) - 1, c]]
+        {
             sink.put(Case::new(UNALLOC, &[1 << 20], &[&region], &lent).with_words(&[&types]));
         }
     }

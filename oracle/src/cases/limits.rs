@@ -21,7 +21,7 @@ pub fn all(sink: &mut dyn Sink, random: &mut Random, count: usize) {
     }
 }
 
-/// The boundaries that short cases can show.
+/// A case or a few of each boundary.
 pub fn to_be_recorded(sink: &mut dyn Sink) {
     for h in [1, 2, 3, 511, 512, 513] {
         for wide in 1..=3 {
@@ -32,6 +32,11 @@ pub fn to_be_recorded(sink: &mut dyn Sink) {
                 }
             }
         }
+    }
+    for total in [65_536, 65_537] {
+        let mut region = long_row(total, 1, 1, true);
+        region.resize(total, 0);
+        attempt(sink, &region, &[0, 2], 0);
     }
     let top = 1 << 48;
     for (columns, hint, base) in [

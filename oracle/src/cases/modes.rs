@@ -10,7 +10,7 @@ use crate::calls::MODES;
 use crate::case::Case;
 use crate::random::Random;
 use crate::rules::carve::rows;
-use crate::rules::limits::Limits;
+use crate::rules::limits::{Limits, WORDS_PER_ROW};
 use crate::runner::Sink;
 
 pub fn all(sink: &mut dyn Sink, random: &mut Random, count: usize) {
@@ -262,7 +262,8 @@ fn rooms(sink: &mut dyn Sink, random: &mut Random) {
     let [most_r, most_c] = lists(found + 1, columns);
     for room in 0..=found + 1 {
         let [r, c] = lists(room, columns);
-        for lent in [[r, c], [r, most_c], [most_r, c], [r + 7, c + 4 * columns - 1], [r.max(1) - 1, c]] {
+        for lent in [[r, c], [r, most_c], [most_r, c], [r + WORDS_PER_ROW - 1, c + 4 * columns - 1], [r.max(1) - 1, c]]
+        {
             sink.put(Case::new(MODES, &[1 << 20, columns as u64], &[&block], &lent));
         }
     }

@@ -5,11 +5,12 @@ use super::records::{damage, hints, record, region};
 use crate::calls::{ATTEMPT, SCAN};
 use crate::case::Case;
 use crate::random::Random;
+use crate::rules::limits::{WORDS_PER_ENTRY, WORDS_PER_ROW};
 use crate::runner::Sink;
 
 /// Lists for so many rows.
 pub fn lists(rows: usize, columns: usize) -> [usize; 2] {
-    [8 * rows, 4 * columns * rows]
+    [WORDS_PER_ROW * rows, WORDS_PER_ENTRY * columns * rows]
 }
 
 pub fn scan(sink: &mut dyn Sink, region: &[u8], hints: &[u8], rows: usize) {

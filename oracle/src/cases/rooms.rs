@@ -6,7 +6,7 @@ use crate::calls::{ATTEMPT, SCAN};
 use crate::case::Case;
 use crate::random::Random;
 use crate::rules::attempt;
-use crate::rules::limits::Limits;
+use crate::rules::limits::{Limits, WORDS_PER_ROW};
 use crate::runner::Sink;
 
 pub fn all(sink: &mut dyn Sink, random: &mut Random, count: usize) {
@@ -36,7 +36,7 @@ fn rooms(sink: &mut dyn Sink, region: &[u8], hints: &[u8]) -> usize {
         put(sink, region, hints, 0, [r, c]);
         put(sink, region, hints, 0, [r, most_c]);
         put(sink, region, hints, 0, [most_r, c]);
-        put(sink, region, hints, 0, [r + 7, c]);
+        put(sink, region, hints, 0, [r + WORDS_PER_ROW - 1, c]);
         put(sink, region, hints, 0, [r, c + 4 * hints.len() - 1]);
         if room > 0 {
             put(sink, region, hints, 0, [r - 1, c]);

@@ -7,7 +7,7 @@ use super::walks::{needs, random_database};
 use crate::calls::{self, RECOVER};
 use crate::case::Case;
 use crate::random::Random;
-use crate::rules::limits::Limits;
+use crate::rules::limits::{Limits, WORDS_PER_ENTRY, WORDS_PER_ROW};
 use crate::runner::Sink;
 
 pub fn all(sink: &mut dyn Sink, random: &mut Random, count: usize) {
@@ -46,7 +46,7 @@ pub type Table = (u64, Vec<u8>);
 /// Lists for a walk over the database, and for so many rows of the widest table.
 fn lists(db: &Database, tables: &[Table], stack: usize, rows: usize) -> [usize; 4] {
     let width = tables.iter().map(|t| t.1.len()).max().unwrap_or(0);
-    [db.pages(), stack, 8 * rows, 4 * width * rows]
+    [db.pages(), stack, WORDS_PER_ROW * rows, WORDS_PER_ENTRY * width * rows]
 }
 
 fn case(db: &Database, tables: &[Table], lists: [usize; 4]) -> Case {
@@ -293,7 +293,7 @@ fn rooms(sink: &mut dyn Sink, db: &Database, tables: &[Table]) {
         }
     }
     let [flags, stack, r, c] = lists(db, tables, most, rows);
-    for lent in [[r.max(1) - 1, c], [r, c.max(1) - 1], [r + 7, c], [r, c + 3]] {
+    for lent in [[r.max(1) - 1, c], [r, c.max(1) - 1], [r + WORDS_PER_ROW - 1, c], [r, c + 3]] {
         sink.put(case(db, tables, [flags, stack, lent[0], lent[1]]));
     }
     for flags in [0, flags.max(1) - 1, flags + 1, flags + 20] {

@@ -1,14 +1,13 @@
 //! Headers rebuilt exactly: where the bodies start, types up to the most bytes and past them, columns up to the most of either
-//! way, codes that name none, and a cell's place. Too long to be recorded is the row that tells whether a header length's second
-//! byte counts, of 65,535 bytes.
+//! way, codes that name none, a cell's place, and the longest rows.
 
-use crate::calls::{BLOCK, GAP_PAGE, GAP_SLICE};
+use crate::calls::{BLOCK, GAPS, GAP_PAGE, GAP_SLICE};
 use crate::case::Case;
 use crate::cases::blocks::block;
 use crate::cases::databases::leaf;
 use crate::cases::gaps::both_ways;
 use crate::cases::limits::spread;
-use crate::cases::rebuilding::bare;
+use crate::cases::rebuilding::{bare, long_row};
 use crate::cases::records::header;
 use crate::cases::regions::lists;
 use crate::rules::limits::EXACT;
@@ -23,6 +22,7 @@ pub fn all(sink: &mut dyn Sink) {
     codes(sink);
     at_cells(sink);
     pages(sink);
+    long_rows(sink);
 }
 
 fn exact(sink: &mut dyn Sink, payload: &[u8], hints: &[u8], rows: usize) {
@@ -73,7 +73,10 @@ fn type_bytes(sink: &mut dyn Sink) {
 /// As many columns as either way takes, and one more.
 fn columns(sink: &mut dyn Sink) {
     for columns in [126, 127, 511] {
-        block(sink, &vec![8; columns], &vec![0; columns], usize::from(columns < 511));
+        let hints = vec![0; columns];
+        block(sink, &vec![8; columns], &hints, usize::from(columns < 511));
+        let walk = Case::new(GAPS, &[512], &[&[], &hints], &[0, 1, 0, 0]);
+        both_ways(sink, walk.with_words(&[&[1], &[columns as u64]]));
     }
 }
 
@@ -117,5 +120,12 @@ fn pages(sink: &mut dyn Sink) {
         let room = lists(3, types.len());
         both_ways(sink, Case::new(GAP_SLICE, &[0, 1000], &[&page, &hints], &room));
         both_ways(sink, Case::new(GAP_PAGE, &[512, 2], &[&page.repeat(2), &hints], &room));
+    }
+}
+
+/// Rows whose header length takes one byte or two, which count: the longest there may be, and one of a byte more.
+fn long_rows(sink: &mut dyn Sink) {
+    for (types, total) in [(126, 65_535), (127, 65_534), (127, 65_535)] {
+        sink.put(long_row(types, total));
     }
 }

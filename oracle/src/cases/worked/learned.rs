@@ -44,8 +44,7 @@ fn types() -> Vec<Worked> {
         row("32768 and -32769", "008000 ff7fff", &[(3, 3), (3, 3)]),
         row("2^23, 2^31 - 1 and -2^31", "00800000 7fffffff 80000000", &[(4, 4), (4, 4), (4, 4)]),
         row("2^31 and -2^31 - 1 in six bytes", "000080000000 ffff7fffffff", &[(5, 6), (5, 6)]),
-        row("5 in eight bytes", "0000000000000005", &[(6, 8)]),
-        row("a real", "3ff0000000000000", &[(7, 8)]),
+        row("5 in eight bytes, and a real", "0000000000000005 3ff0000000000000", &[(6, 8), (7, 8)]),
         row("texts of 0 and 2 bytes, blobs of 0 and 2", "6869 6869", &[(13, 0), (17, 2), (12, 0), (16, 2)]),
         learn("states 1 and 2", "", &[[1, 23, 0, 0], [2, 0, 0, 0]], 2, 2),
         learn("a text that is not UTF-8", "ff", &[[0, 15, 0, 1]], 1, 1),
@@ -68,7 +67,6 @@ fn matches() -> Vec<Worked> {
     vec![
         heading("14.1 A type matches a learned one"),
         one("type 0 and 0", "02 00 0a", 0),
-        one("type 8 and 1", "02 08 0a", 1),
         one("type 6 and 9", "02 06 0a0a0a0a0a0a0a0a", 9),
         one("type 7 and 7", "02 07 0a0a0a0a0a0a0a0a", 7),
         one("type 7 and 6", "02 07 0a0a0a0a0a0a0a0a", 6),
@@ -109,7 +107,6 @@ fn offsets() -> Vec<Worked> {
         unallocated("two hints, two bytes", "02 08", &[8, 8], 0, 1),
         unallocated("two hints, three bytes", "02 08 0a", &[8, 8], 0, 1),
         unallocated("from a row on by its bytes", "02 01 02 08 02 08", &[8], 0, 3),
-        unallocated("from any other offset by 1", "0a 0a 02 08", &[8], 0, 3),
         unallocated("three rows, room for 2", "02 08 02 09 02 08", &[8], 0, 2),
         heading("14.5 The checks"),
         unallocated("base 1000: the offset has it, the entries have not", "0a 02 01 2a", &[8], 1000, 1),
@@ -118,6 +115,5 @@ fn offsets() -> Vec<Worked> {
         heading("14.6 The values of a row"),
         unallocated("one column of two", "02 01 2a", &[8, 8], 0, 1),
         read("the column that is there", [0, 1, 2, 1], "02 01 2a"),
-        read("the unused entry", [3, 0, 0, 0], "02 01 2a"),
     ]
 }

@@ -1,5 +1,5 @@
-//! A worked case of each call: its name, then what it is lent, in the order of the C interface. Lists of rows and entries are given as room for
-//! so many rows.
+//! A worked case of each call: its name, then what it is lent, in the order of the C interface. Lists of rows and entries are given
+//! as room for so many rows.
 
 use super::Worked;
 use crate::calls::*;
@@ -139,7 +139,6 @@ pub fn leaves(name: impl Into<String>, db: impl Lent, size: u64, root: u64, list
 }
 
 /// Tables as they are lent.
-#[derive(Clone)]
 pub struct Tables {
     pub roots: Vec<u64>,
     pub counts: Vec<u64>,

@@ -74,6 +74,5 @@ fn rooms() -> Vec<Worked> {
         lent(16, 15, 1),
         lent(24, 16, 2),
         lent(16, 24, 2),
-        lent(7, 24, 0),
     ]
 }

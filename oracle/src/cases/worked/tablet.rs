@@ -86,8 +86,8 @@ impl Tablet {
     }
 }
 
-/// A page of 512 bytes, the first of its database: a leaf with one freed block at 120, which has this payload. The content starts behind the
-/// page, so that there is no gap.
+/// A page of 512 bytes, the first of its database: a leaf with one freed block at 120, which has this payload. The content starts
+/// behind the page, so that there is no gap.
 pub fn one_leaf(payload: &str) -> Vec<u8> {
     let payload = payload.lent();
     let mut db = vec![0; SIZE as usize];

@@ -106,6 +106,7 @@ mod tests {
             let call = calls::of(&case);
             assert_eq!(shape(&case), [call.numbers, call.slices, call.words, call.lists.len()], "{name}");
             assert!(fits(&name, &case), "{name}");
+            assert_eq!(text::parse(&text::line(&case)).as_ref(), Some(&case), "{name}");
             let (answer, asked) = expected(&limits, &case);
             assert_eq!(against_the_rust(&case, &asked), None, "{name}: {}", text::line(&case));
             numbers.insert(answer.number);

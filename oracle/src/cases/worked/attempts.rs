@@ -3,9 +3,6 @@
 use super::making::*;
 use super::Worked;
 
-/// The row 42, "hipik".
-const HIPIK: &str = "03 01 17 2a 68 69 70 69 6b";
-
 /// Three rows of a text each.
 const THREE: &str = "020f61 020f62 020f63";
 

@@ -34,8 +34,8 @@ fn ends() -> Vec<Worked> {
         header("begins with 0", "0d 0000 0000 0000 00 0000 0006 0208"),
         header("a block in the header, at 7", "0d 0007 0000 0000 0000 0006 0208"),
         lent("a size of 3", page("000e 0003 0208 0000 0006 0209")),
-        lent("a block that ends a byte behind it", page("0000 0007 0208")),
-        lent("four bytes that end a byte behind it", page("000e 0006 0208 0000 00")),
+        lent("a block that ends a byte behind the page", page("0000 0007 0208")),
+        lent("four bytes that end a byte behind the page", page("000e 0006 0208 0000 00")),
     ]
 }
 

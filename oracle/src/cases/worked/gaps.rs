@@ -22,7 +22,7 @@ fn gaps() -> Vec<Worked> {
         of_a_page("from 8 to 12", "0d 0000 0000 000c 00 0208 0000"),
         of_a_page("with a pointer to a cell: from 10", "0d 0000 0001 000d 00 0208 020800"),
         of_a_page("two pointers to its end: none", "0d 0000 0002 000c 00 0208 0000"),
-        of_a_page("to a byte behind it: none", "0d 0000 0000 000c 00 0208 00"),
+        of_a_page("to a byte behind the page: none", "0d 0000 0000 000c 00 0208 00"),
         of_a_page("a content start of 0: past this page", "0d 0000 0000 0000 00 0208 00"),
         gap_slice("a content start of 0 in a page of 65536 bytes", ONE_BYTE, large_page(), [0, 0], "0002", 2),
     ]

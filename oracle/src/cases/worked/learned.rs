@@ -111,7 +111,7 @@ fn offsets() -> Vec<Worked> {
         heading("14.5 The checks"),
         unallocated("base 1000: the offset has it, the entries have not", "0a 02 01 2a", &[8], 1000, 1),
         unallocated("1: 511 types", "02 08", &[8; 511], 0, 1),
-        unallocated("4: a base of 2^48 + 1", "02 08", &[8], (1 << 48) + 1, 1),
+        unallocated("4: a base of 2^48 + 1", "02 08", &[8], FARTHEST + 1, 1),
         heading("14.6 The values of a row"),
         unallocated("one column of two", "02 01 2a", &[8, 8], 0, 1),
         read("the column that is there", [0, 1, 2, 1], "02 01 2a"),

@@ -17,6 +17,12 @@ pub const BLOB: u8 = 3;
 pub const NULL: u8 = 4;
 pub const ANY: u8 = 5;
 
+/// The row 42, "hipik", of nine bytes.
+pub const HIPIK: &str = "03 01 17 2a 68 69 70 69 6b";
+
+/// The last base that is taken.
+pub const FARTHEST: u64 = 1 << 48;
+
 /// A slice as it is, or written in hexadecimal, with blanks between its parts.
 pub trait Lent {
     fn lent(&self) -> Vec<u8>;
@@ -59,11 +65,11 @@ fn made(name: impl Into<String>, case: Case) -> Worked {
 }
 
 /// The same case with other lists.
-pub fn with_lists(worked: Worked, lists: &[usize]) -> Worked {
-    match worked {
-        Worked::Case { name, case } => made(name, Case { lists: lists.to_vec(), ..case }),
-        Worked::Heading(words) => Worked::Heading(words),
+pub fn with_lists(mut worked: Worked, lists: &[usize]) -> Worked {
+    if let Worked::Case { case, .. } = &mut worked {
+        case.lists = lists.to_vec();
     }
+    worked
 }
 
 /// The cells of two lists that have room for so many rows of so many columns.

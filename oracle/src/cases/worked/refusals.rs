@@ -4,8 +4,6 @@ use super::making::*;
 use super::tablet::one_leaf;
 use super::Worked;
 
-const FARTHEST: u64 = 1 << 48;
-
 /// A row of one column, the integer 0, with a byte behind it.
 const ROW: &str = "02 08 00";
 

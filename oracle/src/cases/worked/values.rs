@@ -38,12 +38,13 @@ fn lengths() -> Vec<Worked> {
 const INTEGERS: [(u64, usize); 6] = [(1, 1), (2, 2), (3, 3), (4, 4), (5, 6), (6, 8)];
 
 fn integers() -> Vec<Worked> {
-    let mut all = vec![heading("2.6, 2.7 Integers of 1 to 8 bytes: tag 2, 64 bits, nothing, bytes taken")];
+    let mut all = vec![heading("2.6, 2.7 Integers: tag 2, 64 bits, nothing, bytes taken")];
     for (kind, bytes) in INTEGERS {
+        let width = if bytes == 1 { "1 byte".into() } else { format!("{bytes} bytes") };
         let number = |top: u8, rest: u8| [vec![top], times(rest, bytes - 1)].concat();
-        all.push(decode(format!("{bytes}, the smallest"), kind, number(0x80, 0), 0));
-        all.push(decode(format!("{bytes}, the largest"), kind, number(0x7F, 0xFF), 0));
-        all.push(decode(format!("{bytes}, -1"), kind, number(0xFF, 0xFF), 0));
+        all.push(decode(format!("{width}: the smallest"), kind, number(0x80, 0), 0));
+        all.push(decode(format!("{width}: the largest"), kind, number(0x7F, 0xFF), 0));
+        all.push(decode(format!("{width}: -1"), kind, number(0xFF, 0xFF), 0));
     }
     all
 }

@@ -69,6 +69,26 @@ mod tests {
             && name.len() + bytes + 8 * words <= 100_000
     }
 
+    /// The first rule of a heading.
+    fn first_rule(words: &str) -> Option<[u8; 2]> {
+        let (section, rule) = words.split([' ', ',']).next()?.split_once('.')?;
+        Some([section.parse().ok()?, rule.parse().ok()?])
+    }
+
+    #[test]
+    fn worked_headings_follow_the_rules() {
+        let headings = all().into_iter().filter_map(|worked| match worked {
+            Worked::Heading(words) => Some(words),
+            Worked::Case { .. } => None,
+        });
+        let mut last = [0, 0];
+        for words in headings {
+            let rule = first_rule(&words);
+            assert!(rule >= Some(last) && words.len() < 400, "{words}");
+            last = rule.unwrap_or(last);
+        }
+    }
+
     #[test]
     fn worked_cases_have_shapes_names_and_answers() {
         let limits = Limits::of_the_rules();
@@ -76,8 +96,7 @@ mod tests {
         let (mut numbers, mut made) = (HashSet::new(), HashSet::new());
         for worked in all() {
             let (name, case) = match worked {
-                Worked::Heading(words) => {
-                    assert!(words.starts_with(|c: char| c.is_ascii_digit()), "{words}");
+                Worked::Heading(_) => {
                     under_this.clear();
                     continue;
                 }
@@ -87,6 +106,7 @@ mod tests {
             let call = calls::of(&case);
             assert_eq!(shape(&case), [call.numbers, call.slices, call.words, call.lists.len()], "{name}");
             assert!(fits(&name, &case), "{name}");
+            assert_eq!(text::parse(&text::line(&case)).as_ref(), Some(&case), "{name}");
             let (answer, asked) = expected(&limits, &case);
             assert_eq!(against_the_rust(&case, &asked), None, "{name}: {}", text::line(&case));
             numbers.insert(answer.number);

@@ -3,9 +3,6 @@
 use super::making::*;
 use super::Worked;
 
-/// The row 42, "hipik".
-const HIPIK: &str = "03 01 17 2a 68 69 70 69 6b";
-
 /// Three rows of a text each.
 const THREE: &str = "020f61 020f62 020f63";
 
@@ -19,12 +16,12 @@ pub fn all() -> Vec<Worked> {
 /// Of each hint a few types that suit it, and some that do not.
 fn hints() -> Vec<Worked> {
     let types: [(&str, u8, &[u64]); 6] = [
-        ("Integer", INTEGER, &[0, 6, 7, 9, 13]),
-        ("Real", REAL, &[0, 7, 8]),
+        ("Integer", INTEGER, &[0, 6, 7, 9]),
+        ("Real", REAL, &[7, 8]),
         ("Text", TEXT, &[0, 12, 13]),
-        ("Blob", BLOB, &[0, 12, 13]),
+        ("Blob", BLOB, &[12, 13]),
         ("Null", NULL, &[0, 8]),
-        ("Any", ANY, &[0, 11]),
+        ("Any", ANY, &[11]),
     ];
     let mut all = vec![heading("4.1, 1.3 Whether a type suits a hint, whose code is the first number")];
     for (name, hint, types) in types {
@@ -95,10 +92,8 @@ fn offsets() -> Vec<Worked> {
         heading("4.8 The offsets that a scan tries"),
         scan("the last two bytes are left out", "00 0208", "00", 0, 0, 1),
         scan("three columns: from a row on by its bytes", "04 000208 0209 00", "000000", 0, 0, 2),
-        scan("one column: two rows in these bytes", "04 000208 0209 00", "00", 0, 0, 2),
         scan("a start in the first row", THREE, "02", 0, 1, 3),
         scan("a start behind the last offset", THREE, "02", 0, 7, 3),
-        scan("a start at 2^64 - 1", THREE, "02", 0, u64::MAX, 3),
         heading("4.9 The row of a scan"),
         scan("base 100, at 1, one of three suits", "00 04 080808 00", "000202", 100, 0, 1),
     ]
@@ -106,7 +101,7 @@ fn offsets() -> Vec<Worked> {
 
 fn counts() -> Vec<Worked> {
     vec![
-        heading("4.7, 4.10, 4.15 The count of header places"),
+        heading("4.10, 4.7, 4.15 The count of header places"),
         scan("h 1: its byte", "01 08 08", "00", 0, 0, 1),
         scan("h 513: its two bytes", "8401 00", "00", 0, 0, 1),
         scan("the attempt whose row finds no room is left out", "01 0208 00", "00", 0, 0, 0),
@@ -114,7 +109,6 @@ fn counts() -> Vec<Worked> {
         scan("three rows, room for 3", THREE, "02", 0, 0, 3),
         scan("three rows, room for 2", THREE, "02", 0, 0, 2),
         scan("the rest, from the place that was answered", THREE, "02", 0, 6, 2),
-        scan("three rows, room for none", THREE, "02", 0, 0, 0),
     ]
 }
 
@@ -133,9 +127,7 @@ fn values() -> Vec<Worked> {
         scan("the row 42, hipik", HIPIK, "0002", 0, 0, 1),
         read("its first entry", [0, 1, 3, 1], HIPIK),
         read("its second entry", [0, 23, 4, 5], HIPIK),
-        view("the bytes of the second", [0, 23, 4, 5], HIPIK),
         heading("4.14 The layout sheet of a scan"),
-        scan("two rows with base 1000", "0208 0209 00", "00", 1000, 0, 2),
         scan("refused: no word, the number, 0 and 0", "0208 0209 00", "06", 1000, 0, 2),
     ]
 }

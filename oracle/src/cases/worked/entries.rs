@@ -40,7 +40,6 @@ fn views() -> Vec<Worked> {
         heading("3.4 The bytes that an entry shows: start, length"),
         view("a text", [0, 23, 7, 5], BYTES),
         view("a blob", [0, 16, 9, 2], BYTES),
-        view("an empty text", [0, 13, 7, 0], BYTES),
         view("an integer", [0, 1, 7, 1], BYTES),
         view("a text that ends a byte behind the slice", [0, 23, 8, 5], BYTES),
     ]

@@ -22,7 +22,6 @@ fn chains() -> Vec<Worked> {
         heading("10.1 The chain of freed blocks"),
         lent("two blocks", page("000e 0006 0208 0000 0006 0209")),
         recover_slice("back to a lower place", "0d 000e 0000 0000 00 0000 0006 0208 0008 0006 0209", 0, 0, "00", 3),
-        lent("a block without a payload, and the next", page("000c 0004 0000 0006 0208")),
         lent("two blocks that name each other", page("000e 0006 0208 0008 0006 0209")),
     ]
 }
@@ -35,8 +34,8 @@ fn ends() -> Vec<Worked> {
         header("begins with 0", "0d 0000 0000 0000 00 0000 0006 0208"),
         header("a block in the header, at 7", "0d 0007 0000 0000 0000 0006 0208"),
         lent("a size of 3", page("000e 0003 0208 0000 0006 0209")),
-        lent("a block that ends a byte behind it", page("0000 0007 0208")),
-        lent("four bytes that end a byte behind it", page("000e 0006 0208 0000 00")),
+        lent("a block that ends a byte behind the page", page("0000 0007 0208")),
+        lent("four bytes that end a byte behind the page", page("000e 0006 0208 0000 00")),
     ]
 }
 
@@ -68,7 +67,6 @@ fn rows() -> Vec<Worked> {
             "00",
             1,
         ),
-        recover_slice("a header at 2", "ffff 0d 000a 0000 0000 00 0000 0006 0208", 2, 0, "00", 1),
         recover_page(
             "page 2: its place is the base",
             joined(&[&times(0, 512), &page("0000 0006 0208"), &times(0, 498)]),
@@ -87,9 +85,7 @@ fn forms() -> Vec<Worked> {
     let one = || page("0000 0006 0208");
     vec![
         heading("10.5 A page slice, and a page by its number"),
-        recover_slice("a header at the slice's end", one(), 14, 0, "00", 1),
         recover_slice("a header at 2^64 - 1", one(), u64::MAX, 0, "00", 1),
         recover_page("2: a hint code 6, page 0", one_leaf("0208"), SIZE, 0, "06", 1),
-        recover_page("6: page 0", one_leaf("0208"), SIZE, 0, "00", 1),
     ]
 }

@@ -22,7 +22,7 @@ fn gaps() -> Vec<Worked> {
         of_a_page("from 8 to 12", "0d 0000 0000 000c 00 0208 0000"),
         of_a_page("with a pointer to a cell: from 10", "0d 0000 0001 000d 00 0208 020800"),
         of_a_page("two pointers to its end: none", "0d 0000 0002 000c 00 0208 0000"),
-        of_a_page("to a byte behind it: none", "0d 0000 0000 000c 00 0208 00"),
+        of_a_page("to a byte behind the page: none", "0d 0000 0000 000c 00 0208 00"),
         of_a_page("a content start of 0: past this page", "0d 0000 0000 0000 00 0208 00"),
         gap_slice("a content start of 0 in a page of 65536 bytes", ONE_BYTE, large_page(), [0, 0], "0002", 2),
     ]
@@ -39,7 +39,6 @@ fn rows() -> Vec<Worked> {
             "00",
             1,
         ),
-        of_a_page("two rows", "0d 0000 0000 000d 00 0208 0209 00"),
         of_a_page("the last two bytes are left out", "0d 0000 0000 000b 00 00 0208"),
         of_a_page("what looks like a block is none", "0d 0000 0000 000e 00 0000 0006 0107"),
     ]
@@ -48,7 +47,6 @@ fn rows() -> Vec<Worked> {
 fn chains() -> Vec<Worked> {
     vec![
         heading("11.3 The chain of freed blocks here; of a payload 02 08 the second byte is a row, its header rebuilt"),
-        of_a_page("two blocks", "0d 0008 0000 0000 00 000e 0006 0208 0000 0006 0209"),
         of_a_page("back to a lower place: ends", "0d 000e 0000 0000 00 0000 0006 0208 0008 0006 0209"),
         of_a_page("a size of 3 is left out, and the chain goes on", "0d 0008 0000 0000 00 000c 0003 0000 0006 0208"),
         of_a_page("so is a size past the page", "0d 0008 0000 0000 00 000e 0011 0208 0000 0006 0209"),
@@ -70,8 +68,8 @@ fn ends_of_chains() -> Vec<Worked> {
     vec![
         heading("11.3 Where the chain ends here"),
         of_a_page("where four bytes pass the page", "0d 0008 0000 0000 00 000e 0006 0208 0000 00"),
-        of_a_page("the block of step 1024", behind_blocks(1023)),
-        of_a_page("the block of step 1025", behind_blocks(1024)),
+        of_a_page("a row behind 1023 blocks without a payload: step 1024", behind_blocks(1023)),
+        of_a_page("a row behind 1024 blocks without a payload: step 1025", behind_blocks(1024)),
     ]
 }
 

@@ -1,5 +1,5 @@
-//! A worked case of each call: its name, then what it is lent, in the order of the C interface. Lists of rows and entries are given as room for
-//! so many rows.
+//! A worked case of each call: its name, then what it is lent, in the order of the C interface. Lists of rows and entries are given
+//! as room for so many rows.
 
 use super::Worked;
 use crate::calls::*;
@@ -16,6 +16,12 @@ pub const TEXT: u8 = 2;
 pub const BLOB: u8 = 3;
 pub const NULL: u8 = 4;
 pub const ANY: u8 = 5;
+
+/// The row 42, "hipik", of nine bytes.
+pub const HIPIK: &str = "03 01 17 2a 68 69 70 69 6b";
+
+/// The last base that is taken.
+pub const FARTHEST: u64 = 1 << 48;
 
 /// A slice as it is, or written in hexadecimal, with blanks between its parts.
 pub trait Lent {
@@ -59,11 +65,11 @@ fn made(name: impl Into<String>, case: Case) -> Worked {
 }
 
 /// The same case with other lists.
-pub fn with_lists(worked: Worked, lists: &[usize]) -> Worked {
-    match worked {
-        Worked::Case { name, case } => made(name, Case { lists: lists.to_vec(), ..case }),
-        Worked::Heading(words) => Worked::Heading(words),
+pub fn with_lists(mut worked: Worked, lists: &[usize]) -> Worked {
+    if let Worked::Case { case, .. } = &mut worked {
+        case.lists = lists.to_vec();
     }
+    worked
 }
 
 /// The cells of two lists that have room for so many rows of so many columns.
@@ -139,7 +145,6 @@ pub fn leaves(name: impl Into<String>, db: impl Lent, size: u64, root: u64, list
 }
 
 /// Tables as they are lent.
-#[derive(Clone)]
 pub struct Tables {
     pub roots: Vec<u64>,
     pub counts: Vec<u64>,

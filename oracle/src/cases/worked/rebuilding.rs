@@ -34,7 +34,6 @@ fn pages() -> Vec<Worked> {
     vec![
         heading("11.7, 11.8 The rows of a page: of its gap, of cells, of rebuilt headers"),
         lent("a gap, and a block with a cell", GAP_AND_CELL),
-        gap_slice("the same, room for 2", ONE_BYTE, GAP_AND_CELL, [0, 0], "00", 2),
         gap_page("the same as page 2", ONE_BYTE, second(GAP_AND_CELL), [SIZE, 2], "00", 4),
         lent("the type 0x05", "05 0000 0000 000c 00 0208 0000"),
         lent("a page of 8 bytes: a block in its header", "0d 0001 0006 0208 00"),
@@ -60,7 +59,7 @@ const PADDED: &str = "01 8017 2a 68 69 70 69 6b";
 fn padded() -> Vec<Worked> {
     let table = tables(&[1], &[2], "0002");
     let space = Space { flags: 1, stack: 1, rows: 1 };
-    let mut all = vec![heading("11.6, 11.9, 11.10 A padded type, by the number of the mode")];
+    let mut all = vec![heading("11.9, 11.6, 11.10 A type padded to two bytes, by the number of the mode")];
     for (mode, code) in [("one-byte", ONE_BYTE), ("exact", EXACT), ("code 3", 3)] {
         let db = one_leaf(PADDED);
         all.push(gap_slice(format!("a slice, {mode}"), code, &db, [100, 0], "0002", 1));
@@ -80,8 +79,8 @@ fn payload(length: usize, parts: &[(usize, &str)]) -> Vec<u8> {
     payload
 }
 
-/// A row at 0 that is a byte too long, and at 1, where its text has a NULL behind it, one that is just not. A cell with the row id 7 has a text
-/// to the payload's end, so that no cell is looked for behind it.
+/// A row at 0 that is a byte too long, and at 1, where its text has a NULL behind it, one that is just not. A cell with the row id 7 has
+/// a text to the payload's end, so that no cell is looked for behind it.
 fn long_rows() -> Vec<Worked> {
     let two = payload(65_536, &[(0, "01 888003"), (5, "83ff77 07 05"), (11, "87ff71")]);
     let many = payload(65_535, &[(0, "01"), (126, "87fe07"), (400, "83fc6b 07 8103"), (532, "87f75d")]);

@@ -4,8 +4,6 @@ use super::making::*;
 use super::tablet::one_leaf;
 use super::Worked;
 
-const FARTHEST: u64 = 1 << 48;
-
 /// A row of one column, the integer 0, with a byte behind it.
 const ROW: &str = "02 08 00";
 
@@ -24,11 +22,9 @@ fn refusals() -> Vec<Worked> {
     vec![
         heading("1.1 The nine refusals, each from calls that give it"),
         scan("1 ColumnCount: no hints", ROW, "", 0, 0, 1),
-        attempt("1 ColumnCount: 511 hints", ROW, times(ANY, 511), 0, 0, 1),
         block("1 ColumnCount: 127 columns in the one-byte mode", ONE_BYTE, "08", 0, times(ANY, 127), 1),
         statement("1 ColumnCount: (PRIMARY KEY (a)) gives no hint", "(PRIMARY KEY (a))", 1),
         suits("2 Malformed: a hint code 6", 6, 0),
-        scan("2 Malformed: a hint code 255", ROW, "ff", 0, 0, 1),
         block("2 Malformed: no mode of rebuilding has the number 3", 3, "08", 0, "00", 1),
         recover("2 Malformed: two roots, one count", one_leaf("0208"), 512, &tables(&[1, 1], &[1], "00"), NO_SPACE),
         read("2 Malformed: an entry of state 4", [4, 0, 0, 0], "00"),
@@ -39,9 +35,7 @@ fn refusals() -> Vec<Worked> {
         page_data("6 NoSuchPage: page 0", times(0, 512), 512, 0),
         statement("7 NoColumnList: no ( in CREATE TABLE t", "CREATE TABLE t", 1),
         leaves("8 WalkSpace: no flag for the page", one_leaf("0208"), 512, 1, [0, 1, 1]),
-        leaves("8 WalkSpace: no stack for the root", one_leaf("0208"), 512, 1, [1, 0, 1]),
         attempt("9 NoRoom: a row, room for none", ROW, "00", 0, 0, 0),
-        leaves("9 NoRoom: a leaf, room for none", one_leaf("0208"), 512, 1, [1, 1, 0]),
     ]
 }
 
@@ -49,7 +43,6 @@ fn orders() -> Vec<Worked> {
     vec![
         heading("1.1 The first check that holds decides"),
         scan("1 before 2: 511 hints of code 6", ROW, times(6, 511), 0, 0, 1),
-        learn("1 before 2: width 0, an entry of state 4", "", &[[4, 0, 0, 0]], 0, 1),
         recover("2 before 3: 1025 tables of code 6", one_leaf("0208"), 512, &too_many(6), NO_SPACE),
         scan("2 before 4: code 6, base 2^48 + 1", ROW, "06", FARTHEST + 1, 0, 1),
         recover("3 before 5: 1025 tables, pages of 500", one_leaf("0208"), 500, &too_many(ANY), NO_SPACE),
@@ -76,11 +69,7 @@ fn empty_slices() -> Vec<Worked> {
         scan("an empty region", "", "00", 0, 0, 1),
         search("an empty haystack", "", "61", 1),
         search("an empty pattern", "61", "", 1),
-        recover("an empty database", "", 512, &tables(&[1], &[1], "00"), space),
         recover("no tables", one_leaf("0208"), 512, &tables(&[], &[], ""), space),
-        gap_slice("an empty page", ONE_BYTE, "", [0, 0], "00", 1),
-        modes("an empty block", "", 0, 1, 1),
-        learn("no rows to learn from", "", &[], 1, 1),
         scan("no hints are refusal 1", "", "", 0, 0, 1),
         statement("an empty statement is refusal 7", "", 1),
     ]

@@ -4,9 +4,6 @@ use super::making::*;
 use super::tablet::{one_leaf, SIZE};
 use super::Worked;
 
-/// The row 42, "hipik".
-const HIPIK: &str = "03 01 17 2a 68 69 70 69 6b";
-
 /// Three rows of two columns.
 const THREE: &str = "03 08 09 03 09 08 03 08 08";
 
@@ -22,8 +19,15 @@ fn sources() -> Vec<Worked> {
         modes("source 1, mode 1", "02 08 00", 100, 1, 1),
         modes("source 1, modes 2 and 3", "00 08 00 00 17 68 69", 100, 2, 2),
         gap_slice("source 2, a gap, percent 100", ONE_BYTE, "0d 0000 0000 000c 00 0208 0000", [0, 100], "00", 1),
-        block("source 2, the row id 7, percent 50", ONE_BYTE, "09 07 03 01 17 2a 68 69 70 69 6b", 100, "0003", 1),
-        block("source 2, the row id 0", ONE_BYTE, "02 00 0208", 100, "00", 1),
+        block(
+            "source 2, the row id 7, percent 50, room for 1",
+            ONE_BYTE,
+            "09 07 03 01 17 2a 68 69 70 69 6b",
+            100,
+            "0003",
+            1,
+        ),
+        block("source 2, the row id 0, room for 1", ONE_BYTE, "02 00 0208", 100, "00", 1),
         unallocated("source 3, percent 33", "04 01 17 08 2a 68 69 70 69 6b", &[1, 7, 7], 100, 1),
     ]
 }
@@ -64,7 +68,7 @@ fn groups() -> Vec<Worked> {
 
 fn rooms() -> Vec<Worked> {
     let lent = |rows: usize, entries: usize, fits: u64| {
-        let name = format!("{rows} cells of rows, {entries} of entries: {fits}");
+        let name = format!("{rows} cells of rows, {entries} of entries: room for {fits}");
         with_lists(scan(name, THREE, "0000", 0, 0, 0), &[rows, entries])
     };
     vec![
@@ -74,6 +78,5 @@ fn rooms() -> Vec<Worked> {
         lent(16, 15, 1),
         lent(24, 16, 2),
         lent(16, 24, 2),
-        lent(7, 24, 0),
     ]
 }

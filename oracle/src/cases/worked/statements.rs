@@ -40,7 +40,6 @@ fn left_out() -> Vec<Worked> {
         said("(key_of_primary integer, a TEXT)"),
         said("(a, primary key (a), Unique (a), check (a), foreign key (a), constraint c)"),
         said("(check_day INT, day_check INT)"),
-        said("(a INT PRIMARY KEY)"),
     ]
 }
 
@@ -54,7 +53,6 @@ fn hints() -> Vec<Worked> {
         said("(a REAL, b FLOAT, c DOUBLE, d NUMERIC, e DECIMAL(9))"),
         said("(a BLOB, b BINARY, c VARBINARY, d BLOBS)"),
         said("(a, b DATE, c \"INT\")"),
-        said("(a UNSIGNED INT)"),
     ]
 }
 
@@ -77,7 +75,6 @@ fn rooms() -> Vec<Worked> {
         statement("65536 bytes", long(65_536), 1),
         statement("3: 65537 bytes", long(65_537), 1),
         statement("3 before 7: 65537 bytes, no list", times(b'x', 65_537), 1),
-        statement("7 before 1: no list, and no column", ")", 1),
         statement("1: no column", "()", 1),
         statement("1 before 9: 511 columns, room for none", many(511), 0),
         statement("9: 510 columns, room for none", many(510), 0),
@@ -91,6 +88,5 @@ fn searches() -> Vec<Worked> {
         search("a in aaa, room for 2", "616161", "61", 2),
         search("aa in aaaa: overlapping places", "61616161", "6161", 4),
         search("a pattern longer than the haystack", "6162", "616263", 4),
-        search("an empty pattern", "616161", "", 4),
     ]
 }

@@ -1,11 +1,8 @@
 //! Databases that are made up. Where nothing is said a byte is 0; 10 fills blocks up, since no row has a column of the reserved type 10.
 
-use super::making::Lent;
+use super::making::{Lent, HIPIK};
 
 pub const SIZE: u64 = 512;
-
-/// The row 42, "hipik", of nine bytes.
-const ROW: &str = "03 01 17 2a 68 69 70 69 6b";
 
 /// Six pages of 512 bytes.
 pub fn tablet() -> Vec<u8> {
@@ -50,13 +47,13 @@ impl Tablet {
     /// to 6, and the gap begins so that a block of 24 bytes would stand there.
     fn leaf(&mut self) {
         self.put(1024, "0d 012c 0000 0100 00 0018 0a0a");
-        self.put(1036, ROW);
+        self.put(1036, HIPIK);
         self.put(1277, "03 08 00");
         self.put(1324, "0154 0014 0a0a");
-        self.put(1330, ROW);
+        self.put(1330, HIPIK);
         self.fill(1339, 5);
         self.put(1364, "0006 0018 0a0a0a 09 07");
-        self.put(1373, ROW);
+        self.put(1373, HIPIK);
         self.fill(1382, 6);
     }
 
@@ -64,7 +61,7 @@ impl Tablet {
     /// of 0 is past the page, so that there is no gap.
     fn leaf_with_a_block_in_its_header(&mut self) {
         self.put(1536, "0d 0007 0000 0000 00 00 001e 0a0a 09 08");
-        self.put(1551, ROW);
+        self.put(1551, HIPIK);
         self.fill(1560, 13);
     }
 
@@ -73,7 +70,7 @@ impl Tablet {
     fn leaf_with_a_loop(&mut self) {
         self.put(2048, "0d 00c8 0002 000c 00");
         self.put(2248, "00c8 0028 0f 05 03 01 23 2a 09 07");
-        self.put(2260, ROW);
+        self.put(2260, HIPIK);
         self.fill(2269, 19);
     }
 
@@ -86,8 +83,8 @@ impl Tablet {
     }
 }
 
-/// A page of 512 bytes, the first of its database: a leaf with one freed block at 120, which has this payload. The content starts behind the
-/// page, so that there is no gap.
+/// A page of 512 bytes, the first of its database: a leaf with one freed block at 120, which has this payload. The content starts
+/// behind the page, so that there is no gap.
 pub fn one_leaf(payload: &str) -> Vec<u8> {
     let payload = payload.lent();
     let mut db = vec![0; SIZE as usize];

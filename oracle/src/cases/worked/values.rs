@@ -21,7 +21,6 @@ fn varints() -> Vec<Worked> {
         varint("an empty slice", "", 0),
         varint("eight bytes that ask for more", "8080808080808080", 0),
         varint("at the slice's end", "05", 1),
-        varint("at 2^64 - 1", "05", u64::MAX),
         heading("2.4 The bytes that reading looks at where a varint runs off, as the count of a scan with one attempt"),
         scan("a header length that runs off", "808080", "05", 0, 0, 1),
         scan("a type that runs off", "02 8080", "05", 0, 0, 1),
@@ -31,7 +30,6 @@ fn varints() -> Vec<Worked> {
 fn lengths() -> Vec<Worked> {
     let mut all = vec![heading("2.5 The length of a type's body: there is one, its bytes")];
     all.extend((0..=13).map(|kind| body(format!("type {kind}"), kind)));
-    all.push(body("type 113", 113));
     all.push(body("the largest odd type", u64::MAX));
     all
 }
@@ -40,12 +38,13 @@ fn lengths() -> Vec<Worked> {
 const INTEGERS: [(u64, usize); 6] = [(1, 1), (2, 2), (3, 3), (4, 4), (5, 6), (6, 8)];
 
 fn integers() -> Vec<Worked> {
-    let mut all = vec![heading("2.6, 2.7 Integers of 1 to 8 bytes: tag 2, 64 bits, nothing, bytes taken")];
+    let mut all = vec![heading("2.6, 2.7 Integers: tag 2, 64 bits, nothing, bytes taken")];
     for (kind, bytes) in INTEGERS {
+        let width = if bytes == 1 { "1 byte".into() } else { format!("{bytes} bytes") };
         let number = |top: u8, rest: u8| [vec![top], times(rest, bytes - 1)].concat();
-        all.push(decode(format!("{bytes}, the smallest"), kind, number(0x80, 0), 0));
-        all.push(decode(format!("{bytes}, the largest"), kind, number(0x7F, 0xFF), 0));
-        all.push(decode(format!("{bytes}, -1"), kind, number(0xFF, 0xFF), 0));
+        all.push(decode(format!("{width}: the smallest"), kind, number(0x80, 0), 0));
+        all.push(decode(format!("{width}: the largest"), kind, number(0x7F, 0xFF), 0));
+        all.push(decode(format!("{width}: -1"), kind, number(0xFF, 0xFF), 0));
     }
     all
 }
@@ -61,8 +60,7 @@ fn values() -> Vec<Worked> {
         decode("minus infinity", 7, "fff0000000000000", 0),
         decode("the NaN of the lowest bits", 7, "7ff0000000000001", 0),
         decode("the NaN of all bits", 7, "ffffffffffffffff", 0),
-        heading("2.7 NULL, blobs and texts: tag 1, 5 or 4, nothing, start, bytes taken"),
-        decode("NULL", 0, "", 0),
+        heading("2.7 Blobs and texts: tag 5 or 4, nothing, start, bytes taken"),
         decode("a blob of two bytes", 16, "616263", 1),
         decode("a text of two bytes", 17, "616263", 1),
         decode("a text that is not UTF-8", 15, "ff", 0),
@@ -72,12 +70,11 @@ fn values() -> Vec<Worked> {
 fn places() -> Vec<Worked> {
     vec![
         heading("2.8 Bodies at and behind the slice's end"),
-        decode("NULL at 2^64 - 1", 0, "", u64::MAX),
+        decode("NULL, tag 1, at 2^64 - 1", 0, "", u64::MAX),
         decode("type 8, the integer 0, behind the slice", 8, "00", 2),
         decode("type 9, the integer 1, behind the slice", 9, "00", 2),
         decode("an empty blob at the end", 12, "00", 1),
         decode("an empty blob behind the end", 12, "00", 2),
-        decode("one byte at the end", 1, "00", 1),
         heading("2.9 No value"),
         decode("type 10", 10, "00", 0),
         decode("type 11", 11, "00", 0),

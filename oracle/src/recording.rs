@@ -13,12 +13,13 @@ use crate::compare::{against_the_rust, expected, Asked};
 use crate::panics;
 use crate::rules::limits::Limits;
 use crate::runner::Sink;
+use crate::selftest::noticing;
 use crate::text;
 use program::Program;
 use std::collections::{HashMap, HashSet};
 use std::{io, path::Path};
 
-/// Slices and cells in all of a case that is one of many, and of a walk: about eight pages with the lists.
+/// Slices and cells in all of a case that is one of many, and of one that is a walk: about eight pages with the lists.
 const LARGEST_OF_MANY: usize = 1200;
 const LARGEST_WALK: usize = 8 * 512 + 700;
 
@@ -50,7 +51,7 @@ struct Recorder {
 
 impl Sink for Recorder {
     fn put(&mut self, case: Case) {
-        if self.fails.is_none() && file::fits("", &case) && (self.keep_all || self.wanted(&case)) {
+        if self.fails.is_none() && has_room(&case) && (self.keep_all || self.wanted(&case)) {
             self.take("", &case);
         }
     }
@@ -127,6 +128,11 @@ impl Recorder {
     }
 }
 
+/// Whether the programs have room for a case without a name.
+pub fn has_room(case: &Case) -> bool {
+    file::fits("", case)
+}
+
 /// The name of a worked case, with its line for a reader who wants to try it.
 fn with_line(name: &str, case: &Case) -> String {
     let line = text::line(case);
@@ -155,6 +161,7 @@ pub fn record(folder: &str, seed: u64) -> io::Result<bool> {
     regions::bench_cases(&mut recorder);
     telling::all(&mut recorder);
     limits::to_be_recorded(&mut recorder);
+    noticing::one_of_each(&mut recorder, &has_room);
     recorder.keep_all = false;
     cases::all(&mut recorder, &Plan { seed, random: 200_000, large: false, long: false });
     match &recorder.fails {

@@ -46,12 +46,12 @@ struct Recorder {
     taken: HashSet<Vec<u8>>,
     keep_all: bool,
     /// Why there is no recording.
-    fails: Option<String>,
+    fails: Vec<String>,
 }
 
 impl Sink for Recorder {
     fn put(&mut self, case: Case) {
-        if self.fails.is_none() && has_room(&case) && (self.keep_all || self.wanted(&case)) {
+        if self.fails.is_empty() && has_room(&case) && (self.keep_all || self.wanted(&case)) {
             self.take("", &case);
         }
     }
@@ -92,9 +92,8 @@ impl Recorder {
         true
     }
 
-    /// The first reason is the one that is told.
     fn fail(&mut self, what: &str, why: &str) {
-        self.fails.get_or_insert(format!("{what}: {why}"));
+        self.fails.push(format!("{what}: {why}"));
     }
 
     fn head(&mut self, name: &str) {
@@ -151,7 +150,7 @@ pub fn record(folder: &str, seed: u64) -> io::Result<bool> {
         kinds: HashMap::new(),
         taken: HashSet::new(),
         keep_all: true,
-        fails: None,
+        fails: Vec::new(),
     };
     worked::all().into_iter().for_each(|part| recorder.work(part));
     recorder.head(UNNAMED);
@@ -164,9 +163,9 @@ pub fn record(folder: &str, seed: u64) -> io::Result<bool> {
     noticing::one_of_each(&mut recorder, &has_room);
     recorder.keep_all = false;
     cases::all(&mut recorder, &Plan { seed, random: 200_000, large: false, long: false });
-    match &recorder.fails {
-        Some(why) => println!("{why}"),
-        None => recorder.write(Path::new(folder), seed)?,
+    recorder.fails.iter().for_each(|why| println!("{why}"));
+    if recorder.fails.is_empty() {
+        recorder.write(Path::new(folder), seed)?;
     }
-    Ok(recorder.fails.is_none())
+    Ok(recorder.fails.is_empty())
 }

@@ -141,7 +141,7 @@ fn with_line(name: &str, case: &Case) -> String {
     format!("{name} [{line}]")
 }
 
-/// Writes the files of each program to a folder of its own; false where the Rust and the rules differ, or a worked case cannot be recorded.
+/// Writes the files of each program to a folder of its own; false where the Rust and the rules differ, or a worked case does not go in.
 pub fn record(folder: &str, seed: u64) -> io::Result<bool> {
     let mut recorder = Recorder {
         answers: Program::default(),

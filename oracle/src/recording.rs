@@ -13,12 +13,13 @@ use crate::compare::{against_the_rust, expected, Asked};
 use crate::panics;
 use crate::rules::limits::Limits;
 use crate::runner::Sink;
+use crate::selftest::noticing;
 use crate::text;
 use program::Program;
 use std::collections::{HashMap, HashSet};
 use std::{io, path::Path};
 
-/// Slices and cells in all of a case that is one of many, and of a walk: about eight pages with the lists.
+/// Slices and cells in all of a case that is one of many, and of one that is a walk: about eight pages with the lists.
 const LARGEST_OF_MANY: usize = 1200;
 const LARGEST_WALK: usize = 8 * 512 + 700;
 
@@ -45,12 +46,12 @@ struct Recorder {
     taken: HashSet<Vec<u8>>,
     keep_all: bool,
     /// Why there is no recording.
-    fails: Option<String>,
+    fails: Vec<String>,
 }
 
 impl Sink for Recorder {
     fn put(&mut self, case: Case) {
-        if self.fails.is_none() && file::fits("", &case) && (self.keep_all || self.wanted(&case)) {
+        if self.fails.is_empty() && has_room(&case) && (self.keep_all || self.wanted(&case)) {
             self.take("", &case);
         }
     }
@@ -91,9 +92,8 @@ impl Recorder {
         true
     }
 
-    /// The first reason is the one that is told.
     fn fail(&mut self, what: &str, why: &str) {
-        self.fails.get_or_insert(format!("{what}: {why}"));
+        self.fails.push(format!("{what}: {why}"));
     }
 
     fn head(&mut self, name: &str) {
@@ -127,6 +127,11 @@ impl Recorder {
     }
 }
 
+/// Whether the programs have room for a case without a name.
+pub fn has_room(case: &Case) -> bool {
+    file::fits("", case)
+}
+
 /// The name of a worked case, with its line for a reader who wants to try it.
 fn with_line(name: &str, case: &Case) -> String {
     let line = text::line(case);
@@ -136,7 +141,7 @@ fn with_line(name: &str, case: &Case) -> String {
     format!("{name} [{line}]")
 }
 
-/// Writes the files of each program to a folder of its own; false where the Rust and the rules differ, or a worked case cannot be recorded.
+/// Writes the files of each program to a folder of its own; false where the Rust and the rules differ, or a worked case does not go in.
 pub fn record(folder: &str, seed: u64) -> io::Result<bool> {
     let mut recorder = Recorder {
         answers: Program::default(),
@@ -145,7 +150,7 @@ pub fn record(folder: &str, seed: u64) -> io::Result<bool> {
         kinds: HashMap::new(),
         taken: HashSet::new(),
         keep_all: true,
-        fails: None,
+        fails: Vec::new(),
     };
     worked::all().into_iter().for_each(|part| recorder.work(part));
     recorder.head(UNNAMED);
@@ -155,11 +160,12 @@ pub fn record(folder: &str, seed: u64) -> io::Result<bool> {
     regions::bench_cases(&mut recorder);
     telling::all(&mut recorder);
     limits::to_be_recorded(&mut recorder);
+    noticing::one_of_each(&mut recorder, &has_room);
     recorder.keep_all = false;
     cases::all(&mut recorder, &Plan { seed, random: 200_000, large: false, long: false });
-    match &recorder.fails {
-        Some(why) => println!("{why}"),
-        None => recorder.write(Path::new(folder), seed)?,
+    recorder.fails.iter().for_each(|why| println!("{why}"));
+    if recorder.fails.is_empty() {
+        recorder.write(Path::new(folder), seed)?;
     }
-    Ok(recorder.fails.is_none())
+    Ok(recorder.fails.is_empty())
 }

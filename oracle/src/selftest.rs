@@ -1,12 +1,13 @@
 //! The comparison can fail: with one number of the rules changed by one, a difference must be found and cut down,
 //! against our side and, where the Rust has that number too, against the Rust.
 
+pub mod noticing;
 mod rebuilding;
 
 use crate::calls::{BLOCK, CALLS, COMPATIBLE, GAP_SLICE, LEARN, LEAVES, MODES, PAGE_DATA, READ_VARINT};
 use crate::calls::{RECOVER, RECOVER_SLICE, SCAN, STATEMENT, UNALLOC};
 use crate::cases::gaps::{self, AsGaps};
-use crate::cases::{blocks, chains, large, learned, learning, limits, modes, numbers};
+use crate::cases::{self, blocks, chains, large, learned, learning, limits, modes, numbers};
 use crate::cases::{statements, tables, values, varints, walks};
 use crate::random::Random;
 use crate::rules::limits::Limits;
@@ -519,6 +520,7 @@ fn found(server: &[String], change: &Change, sides: Sides) -> bool {
     (change.change)(&mut limits);
     let mut runner = Runner::new(limits, server, sides);
     (change.cases)(&mut runner, &mut Random::new(1), 0);
+    cases::worked(&mut runner);
     runner.finish();
     let side = if sides == Sides::OursOnly { "ours" } else { "the Rust" };
     let Some(difference) = &runner.difference else {
@@ -532,52 +534,4 @@ fn found(server: &[String], change: &Change, sides: Sides) -> bool {
         println!("NOT CUT DOWN to {} bytes and cells", change.at_most);
     }
     difference.case.size() <= change.at_most
-}
-
-#[cfg(test)]
-mod tests {
-    use super::*;
-    use crate::calls;
-    use crate::case::Case;
-    use crate::cases::telling;
-
-    /// The rules as they are, against those with one change; this needs neither the Rust nor an archive.
-    struct Noticing {
-        rules: Limits,
-        changed: Limits,
-        call: u8,
-        noticed: bool,
-    }
-
-    impl Sink for Noticing {
-        fn put(&mut self, case: Case) {
-            if !self.noticed && case.call == self.call {
-                let answer = calls::of(&case).answer;
-                self.noticed = answer(&self.rules, &case) != answer(&self.changed, &case);
-            }
-        }
-    }
-
-    fn noticed(change: &Change, cases: impl FnOnce(&mut Noticing)) -> bool {
-        let mut changed = Limits::of_the_rules();
-        (change.change)(&mut changed);
-        let mut sink = Noticing { rules: Limits::of_the_rules(), changed, call: change.call, noticed: false };
-        cases(&mut sink);
-        sink.noticed
-    }
-
-    #[test]
-    fn the_cases_show_each_change() {
-        for change in changes() {
-            let shown = noticed(change, |sink| (change.cases)(sink, &mut Random::new(1), 0));
-            assert!(shown, "{}", change.what);
-        }
-    }
-
-    #[test]
-    fn the_recorded_cases_show_the_changes_of_rebuilding() {
-        for change in rebuilding::CHANGES {
-            assert!(noticed(change, |sink| telling::all(sink)), "{}", change.what);
-        }
-    }
 }

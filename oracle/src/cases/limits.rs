@@ -21,7 +21,7 @@ pub fn all(sink: &mut dyn Sink, random: &mut Random, count: usize) {
     }
 }
 
-/// A case or a few of each boundary.
+/// A few of each, but for those of the largest regions.
 pub fn to_be_recorded(sink: &mut dyn Sink) {
     for h in [1, 2, 3, 511, 512, 513] {
         for wide in 1..=3 {

@@ -150,21 +150,16 @@ pub const TWO_BYTES: [usize; 3] = [127, 128, 510];
 
 /// The longest rows and those of a byte more, with types in so many bytes.
 pub fn long_rows(sink: &mut dyn Sink, types: &[usize]) {
+    const LONG: usize = 3;
     for &types in types {
         for total in 65_533..=65_536 {
-            sink.put(long_row(types, total));
+            let columns = types - LONG + 1;
+            let text = varint(13 + 2 * (total - types) as u64, LONG);
+            let mut payload = [&vec![8; columns - 1][..], &text].concat();
+            payload.resize(total, 0x80);
+            sink.put(Case::new(BLOCK, &[EXACT, 0], &[&payload, &vec![2; columns]], &lists(total % 2, columns)));
         }
     }
-}
-
-/// A row of so many bytes, but for its header length, that ends in a text.
-pub fn long_row(types: usize, total: usize) -> Case {
-    const LONG: usize = 3;
-    let columns = types - LONG + 1;
-    let text = varint(13 + 2 * (total - types) as u64, LONG);
-    let mut payload = [&vec![8; columns - 1][..], &text].concat();
-    payload.resize(total, 0x80);
-    Case::new(BLOCK, &[EXACT, 0], &[&payload, &vec![2; columns]], &lists(total % 2, columns))
 }
 
 /// A cell whose record reads as types, too, with wide ones among them; its length is right, or makes it none.

@@ -1,5 +1,5 @@
 //! Headers rebuilt exactly: where the bodies start, types up to the most bytes and past them, columns up to the most of either
-//! way, codes that name none, a cell's place, and the longest rows.
+//! way, codes that name none, and a cell's place.
 
 use crate::calls::{BLOCK, GAPS, GAP_PAGE, GAP_SLICE};
 use crate::case::Case;
@@ -7,7 +7,7 @@ use crate::cases::blocks::block;
 use crate::cases::databases::leaf;
 use crate::cases::gaps::both_ways;
 use crate::cases::limits::spread;
-use crate::cases::rebuilding::{bare, long_row};
+use crate::cases::rebuilding::bare;
 use crate::cases::records::header;
 use crate::cases::regions::lists;
 use crate::rules::limits::EXACT;
@@ -22,7 +22,6 @@ pub fn all(sink: &mut dyn Sink) {
     codes(sink);
     at_cells(sink);
     pages(sink);
-    long_rows(sink);
 }
 
 fn exact(sink: &mut dyn Sink, payload: &[u8], hints: &[u8], rows: usize) {
@@ -120,12 +119,5 @@ fn pages(sink: &mut dyn Sink) {
         let room = lists(3, types.len());
         both_ways(sink, Case::new(GAP_SLICE, &[0, 1000], &[&page, &hints], &room));
         both_ways(sink, Case::new(GAP_PAGE, &[512, 2], &[&page.repeat(2), &hints], &room));
-    }
-}
-
-/// Rows whose header length takes one byte or two, which count: the longest there may be, and one of a byte more.
-fn long_rows(sink: &mut dyn Sink) {
-    for (types, total) in [(126, 65_535), (127, 65_534), (127, 65_535)] {
-        sink.put(long_row(types, total));
     }
 }

@@ -4,7 +4,6 @@ mod values;
 
 use cases::case::HEAD;
 use cases::case::call;
-use cases::case::cells;
 use cases::files::MOST_CASES;
 use cases::files::Next;
 use cases::files::body_space;
@@ -44,17 +43,22 @@ fn answer(
     }
 }
 
-fn say_case(said: Output, n: u64, head: &[u8], body: &[u8]) -> Output {
+fn say_case(
+    said: Output,
+    n: u64,
+    head: &[u8],
+    body: &[u8],
+    bytes: &mut [u8],
+    first: &mut [u64],
+    second: &mut [u64],
+) -> Output {
     if call(head) == 0 {
         return heading(said, head, body);
     }
     let said = begin(said, n, head, body);
-    let mut bytes = byte_space();
-    let some = fill_bytes(&mut bytes, cells(head, 0));
-    let mut first = word_space();
-    let one = fill_words(&mut first, cells(head, 1));
-    let mut second = word_space();
-    let two = fill_words(&mut second, cells(head, 2));
+    let some = fill_bytes(bytes, head, 0);
+    let one = fill_words(first, head, 1);
+    let two = fill_words(second, head, 2);
     let said = answer(
         said,
         head,
@@ -66,7 +70,14 @@ fn say_case(said: Output, n: u64, head: &[u8], body: &[u8]) -> Output {
     said.say(b"\n")
 }
 
-fn say_cases(file: i32, head: &mut [u8], body: &mut [u8]) {
+fn say_cases(
+    file: i32,
+    head: &mut [u8],
+    body: &mut [u8],
+    bytes: &mut [u8],
+    first: &mut [u64],
+    second: &mut [u64],
+) {
     let mut said = Output::new();
     let mut n = 0;
     while n < MOST_CASES {
@@ -76,16 +87,27 @@ fn say_cases(file: i32, head: &mut [u8], body: &mut [u8]) {
             return;
         };
         n = n + 1;
-        said = say_case(said, n, head, body);
+        said = say_case(said, n, head, body, bytes, first, second);
     }
     finish(said, b"answers", Next::Case, n);
 }
 
 fn main() {
     let file = open(b"answers");
-    if file >= 0 {
-        let mut head = [0; HEAD];
-        let mut body = body_space();
-        say_cases(file, &mut head, &mut body);
+    if file < 0 {
+        return;
     }
+    let mut head = [0; HEAD];
+    let mut body = body_space();
+    let mut bytes = byte_space();
+    let mut first = word_space();
+    let mut second = word_space();
+    say_cases(
+        file,
+        &mut head,
+        &mut body,
+        &mut bytes,
+        &mut first,
+        &mut second,
+    );
 }

@@ -1,5 +1,6 @@
 // Lists that a call is lent: before it each cell tells its place, so that a cell that the call wrote, or did not, is known.
 use crate::case::CELLS;
+use crate::case::cells;
 use record::inner::wide;
 use sheet::WORDS_PER_ENTRY;
 use sheet::WORDS_PER_ROW;
@@ -40,10 +41,11 @@ fn fresh_byte(i: usize) -> u8 {
     200 + (i % 50) as u8
 }
 
-// Fresh cells, as many as a case asks for and the list has, and how many.
-pub fn fill_words(list: &mut [u64], cells: usize) -> usize
+// Fresh cells, as many as the list of the case has, and how many.
+pub fn fill_words(list: &mut [u64], head: &[u8], which: usize) -> usize
     ensures { λ r. ⌜ Counts r (now (list .exit)) ⌝ }
 {
+    let cells = cells(head, which);
     let mut i = 0;
     while i < list.len() {
         if i >= cells {
@@ -55,9 +57,10 @@ pub fn fill_words(list: &mut [u64], cells: usize) -> usize
     i
 }
 
-pub fn fill_bytes(list: &mut [u8], cells: usize) -> usize
+pub fn fill_bytes(list: &mut [u8], head: &[u8], which: usize) -> usize
     ensures { λ r. ⌜ Counts r (now (list .exit)) ⌝ }
 {
+    let cells = cells(head, which);
     let mut i = 0;
     while i < list.len() {
         if i >= cells {

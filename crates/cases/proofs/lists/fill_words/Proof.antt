@@ -10,10 +10,13 @@ use Rattle.cases.proofs.lists.fill_words.Statement.{statement}
 use Rattle.cases.proofs.lists.fill_words.Tie as tie
 
 abbrev Inv-loop : tie.InvT-loop
-Inv-loop list₀ cells i₀ list i = (i ≤ length list) × (length list ≡ length list₀)
+Inv-loop list₀ head which cells i₀ list i = (i ≤ length list) × (length list ≡ length list₀)
 
 abbrev μ-loop : tie.MeasureT-loop
-μ-loop list₀ cells i₀ list i = length list₀ - i
+μ-loop list₀ head which cells i₀ list i = length list₀ - i
+
+cells-requires : tie.Need-cells-requires Inv-loop μ-loop
+cells-requires c κs = search needs
 
 loop-holds : tie.Need-loop-holds Inv-loop μ-loop
 loop-holds c = search needs
@@ -54,6 +57,7 @@ fill-words-spec =
     (tie.spec
     Inv-loop
     μ-loop
+    cells-requires
     loop-holds
     same-length
     returns

@@ -75,13 +75,13 @@ impl Recorder {
         false
     }
 
-    /// False where the case was taken before.
-    fn take(&mut self, name: &str, case: &Case) -> bool {
+    /// A case may show two rules, under two names; without a name none comes twice.
+    fn take(&mut self, name: &str, case: &Case) {
         let call = calls::of(case);
         let mut frame = Vec::new();
         case.frame(call.lists, &mut frame);
-        if !self.taken.insert(frame) {
-            return false;
+        if !self.taken.insert(frame) && name.is_empty() {
+            return;
         }
         let (answer, asked) = expected(&self.limits, case);
         if let Some(why) = against_the_rust(case, &asked) {
@@ -89,7 +89,6 @@ impl Recorder {
         }
         let program = if call.writes_rows() { &mut self.carved } else { &mut self.answers };
         program.put(name, case, &answer, asked == Asked::Said(Given::Agrees));
-        true
     }
 
     fn fail(&mut self, what: &str, why: &str) {
@@ -111,9 +110,8 @@ impl Recorder {
                 let name = with_line(&name, &case);
                 if !file::fits(&name, &case) {
                     self.fail("a worked case is too long", &name);
-                } else if !self.take(&name, &case) {
-                    self.fail("a worked case comes twice", &name);
                 }
+                self.take(&name, &case);
             }
         }
     }

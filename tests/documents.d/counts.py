@@ -19,6 +19,8 @@ COUNTS = [
     (PROMISES, r"on ([\d,]+) the Rust agreed", "stored cases that the Rust agreed on"),
     (PROMISES, r"([\d,]+) have a name", "stored cases with a name"),
     (ORACLE, r"seed \d+: ([\d,]+)\s+cases", "stored cases"),
+    (ORACLE, r"of which `answers` has ([\d,]+)", "stored cases of answers"),
+    (ORACLE, r"and `carved` ([\d,]+)\.", "stored cases of carved"),
     (ORACLE, r"On ([\d,]+) of them\s+the Rust was asked", "stored cases that the Rust agreed on"),
     (ORACLE, r"on ([\d,]+) the rules alone decide", "stored cases that the rules decide"),
     (PROMISES, r"compares ([\d,]+) more with outputs", "inputs of tests/carvelist-cases"),
@@ -49,7 +51,7 @@ REFUSALS = {
     "wrapper/src/refusal.rs": r"^    (\w+) = (\d+),$",
     "crates/sheet/specs/Refusal.antt": r"^refusalNumber (\w+) = (\d+)$",
 }
-HEAD, CALL, NAME, RUST = 168, 8, 152, 160  # bytes of a stored case's head, and where its words stand
+HEAD, CALL, NAME, SIZE, RUST = 160, 0, 72, 112, 152  # bytes of a stored case's head, and where its words stand
 SMALL = ("zero one two three four five six seven eight nine ten "
          "eleven twelve thirteen fourteen fifteen sixteen seventeen eighteen nineteen").split()
 TENS = "twenty thirty forty fifty sixty seventy eighty ninety".split()
@@ -67,7 +69,7 @@ def stored(tree, program):
     """Of each stored case of a program: whether the Rust agreed, and whether it has a name. Headings are none."""
     file, at, cases = tree.files.get(f"crates/{program}/data/cases.bin", b""), 0, []
     while at < len(file):
-        size, call, name, rust = (struct.unpack_from(">Q", file, at + word)[0] for word in (0, CALL, NAME, RUST))
+        size, call, name, rust = (struct.unpack_from(">Q", file, at + word)[0] for word in (SIZE, CALL, NAME, RUST))
         if call:
             cases.append((rust == 1, name > 0))
         at += HEAD + size

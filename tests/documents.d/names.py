@@ -140,16 +140,10 @@ def where(tree, path, word, line):
     return [f"{path.split('/')[0]}/{word}", *(f"crates/{crate}/{word}" for crate in named)]
 
 
-def written_by_code(tree):
-    """Names of files that code beside the crates has as texts of its own: it writes them where it is told to."""
-    for path, text in tree.like(BESIDE).items():
-        yield from (name for name in re.findall(r'"([^"\n]+)"', code(path, text)) if FILE.fullmatch(name))
-
-
 def check_files(tree):
     """Files and folders: paths anywhere, in fenced code too, and bare names of files in backquotes."""
     top = {path.split("/")[0] for path in tree.files if "/" in path} | set(OF_A_CRATE)
-    bare = {posixpath.basename(path) for path in tree.files} | set(of_the_rust(tree)) | set(written_by_code(tree))
+    bare = {posixpath.basename(path) for path in tree.files} | set(of_the_rust(tree))
     for path, text in {**tree.documents, **tree.sources}.items():
         said = text if path.endswith(".md") else prose(path, text)
         for line, whole in zip(lines_of(said), said.split("\n")):

@@ -11,12 +11,18 @@ ORACLE, HEADER = "oracle/README.md", "include/phsarodil.h"
 # Where a number stands (a file, or files by a pattern), and what it counts: a line of `counted`, or a definition with its crate.
 # Notes of requests say what was, and are left out.
 COUNTS = [
-    ("README.md", r"([\d,]+) cases are recorded", "recorded cases"),
-    (DIFFERENCES, r"([\d,]+) recorded cases in every check", "recorded cases"),
-    (PROMISES, r"stored run of `replay` is of ([\d,]+) cases", "recorded cases"),
-    (ORACLE, r"seed \d+: ([\d,]+)\s+cases", "recorded cases"),
-    (ORACLE, r"On ([\d,]+) of them\s+the Rust was asked", "recorded cases that the Rust agreed on"),
-    (ORACLE, r"on ([\d,]+) the rules alone decide", "recorded cases that the rules decide"),
+    ("README.md", r"Of ([\d,]+) cases it wrote down", "stored cases"),
+    (DIFFERENCES, r"repeat ([\d,]+) cases in every check", "stored cases"),
+    (PROMISES, r"stored runs are of ([\d,]+) cases", "stored cases"),
+    (PROMISES, r"([\d,]+) of them in `answers`", "stored cases of answers"),
+    (PROMISES, r"and ([\d,]+) in `carved`", "stored cases of carved"),
+    (PROMISES, r"on ([\d,]+) the Rust agreed", "stored cases that the Rust agreed on"),
+    (PROMISES, r"([\d,]+) have a name", "stored cases with a name"),
+    (ORACLE, r"seed \d+: ([\d,]+)\s+cases", "stored cases"),
+    (ORACLE, r"of which `answers` has ([\d,]+)", "stored cases of answers"),
+    (ORACLE, r"and `carved` ([\d,]+)\.", "stored cases of carved"),
+    (ORACLE, r"On ([\d,]+) of them\s+the Rust was asked", "stored cases that the Rust agreed on"),
+    (ORACLE, r"on ([\d,]+) the rules alone decide", "stored cases that the rules decide"),
     (PROMISES, r"compares ([\d,]+) more with outputs", "inputs of tests/carvelist-cases"),
     (DIFFERENCES, r"([\d,]+) cases over", "cases in the table of calls"),
     (DIFFERENCES, r"([\d,]+) of them with the Rust", "cases with the Rust in the table of calls"),
@@ -45,7 +51,7 @@ REFUSALS = {
     "wrapper/src/refusal.rs": r"^    (\w+) = (\d+),$",
     "crates/sheet/specs/Refusal.antt": r"^refusalNumber (\w+) = (\d+)$",
 }
-HEAD, RUST = 144, 136  # bytes of a recorded case's head, and where it says that the Rust agreed
+HEAD, CALL, NAME, SIZE, RUST = 160, 0, 72, 112, 152  # bytes of a stored case's head, and where its words stand
 SMALL = ("zero one two three four five six seven eight nine ten "
          "eleven twelve thirteen fourteen fifteen sixteen seventeen eighteen nineteen").split()
 TENS = "twenty thirty forty fifty sixty seventy eighty ninety".split()
@@ -59,15 +65,15 @@ def number(said):
     return SMALL.index(said) if said in SMALL else int(said.replace(",", "")) if said[0].isdigit() else -1
 
 
-def recorded(tree):
-    """Of each recorded case, whether the Rust agreed."""
-    at, agreed = 0, []
-    recording = next((content for path, content in tree.files.items() if re.fullmatch(r"crates/\w+/data/cases\.bin", path)), b"")
-    while at < len(recording):
-        size, = struct.unpack_from(">Q", recording, at)
-        agreed.append(struct.unpack_from(">Q", recording, at + RUST)[0])
+def stored(tree, program):
+    """Of each stored case of a program: whether the Rust agreed, and whether it has a name. Headings are none."""
+    file, at, cases = tree.files.get(f"crates/{program}/data/cases.bin", b""), 0, []
+    while at < len(file):
+        size, call, name, rust = (struct.unpack_from(">Q", file, at + word)[0] for word in (SIZE, CALL, NAME, RUST))
+        if call:
+            cases.append((rust == 1, name > 0))
         at += HEAD + size
-    return agreed
+    return cases
 
 
 def column(tree, path, name):
@@ -88,14 +94,18 @@ def defined(tree):
 
 def counted(tree):
     """What there is to count, and how much of it."""
-    agreed = recorded(tree)
+    answers, carved = stored(tree, "answers"), stored(tree, "carved")
+    agreed = sum(rust for rust, _ in answers + carved)
     calls = [function for function in functions(tree, {"phsarodil"}) if function.name.startswith("phs_")]
     numbers = collections.defaultdict(lambda: -1, defined(tree))
     return {
         **numbers,
-        "recorded cases": len(agreed),
-        "recorded cases that the Rust agreed on": sum(agreed),
-        "recorded cases that the rules decide": len(agreed) - sum(agreed),
+        "stored cases": len(answers + carved),
+        "stored cases of answers": len(answers),
+        "stored cases of carved": len(carved),
+        "stored cases that the Rust agreed on": agreed,
+        "stored cases that the rules decide": len(answers + carved) - agreed,
+        "stored cases with a name": sum(named for _, named in answers + carved),
         "inputs of tests/carvelist-cases": sum(path.startswith("tests/carvelist-cases/") and path.endswith(".in") for path in tree.files),
         "cases in the table of calls": sum_of(tree, DIFFERENCES, "Cases"),
         "cases with the Rust in the table of calls": sum_of(tree, DIFFERENCES, "With the Rust"),

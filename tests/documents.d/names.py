@@ -15,8 +15,9 @@ OTHERS = {
     "a word or a function of Rattle, of Rust or of C": "requires data f64 f64::from_bits to_bits nanosleep memcpy memset",
     "the kit's own": "toBits Post os::fail",
     "put together by the bench": "small-blocks exact-high-of-510-columns",
-    "gone, and docs/requests/K8.md says so": "oneByte",
 }
+# What is gone, by the one document that still tells of it.
+GONE = {"docs/requests/K8.md": "oneByte edges recording replay rowcases shown valuecases walks"}
 BESIDE = r"(?!tests/documents)((oracle|bench|wrapper|include|examples|tests)/.*\.(rs|c|h|py|awk)|(oracle|bench|tests)/[^./]+)"
 NO_NAME = re.compile(r"[0-9A-F]{2}|[0-9A-F]{8,}|\w")  # a byte or bits in hexadecimal, a letter
 NAME = re.compile(r"[A-Za-z][\w-]*(?:::[A-Za-z]\w*)*")
@@ -99,11 +100,12 @@ def check_documents(tree):
     """Names in documents; in docs/PROMISES.md those of the section's crates and of what these rest on."""
     names = Names(tree)
     for path, text in tree.documents.items():
+        gone = GONE.get(path, "").split()
         for line in lines_of(text):
             for column, cell in line.cells:
                 kind, known = names.in_column(line.heading, column) if path == PROMISES else ("name", names.everywhere)
                 for name in (name for token in quoted(cell) if not FILE.fullmatch(token) for name in names_in(token)):
-                    if name not in known:
+                    if name not in known and name not in gone:
                         yield f"{path}:{line.number}", f"no {kind}: `{name}`"
 
 

@@ -30,6 +30,7 @@ WRONG = [
     (rules.check_in_order, "docs/RULES.md", "\n**C.9** Nothing.\n", "rule C.9 stands where"),
     (names.check_documents, README, "\nSee `no-such-law`.\n", "no name: `no-such-law`"),
     (names.check_documents, README, "\nSee `Entry::no_such`.\n", "no name: `Entry::no_such`"),
+    (names.check_documents, README, "\nSee `oneByte`.\n", "no name: `oneByte`"),
     (names.check_documents, PROMISES, ROW.format("`read_varint`", "`varintAt`", "`overlap_lost`"),
      "no edit of this section's crates: `overlap_lost`"),
     (names.check_documents, PROMISES, ROW.format("`read_varint`", "`read_varint`", "none"),

@@ -5,7 +5,7 @@ mod file;
 mod line;
 mod program;
 
-use crate::calls::{self, Given, GAPS, LEAVES, RECOVER};
+use crate::calls::{self, Given, BLOCK, GAPS, LEAVES, RECOVER};
 use crate::case::Case;
 use crate::cases::worked::{self, Worked};
 use crate::cases::{self, limits, regions, telling, Plan};
@@ -22,6 +22,9 @@ use std::{io, path::Path};
 /// Slices and cells in all of a case that is one of many, and of one that is a walk: about eight pages with the lists.
 const LARGEST_OF_MANY: usize = 1200;
 const LARGEST_WALK: usize = 8 * 512 + 700;
+
+/// Rebuilding reads up to 510 bytes of types at every start of a payload: of a longer one an unproved run does not end in time.
+const LARGEST_REBUILT: usize = 8192;
 
 /// Words of a slice of a case that is one of many.
 const MOST_WORDS_OF_MANY: usize = 300;
@@ -125,9 +128,9 @@ impl Recorder {
     }
 }
 
-/// Whether the programs have room for a case without a name.
+/// Whether the programs have room and time for a case without a name.
 pub fn has_room(case: &Case) -> bool {
-    file::fits("", case)
+    file::fits("", case) && !(case.call == BLOCK && case.slices[0].len() > LARGEST_REBUILT)
 }
 
 /// The name of a worked case, with its line for a reader who wants to try it.

@@ -58,12 +58,6 @@ pub fn open(program: &[u8]) -> i32 {
     file
 }
 
-fn fail() {
-    let mut path = io::buffer();
-    let n = os::arg(1, &mut path);
-    os::fail(&path[..n]);
-}
-
 fn read_body(file: i32, body: &mut [u8]) -> Next {
     let Got::Bytes(n) = read_whole(file, body) else {
         return Next::Failed;
@@ -104,7 +98,10 @@ fn tell(program: &[u8], next: Next, n: u64) {
     match next {
         Next::Case => complain_of(program, b": the cases are not read further than case ", n),
         Next::Broken => complain_of(program, b": the cases break off behind case ", n),
-        Next::Failed => fail(),
+        Next::Failed => {
+            complain(program, b": ");
+            os::fail(b"the file of cases");
+        }
         Next::End => {
             if n == 0 {
                 complain(program, b": there is no case\n");

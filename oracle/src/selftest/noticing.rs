@@ -3,6 +3,7 @@
 use super::{changes, Change};
 use crate::calls;
 use crate::case::Case;
+use crate::cases;
 use crate::random::Random;
 use crate::rules::limits::Limits;
 use crate::runner::Sink;
@@ -26,12 +27,14 @@ impl Sink for Noticing<'_> {
     }
 }
 
-/// The first case of a change that shows it, of those that it may be.
+/// The first case of a change that shows it, of those that it may be; else a worked one, which is recorded in any case.
 fn first(change: &Change, may_be: &dyn Fn(&Case) -> bool) -> Option<Case> {
     let mut changed = Limits::of_the_rules();
     (change.change)(&mut changed);
     let mut noticing = Noticing { rules: Limits::of_the_rules(), changed, call: change.call, may_be, first: None };
     (change.cases)(&mut noticing, &mut Random::new(1), 0);
+    noticing.may_be = &|_| true;
+    cases::worked(&mut noticing);
     noticing.first
 }
 

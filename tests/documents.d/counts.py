@@ -72,7 +72,7 @@ def stored(tree, program):
         size, call, name, rust = (struct.unpack_from(">Q", file, at + word)[0] for word in (SIZE, CALL, NAME, RUST))
         if call:
             cases.append((rust == 1, name > 0))
-        at += HEAD + size
+        at += size
     return cases
 
 

@@ -13,20 +13,15 @@ use phsarodil::lists::phs_from_create_sql;
 use phsarodil::pages::phs_collect_leaf_pages;
 use streams::Output;
 
-pub fn from_create_sql(said: Output, head: &[u8], body: &[u8], hints: &mut [u8]) -> Output {
+pub fn from_create_sql(said: Output, case: &[u8], hints: &mut [u8]) -> Output {
     let mut out = [0; 1];
-    let answer = phs_from_create_sql(slice(head, body, 0), hints, &mut out);
+    let answer = phs_from_create_sql(slice(case, 0), hints, &mut out);
     say_bytes(answered(said, answer, &[out[0]]), b"hints", hints)
 }
 
-pub fn boyer_moore_search(said: Output, head: &[u8], body: &[u8], places: &mut [u64]) -> Output {
+pub fn boyer_moore_search(said: Output, case: &[u8], places: &mut [u64]) -> Output {
     let mut out = [0; 1];
-    let answer = phs_boyer_moore_search(
-        slice(head, body, 0),
-        slice(head, body, 1),
-        places,
-        &mut out,
-    );
+    let answer = phs_boyer_moore_search(slice(case, 0), slice(case, 1), places, &mut out);
     say_list(
         answered(said, answer, &[out[0]]),
         b"places",
@@ -37,17 +32,16 @@ pub fn boyer_moore_search(said: Output, head: &[u8], body: &[u8], places: &mut [
 
 pub fn collect_leaf_pages(
     said: Output,
-    head: &[u8],
-    body: &[u8],
+    case: &[u8],
     flags: &mut [u8],
     stack: &mut [u64],
     leaves: &mut [u64],
 ) -> Output {
     let mut out = [0; 1];
     let answer = phs_collect_leaf_pages(
-        slice(head, body, 0),
-        number(head, 0),
-        number(head, 1),
+        slice(case, 0),
+        number(case, 0),
+        number(case, 1),
         flags,
         stack,
         leaves,
@@ -58,13 +52,13 @@ pub fn collect_leaf_pages(
     say_list(said, b"leaves", Cells::Words, leaves)
 }
 
-pub fn learn_signatures(said: Output, head: &[u8], body: &[u8], types: &mut [u64]) -> Output {
+pub fn learn_signatures(said: Output, case: &[u8], types: &mut [u64]) -> Output {
     let mut entries = word_list();
-    let n = words(slice(head, body, 1), &mut entries);
+    let n = words(slice(case, 1), &mut entries);
     let mut out = [0; 1];
     let answer = phs_learn_signatures(
-        slice(head, body, 0),
-        number(head, 0) as usize,
+        slice(case, 0),
+        number(case, 0) as usize,
         &entries[..n],
         types,
         &mut out,

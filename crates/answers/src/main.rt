@@ -2,11 +2,10 @@
 mod lists;
 mod values;
 
-use cases::case::HEAD;
 use cases::case::call;
 use cases::files::MOST_CASES;
 use cases::files::Next;
-use cases::files::body_space;
+use cases::files::case_space;
 use cases::files::finish;
 use cases::files::open;
 use cases::files::read_case;
@@ -21,24 +20,23 @@ use streams::Output;
 // The call by its number, with the lists that it is lent.
 fn answer(
     said: Output,
-    head: &[u8],
-    body: &[u8],
+    case: &[u8],
     bytes: &mut [u8],
     first: &mut [u64],
     second: &mut [u64],
 ) -> Output {
-    match call(head) {
-        1 => values::read_varint(said, head, body),
-        2 => values::body_length(said, head),
-        3 => values::decode_serial_type(said, head, body),
-        4 => values::read_entry(said, head, body),
-        5 => values::view_entry(said, head, body),
-        6 => values::is_compatible(said, head),
-        9 => lists::from_create_sql(said, head, body, bytes),
-        10 => lists::boyer_moore_search(said, head, body, first),
-        11 => values::get_page_data(said, head, body),
-        12 => lists::collect_leaf_pages(said, head, body, bytes, first, second),
-        21 => lists::learn_signatures(said, head, body, first),
+    match call(case) {
+        1 => values::read_varint(said, case),
+        2 => values::body_length(said, case),
+        3 => values::decode_serial_type(said, case),
+        4 => values::read_entry(said, case),
+        5 => values::view_entry(said, case),
+        6 => values::is_compatible(said, case),
+        9 => lists::from_create_sql(said, case, bytes),
+        10 => lists::boyer_moore_search(said, case, first),
+        11 => values::get_page_data(said, case),
+        12 => lists::collect_leaf_pages(said, case, bytes, first, second),
+        21 => lists::learn_signatures(said, case, first),
         _ => said.say(b"there is no such call here"),
     }
 }
@@ -46,23 +44,21 @@ fn answer(
 fn say_case(
     said: Output,
     n: u64,
-    head: &[u8],
-    body: &[u8],
+    case: &[u8],
     bytes: &mut [u8],
     first: &mut [u64],
     second: &mut [u64],
 ) -> Output {
-    if call(head) == 0 {
-        return heading(said, head, body);
+    if call(case) == 0 {
+        return heading(said, case);
     }
-    let said = begin(said, n, head, body);
-    let some = fill_bytes(bytes, head, 0);
-    let one = fill_words(first, head, 1);
-    let two = fill_words(second, head, 2);
+    let said = begin(said, n, case);
+    let some = fill_bytes(bytes, case, 0);
+    let one = fill_words(first, case, 1);
+    let two = fill_words(second, case, 2);
     let said = answer(
         said,
-        head,
-        body,
+        case,
         &mut bytes[..some],
         &mut first[..one],
         &mut second[..two],
@@ -70,24 +66,17 @@ fn say_case(
     said.say(b"\n")
 }
 
-fn say_cases(
-    file: i32,
-    head: &mut [u8],
-    body: &mut [u8],
-    bytes: &mut [u8],
-    first: &mut [u64],
-    second: &mut [u64],
-) {
+fn say_cases(file: i32, case: &mut [u8], bytes: &mut [u8], first: &mut [u64], second: &mut [u64]) {
     let mut said = Output::new();
     let mut n = 0;
     while n < MOST_CASES {
-        let next = read_case(file, head, body);
+        let next = read_case(file, case);
         let Next::Case = next else {
             finish(said, b"answers", next, n);
             return;
         };
         n = n + 1;
-        said = say_case(said, n, head, body, bytes, first, second);
+        said = say_case(said, n, case, bytes, first, second);
     }
     finish(said, b"answers", Next::Case, n);
 }
@@ -97,17 +86,9 @@ fn main() {
     if file < 0 {
         return;
     }
-    let mut head = [0; HEAD];
-    let mut body = body_space();
+    let mut case = case_space();
     let mut bytes = byte_space();
     let mut first = word_space();
     let mut second = word_space();
-    say_cases(
-        file,
-        &mut head,
-        &mut body,
-        &mut bytes,
-        &mut first,
-        &mut second,
-    );
+    say_cases(file, &mut case, &mut bytes, &mut first, &mut second);
 }

@@ -3,11 +3,10 @@ mod regions;
 mod spaces;
 mod tables;
 
-use cases::case::HEAD;
 use cases::case::call;
 use cases::files::MOST_CASES;
 use cases::files::Next;
-use cases::files::body_space;
+use cases::files::case_space;
 use cases::files::finish;
 use cases::files::open;
 use cases::files::read_case;
@@ -22,25 +21,24 @@ use streams::Output;
 // The call by its number. Rows are the first list of words, or, where a call walks, the second.
 fn carve(
     said: Output,
-    head: &[u8],
-    body: &[u8],
+    case: &[u8],
     flags: &mut [u8],
     first: &mut [u64],
     second: &mut [u64],
     third: &mut [u64],
 ) -> Output {
-    match call(head) {
-        7 => regions::try_parse_record(said, head, body, first, second),
-        8 => regions::scan_region(said, head, body, first, second),
-        13 => tables::recover_freeblocks(said, head, body, flags, first, second, third),
-        14 => spaces::recover_page_freeblocks(said, head, body, first, second),
-        15 => spaces::recover_slice_freeblocks(said, head, body, first, second),
-        16 => tables::scan_page_gaps(said, head, body, flags, first, second, third),
-        17 => spaces::scan_page_gap(said, head, body, first, second),
-        18 => spaces::scan_single_page_gap(said, head, body, first, second),
-        19 => spaces::parse_cells_from_freeblock(said, head, body, first, second),
-        20 => regions::carve_freeblock(said, head, body, first, second),
-        22 => regions::carve_unallocated(said, head, body, first, second),
+    match call(case) {
+        7 => regions::try_parse_record(said, case, first, second),
+        8 => regions::scan_region(said, case, first, second),
+        13 => tables::recover_freeblocks(said, case, flags, first, second, third),
+        14 => spaces::recover_page_freeblocks(said, case, first, second),
+        15 => spaces::recover_slice_freeblocks(said, case, first, second),
+        16 => tables::scan_page_gaps(said, case, flags, first, second, third),
+        17 => spaces::scan_page_gap(said, case, first, second),
+        18 => spaces::scan_single_page_gap(said, case, first, second),
+        19 => spaces::parse_cells_from_freeblock(said, case, first, second),
+        20 => regions::carve_freeblock(said, case, first, second),
+        22 => regions::carve_unallocated(said, case, first, second),
         _ => said.say(b"there is no such call here"),
     }
 }
@@ -48,25 +46,23 @@ fn carve(
 fn say_case(
     said: Output,
     n: u64,
-    head: &[u8],
-    body: &[u8],
+    case: &[u8],
     flags: &mut [u8],
     first: &mut [u64],
     second: &mut [u64],
     third: &mut [u64],
 ) -> Output {
-    if call(head) == 0 {
-        return heading(said, head, body);
+    if call(case) == 0 {
+        return heading(said, case);
     }
-    let said = begin(said, n, head, body);
-    let some = fill_bytes(flags, head, 0);
-    let one = fill_words(first, head, 1);
-    let two = fill_words(second, head, 2);
-    let three = fill_words(third, head, 3);
+    let said = begin(said, n, case);
+    let some = fill_bytes(flags, case, 0);
+    let one = fill_words(first, case, 1);
+    let two = fill_words(second, case, 2);
+    let three = fill_words(third, case, 3);
     let said = carve(
         said,
-        head,
-        body,
+        case,
         &mut flags[..some],
         &mut first[..one],
         &mut second[..two],
@@ -77,8 +73,7 @@ fn say_case(
 
 fn say_cases(
     file: i32,
-    head: &mut [u8],
-    body: &mut [u8],
+    case: &mut [u8],
     flags: &mut [u8],
     first: &mut [u64],
     second: &mut [u64],
@@ -87,13 +82,13 @@ fn say_cases(
     let mut said = Output::new();
     let mut n = 0;
     while n < MOST_CASES {
-        let next = read_case(file, head, body);
+        let next = read_case(file, case);
         let Next::Case = next else {
             finish(said, b"carved", next, n);
             return;
         };
         n = n + 1;
-        said = say_case(said, n, head, body, flags, first, second, third);
+        said = say_case(said, n, case, flags, first, second, third);
     }
     finish(said, b"carved", Next::Case, n);
 }
@@ -103,16 +98,14 @@ fn main() {
     if file < 0 {
         return;
     }
-    let mut head = [0; HEAD];
-    let mut body = body_space();
+    let mut case = case_space();
     let mut flags = byte_space();
     let mut first = word_space();
     let mut second = word_space();
     let mut third = word_space();
     say_cases(
         file,
-        &mut head,
-        &mut body,
+        &mut case,
         &mut flags,
         &mut first,
         &mut second,

@@ -11,19 +11,13 @@ use phsarodil::rows::phs_scan_region;
 use phsarodil::rows::phs_try_parse_record;
 use streams::Output;
 
-pub fn try_parse_record(
-    said: Output,
-    head: &[u8],
-    body: &[u8],
-    rows: &mut [u64],
-    cols: &mut [u64],
-) -> Output {
+pub fn try_parse_record(said: Output, case: &[u8], rows: &mut [u64], cols: &mut [u64]) -> Output {
     let mut out = [0; 3];
     let answer = phs_try_parse_record(
-        slice(head, body, 0),
-        slice(head, body, 1),
-        number(head, 0),
-        number(head, 1) as usize,
+        slice(case, 0),
+        slice(case, 1),
+        number(case, 0),
+        number(case, 1) as usize,
         rows,
         cols,
         &mut out,
@@ -35,19 +29,13 @@ pub fn try_parse_record(
     )
 }
 
-pub fn scan_region(
-    said: Output,
-    head: &[u8],
-    body: &[u8],
-    rows: &mut [u64],
-    cols: &mut [u64],
-) -> Output {
+pub fn scan_region(said: Output, case: &[u8], rows: &mut [u64], cols: &mut [u64]) -> Output {
     let mut out = [0; 3];
     let answer = phs_scan_region(
-        slice(head, body, 0),
-        slice(head, body, 1),
-        number(head, 0),
-        number(head, 1) as usize,
+        slice(case, 0),
+        slice(case, 1),
+        number(case, 0),
+        number(case, 1) as usize,
         rows,
         cols,
         &mut out,
@@ -59,18 +47,12 @@ pub fn scan_region(
     )
 }
 
-pub fn carve_freeblock(
-    said: Output,
-    head: &[u8],
-    body: &[u8],
-    rows: &mut [u64],
-    cols: &mut [u64],
-) -> Output {
+pub fn carve_freeblock(said: Output, case: &[u8], rows: &mut [u64], cols: &mut [u64]) -> Output {
     let mut out = [0; 1];
     let answer = phs_carve_freeblock(
-        slice(head, body, 0),
-        number(head, 0),
-        number(head, 1) as usize,
+        slice(case, 0),
+        number(case, 0),
+        number(case, 1) as usize,
         rows,
         cols,
         &mut out,
@@ -78,20 +60,14 @@ pub fn carve_freeblock(
     say_rows(answered(said, answer, &[out[0]]), rows, cols)
 }
 
-pub fn carve_unallocated(
-    said: Output,
-    head: &[u8],
-    body: &[u8],
-    rows: &mut [u64],
-    cols: &mut [u64],
-) -> Output {
+pub fn carve_unallocated(said: Output, case: &[u8], rows: &mut [u64], cols: &mut [u64]) -> Output {
     let mut types = word_list();
-    let n = words(slice(head, body, 1), &mut types);
+    let n = words(slice(case, 1), &mut types);
     let mut out = [0; 1];
     let answer = phs_carve_unallocated(
-        slice(head, body, 0),
+        slice(case, 0),
         &types[..n],
-        number(head, 0),
+        number(case, 0),
         rows,
         cols,
         &mut out,

@@ -12,17 +12,16 @@ use streams::Output;
 
 pub fn recover_page_freeblocks(
     said: Output,
-    head: &[u8],
-    body: &[u8],
+    case: &[u8],
     rows: &mut [u64],
     cols: &mut [u64],
 ) -> Output {
     let mut out = [0; 1];
     let answer = phs_recover_page_freeblocks(
-        slice(head, body, 0),
-        number(head, 0),
-        number(head, 1),
-        slice(head, body, 1),
+        slice(case, 0),
+        number(case, 0),
+        number(case, 1),
+        slice(case, 1),
         rows,
         cols,
         &mut out,
@@ -32,17 +31,16 @@ pub fn recover_page_freeblocks(
 
 pub fn recover_slice_freeblocks(
     said: Output,
-    head: &[u8],
-    body: &[u8],
+    case: &[u8],
     rows: &mut [u64],
     cols: &mut [u64],
 ) -> Output {
     let mut out = [0; 1];
     let answer = phs_recover_slice_freeblocks(
-        slice(head, body, 0),
-        number(head, 0) as usize,
-        number(head, 1),
-        slice(head, body, 1),
+        slice(case, 0),
+        number(case, 0) as usize,
+        number(case, 1),
+        slice(case, 1),
         rows,
         cols,
         &mut out,
@@ -50,20 +48,14 @@ pub fn recover_slice_freeblocks(
     say_rows(answered(said, answer, &[out[0]]), rows, cols)
 }
 
-pub fn scan_page_gap(
-    said: Output,
-    head: &[u8],
-    body: &[u8],
-    rows: &mut [u64],
-    cols: &mut [u64],
-) -> Output {
+pub fn scan_page_gap(said: Output, case: &[u8], rows: &mut [u64], cols: &mut [u64]) -> Output {
     let mut out = [0; 1];
     let answer = phs_scan_page_gap(
-        number(head, 0),
-        slice(head, body, 0),
-        number(head, 1),
-        number(head, 2),
-        slice(head, body, 1),
+        number(case, 0),
+        slice(case, 0),
+        number(case, 1),
+        number(case, 2),
+        slice(case, 1),
         rows,
         cols,
         &mut out,
@@ -73,18 +65,17 @@ pub fn scan_page_gap(
 
 pub fn scan_single_page_gap(
     said: Output,
-    head: &[u8],
-    body: &[u8],
+    case: &[u8],
     rows: &mut [u64],
     cols: &mut [u64],
 ) -> Output {
     let mut out = [0; 1];
     let answer = phs_scan_single_page_gap(
-        number(head, 0),
-        slice(head, body, 0),
-        number(head, 1) as usize,
-        number(head, 2),
-        slice(head, body, 1),
+        number(case, 0),
+        slice(case, 0),
+        number(case, 1) as usize,
+        number(case, 2),
+        slice(case, 1),
         rows,
         cols,
         &mut out,
@@ -94,17 +85,16 @@ pub fn scan_single_page_gap(
 
 pub fn parse_cells_from_freeblock(
     said: Output,
-    head: &[u8],
-    body: &[u8],
+    case: &[u8],
     rows: &mut [u64],
     cols: &mut [u64],
 ) -> Output {
     let mut out = [0; 1];
     let answer = phs_parse_cells_from_freeblock(
-        number(head, 0),
-        slice(head, body, 0),
-        number(head, 1),
-        slice(head, body, 1),
+        number(case, 0),
+        slice(case, 0),
+        number(case, 1),
+        slice(case, 1),
         rows,
         cols,
         &mut out,

@@ -21,24 +21,23 @@ fn say_walk(said: Output, flags: &[u8], stack: &[u64], rows: &[u64], cols: &[u64
 
 pub fn recover_freeblocks(
     said: Output,
-    head: &[u8],
-    body: &[u8],
+    case: &[u8],
     flags: &mut [u8],
     stack: &mut [u64],
     rows: &mut [u64],
     cols: &mut [u64],
 ) -> Output {
     let mut roots = word_list();
-    let tables = words(slice(head, body, 2), &mut roots);
+    let tables = words(slice(case, 2), &mut roots);
     let mut counts = word_list();
-    let widths = words(slice(head, body, 3), &mut counts);
+    let widths = words(slice(case, 3), &mut counts);
     let mut out = [0; 1];
     let answer = phs_recover_freeblocks(
-        slice(head, body, 0),
-        number(head, 0),
+        slice(case, 0),
+        number(case, 0),
         &roots[..tables],
         &counts[..widths],
-        slice(head, body, 1),
+        slice(case, 1),
         flags,
         stack,
         rows,
@@ -50,25 +49,24 @@ pub fn recover_freeblocks(
 
 pub fn scan_page_gaps(
     said: Output,
-    head: &[u8],
-    body: &[u8],
+    case: &[u8],
     flags: &mut [u8],
     stack: &mut [u64],
     rows: &mut [u64],
     cols: &mut [u64],
 ) -> Output {
     let mut roots = word_list();
-    let tables = words(slice(head, body, 2), &mut roots);
+    let tables = words(slice(case, 2), &mut roots);
     let mut counts = word_list();
-    let widths = words(slice(head, body, 3), &mut counts);
+    let widths = words(slice(case, 3), &mut counts);
     let mut out = [0; 1];
     let answer = phs_scan_page_gaps(
-        number(head, 0),
-        slice(head, body, 0),
-        number(head, 1),
+        number(case, 0),
+        slice(case, 0),
+        number(case, 1),
         &roots[..tables],
         &counts[..widths],
-        slice(head, body, 1),
+        slice(case, 1),
         flags,
         stack,
         rows,

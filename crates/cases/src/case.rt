@@ -1,13 +1,13 @@
-// A case: a head of words, and a body, which is its name and the bytes of its slices.
+// A case: a head of words, its name, and the bytes of its slices, one behind the other.
 use record::inner::big_endian;
 ghost use mathlib.Core.Path.{_≡_};
 ghost use lib.ListN.{length};
 ghost use Rattle.io.specs.Counts.{Counts};
 
-// Bytes of a head, and of a body at most;
+// Bytes of a head, and of a case at most;
 pub const HEAD: usize = 160;
 
-pub const BODY: usize = 100_000;
+pub const CASE: usize = 100_000;
 
 // cells of a list, and words of a slice, at most.
 pub const CELLS: usize = 4_096;
@@ -20,7 +20,7 @@ pub fn word_list() -> [u64; WORDS]
     [0; WORDS]
 }
 
-// Where the words of a head stand: eight numbers, where the name and each of five slices ends in the body, cells of four lists.
+// Where the words of a head stand: eight numbers, where the name and each of five slices ends, cells of four lists.
 const CALL: usize = 0;
 
 const NUMBERS: usize = 8;
@@ -49,77 +49,77 @@ fn word_at(bytes: &[u8], at: usize) -> u64 {
     big_endian(bytes, at, 8)
 }
 
-pub fn call(head: &[u8]) -> u64 {
-    word_at(head, CALL)
+pub fn call(case: &[u8]) -> u64 {
+    word_at(case, CALL)
 }
 
 // Whether the Rust was asked and agreed; the oracle says so.
-pub fn has_rust(head: &[u8]) -> bool {
-    word_at(head, RUST) == 1
+pub fn has_rust(case: &[u8]) -> bool {
+    word_at(case, RUST) == 1
 }
 
 // A number of the call, the first by 0.
-pub fn number(head: &[u8], i: usize) -> u64 {
+pub fn number(case: &[u8], i: usize) -> u64 {
     if i > LAST_NUMBER {
         return 0;
     }
-    word_at(head, NUMBERS + 8 * i)
+    word_at(case, NUMBERS + 8 * i)
 }
 
 // How many cells a list has: the first is of bytes, the others of words.
-pub fn cells(head: &[u8], i: usize) -> usize {
+pub fn cells(case: &[u8], i: usize) -> usize {
     if i > LAST_LIST {
         return 0;
     }
-    word_at(head, LISTS + 8 * i) as usize
+    word_at(case, LISTS + 8 * i) as usize
 }
 
-// Where a slice ends in the body, the first by 1; the name stands before it, and ends where 0 says.
-fn end(head: &[u8], i: usize) -> usize {
+// Where a slice ends, the first by 1; the name stands before it, and ends where 0 says.
+fn end(case: &[u8], i: usize) -> usize {
     if i > LAST_SLICE {
         return 0;
     }
-    word_at(head, ENDS + 8 * i) as usize
+    word_at(case, ENDS + 8 * i) as usize
 }
 
-// Bytes of the body.
-pub fn size(head: &[u8]) -> usize {
-    end(head, LAST_SLICE)
+// Bytes of the case.
+pub fn size(case: &[u8]) -> usize {
+    end(case, LAST_SLICE)
 }
 
 // Whether no part ends before it starts.
-pub fn is_whole(head: &[u8]) -> bool {
+pub fn is_whole(case: &[u8]) -> bool {
     let mut i = 0;
     while i < LAST_SLICE {
-        if end(head, i) > end(head, i + 1) {
+        if end(case, i) > end(case, i + 1) {
             return false;
         }
         i = i + 1;
     }
-    true
+    end(case, 0) >= HEAD
 }
 
-// A part of the body, empty where the body does not have it.
-fn part(body: &[u8], from: usize, to: usize) -> &[u8] {
-    if to > body.len() {
-        return &body[..0];
+// A part of the case, empty where the case does not have it.
+fn part(case: &[u8], from: usize, to: usize) -> &[u8] {
+    if to > case.len() {
+        return &case[..0];
     }
     if from > to {
-        return &body[..0];
+        return &case[..0];
     }
-    &body[from..to]
+    &case[from..to]
 }
 
-pub fn name<'a>(head: &[u8], body: &'a [u8]) -> &'a [u8] {
-    part(body, 0, end(head, 0))
+pub fn name(case: &[u8]) -> &[u8] {
+    part(case, HEAD, end(case, 0))
 }
 
 // A slice of the call, the first by 0.
-pub fn slice<'a>(head: &[u8], body: &'a [u8], i: usize) -> &'a [u8] {
+pub fn slice(case: &[u8], i: usize) -> &[u8] {
     if i >= LAST_SLICE {
-        return &body[..0];
+        return &case[..0];
     }
-    part(body, end(head, i), end(head, i + 1))
+    part(case, end(case, i), end(case, i + 1))
 }
 
 // The words of a slice, eight bytes each, and how many; a rest is left out.

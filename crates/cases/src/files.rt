@@ -1,5 +1,5 @@
 // The file of cases that a program is given: opened, read case by case, and what is said when it ends.
-use crate::case::BODY;
+use crate::case::CASE;
 use crate::case::HEAD;
 use crate::case::is_whole;
 use crate::case::size;
@@ -25,10 +25,10 @@ pub enum Next {
     Failed,
 }
 
-pub fn body_space() -> [u8; BODY]
+pub fn case_space() -> [u8; CASE]
     ensures { λ r. ⌜ 100000 ≡ length r ⌝ }
 {
-    [0; BODY]
+    [0; CASE]
 }
 
 fn complain(program: &[u8], text: &[u8]) {
@@ -58,39 +58,49 @@ pub fn open(program: &[u8]) -> i32 {
     file
 }
 
-fn read_body(file: i32, body: &mut [u8]) -> Next {
-    let Got::Bytes(n) = read_whole(file, body) else {
+// Fills the space; the file may end before its first byte.
+fn read_part(file: i32, space: &mut [u8]) -> Next {
+    let Got::Bytes(n) = read_whole(file, space) else {
         return Next::Failed;
     };
-    if n < body.len() {
-        return Next::Broken;
+    if n == space.len() {
+        return Next::Case;
     }
-    Next::Case
-}
-
-fn read_sized(file: i32, body: &mut [u8], size: usize) -> Next {
-    if size > body.len() {
-        return Next::Broken;
-    }
-    read_body(file, &mut body[..size])
-}
-
-// The next case, its body at the front of the space.
-pub fn read_case(file: i32, head: &mut [u8], body: &mut [u8]) -> Next {
-    let Got::Bytes(n) = read_whole(file, head) else {
-        return Next::Failed;
-    };
     if n == 0 {
         return Next::End;
     }
-    if n < HEAD {
+    Next::Broken
+}
+
+// What stands behind the head.
+fn read_rest(file: i32, case: &mut [u8], size: usize) -> Next {
+    if size > case.len() {
         return Next::Broken;
     }
-    if !is_whole(head) {
+    if size < HEAD {
         return Next::Broken;
     }
-    let size = size(head);
-    read_sized(file, body, size)
+    let rest = read_part(file, &mut case[HEAD..size]);
+    let Next::End = rest else {
+        return rest;
+    };
+    Next::Broken
+}
+
+// The next case, at the front of the space.
+pub fn read_case(file: i32, case: &mut [u8]) -> Next {
+    if case.len() < HEAD {
+        return Next::Broken;
+    }
+    let head = read_part(file, &mut case[..HEAD]);
+    let Next::Case = head else {
+        return head;
+    };
+    if !is_whole(case) {
+        return Next::Broken;
+    }
+    let size = size(case);
+    read_rest(file, case, size)
 }
 
 // Why no case comes behind the first n, where that is worth a word.

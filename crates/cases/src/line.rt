@@ -19,9 +19,9 @@ const DECIMAL: u64 = 0x1000_0000;
 const SHORT: u64 = 0x1_0000_0000;
 
 // The line's beginning; a case is numbered by its place, from 1 on.
-pub fn begin(said: Output, n: u64, head: &[u8], body: &[u8]) -> Output {
-    let said = said_by(said, has_rust(head));
-    let name = name(head, body);
+pub fn begin(said: Output, n: u64, case: &[u8]) -> Output {
+    let said = said_by(said, has_rust(case));
+    let name = name(case);
     if name.len() == 0 {
         return said.say(b"case ").say_decimal(n).say(b": ");
     }
@@ -36,8 +36,8 @@ fn said_by(said: Output, rust: bool) -> Output {
 }
 
 // A heading stands by itself.
-pub fn heading(said: Output, head: &[u8], body: &[u8]) -> Output {
-    said.say(b"\n").say(name(head, body)).say(b"\n")
+pub fn heading(said: Output, case: &[u8]) -> Output {
+    said.say(b"\n").say(name(case)).say(b"\n")
 }
 
 pub fn answered(said: Output, number: u64, out: &[u64]) -> Output {

@@ -42,10 +42,10 @@ fn fresh_byte(i: usize) -> u8 {
 }
 
 // Fresh cells, as many as the list of the case has, and how many.
-pub fn fill_words(list: &mut [u64], head: &[u8], which: usize) -> usize
+pub fn fill_words(list: &mut [u64], case: &[u8], which: usize) -> usize
     ensures { λ r. ⌜ Counts r (now (list .exit)) ⌝ }
 {
-    let cells = cells(head, which);
+    let cells = cells(case, which);
     let mut i = 0;
     while i < list.len() {
         if i >= cells {
@@ -57,10 +57,10 @@ pub fn fill_words(list: &mut [u64], head: &[u8], which: usize) -> usize
     i
 }
 
-pub fn fill_bytes(list: &mut [u8], head: &[u8], which: usize) -> usize
+pub fn fill_bytes(list: &mut [u8], case: &[u8], which: usize) -> usize
     ensures { λ r. ⌜ Counts r (now (list .exit)) ⌝ }
 {
-    let cells = cells(head, which);
+    let cells = cells(case, which);
     let mut i = 0;
     while i < list.len() {
         if i >= cells {

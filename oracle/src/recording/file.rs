@@ -3,13 +3,14 @@
 use crate::calls;
 use crate::case::Case;
 
-/// What a program has room for: bytes of a slice, words of a slice of words, cells of a list, bytes of a name, and bytes of name and
-/// slices together.
+/// What a program has room for: bytes of a slice, words of a slice of words, cells of a list, bytes of a name, and bytes of a case.
 const LARGEST_SLICE: usize = 70_000;
 const MOST_WORDS: usize = 2400;
 const MOST_CELLS: usize = 4096;
 const LONGEST_NAME: usize = 400;
-const LARGEST_BODY: usize = 100_000;
+const LARGEST_CASE: usize = 100_000;
+
+const HEAD: usize = 160;
 
 /// What a head has room for, in words; the name and each slice have an end.
 const NUMBERS: usize = 8;
@@ -25,7 +26,7 @@ pub fn fits(name: &str, case: &Case) -> bool {
         && case.slices.iter().all(|slice| slice.len() <= LARGEST_SLICE)
         && case.words.iter().all(|words| words.len() <= MOST_WORDS)
         && case.lists.iter().all(|&cells| cells <= MOST_CELLS)
-        && name.len() + slices(case).concat().len() <= LARGEST_BODY
+        && HEAD + name.len() + slices(case).concat().len() <= LARGEST_CASE
 }
 
 pub fn name_fits(name: &str) -> bool {
@@ -44,13 +45,14 @@ pub fn put_case(file: &mut Vec<u8>, name: &str, case: &Case, rust: bool) {
 /// A head, the name, and the bytes of the slices.
 fn put(file: &mut Vec<u8>, call: u64, name: &str, case: &Case, rust: bool) {
     let mut body = name.as_bytes().to_vec();
-    let mut ends = vec![body.len() as u64];
+    let mut ends = vec![HEAD + body.len()];
     for slice in slices(case) {
         body.extend(slice);
-        ends.push(body.len() as u64);
+        ends.push(HEAD + body.len());
     }
     // A slice that the call lacks ends where it starts.
-    ends.resize(ENDS, body.len() as u64);
+    ends.resize(ENDS, HEAD + body.len());
+    let ends: Vec<u64> = ends.into_iter().map(|end| end as u64).collect();
     put_words(file, &[call], 1);
     put_words(file, &case.numbers, NUMBERS);
     put_words(file, &ends, ENDS);
@@ -95,7 +97,7 @@ mod tests {
         let case = Case::new(RECOVER, &[512], &[&[7; 5], &[2]], &[1, 9, 8, 4]).with_words(&[&[1], &[2, 3]]);
         let mut file = Vec::new();
         put_case(&mut file, "hipik", &case, true);
-        let due = [13, 512, 0, 0, 0, 0, 0, 0, 0, 5, 10, 11, 19, 35, 35, 1, 9, 8, 4, 1];
+        let due = [13, 512, 0, 0, 0, 0, 0, 0, 0, 165, 170, 171, 179, 195, 195, 1, 9, 8, 4, 1];
         assert_eq!(words(&file[..160]), due);
         assert_eq!(&file[160..171], b"hipik\x07\x07\x07\x07\x07\x02");
         assert_eq!(words(&file[171..]), [1, 2, 3]);
@@ -107,19 +109,19 @@ mod tests {
         put_heading(&mut file, "ab");
         assert_eq!(file.len(), 160 + 2);
         let mut due = [0; 20];
-        due[9..15].fill(2);
+        due[9..15].fill(162);
         assert_eq!(words(&file[..160]), due);
     }
 
     #[test]
     fn what_is_too_long_does_not_fit() {
         let with = |slice: usize, words: usize, cells: usize| {
-            let case = Case::new(RECOVER, &[512], &[&vec![0; slice], &vec![0; 10_400]], &[0, 0, 0, cells]);
+            let case = Case::new(RECOVER, &[512], &[&vec![0; slice], &vec![0; 10_240]], &[0, 0, 0, cells]);
             fits("", &case.with_words(&[&vec![0; words], &[]]))
         };
         assert!(with(70_000, 2400, 4096) && !with(70_001, 0, 0) && !with(0, 2401, 0) && !with(0, 0, 4097));
         assert!(name_fits(&"a".repeat(400)) && !name_fits(&"a".repeat(401)) && !name_fits("a\nb"));
-        let whole = Case::new(RECOVER, &[512], &[&vec![0; 69_999], &vec![0; 30_000]], &[0, 0, 0, 0]);
+        let whole = Case::new(RECOVER, &[512], &[&vec![0; 69_999], &vec![0; 29_840]], &[0, 0, 0, 0]);
         assert!(fits("a", &whole) && !fits("ab", &whole));
     }
 }

@@ -8,11 +8,11 @@ use Rattle.carved.proofs.say_cases.Statement.{statement}
 use Rattle.carved.proofs.say_cases.Tie as tie
 
 abbrev Inv-loop : tie.InvT-loop
-Inv-loop file head₀ body₀ flags₀ first₀ second₀ third₀ said₀ n₀ t11 t12 head body flags first second third said n =
-    (length head ≡ length head₀) × (length body ≡ length body₀) × (length flags ≡ length flags₀) × (length first ≡ length first₀) × (length second ≡ length second₀) × (length third ≡ length third₀)
+Inv-loop file case₀ flags₀ first₀ second₀ third₀ said₀ n₀ t10 t11 case flags first second third said n =
+    (length case ≡ length case₀) × (length flags ≡ length flags₀) × (length first ≡ length first₀) × (length second ≡ length second₀) × (length third ≡ length third₀)
 
 abbrev μ-loop : tie.MeasureT-loop
-μ-loop file head₀ body₀ flags₀ first₀ second₀ third₀ said₀ n₀ t11 t12 head body flags first second third said n =
+μ-loop file case₀ flags₀ first₀ second₀ third₀ said₀ n₀ t10 t11 case flags first second third said n =
     1000000 - n
 
 new-requires : tie.Need-new-requires Inv-loop μ-loop
@@ -48,9 +48,6 @@ same-length-4 c = search needs
 same-length-5 : tie.Need-same-length-5 Inv-loop μ-loop
 same-length-5 c = search needs
 
-same-length-6 : tie.Need-same-length-6 Inv-loop μ-loop
-same-length-6 c = search needs
-
 returns : tie.Need-returns Inv-loop μ-loop
 returns c = search needs
 
@@ -72,6 +69,9 @@ slice-aggregate-finish-2 c = search needs
 finish-requires-2 : tie.Need-finish-requires-2 Inv-loop μ-loop
 finish-requires-2 c κs = search needs
 
+same-length-6 : tie.Need-same-length-6 Inv-loop μ-loop
+same-length-6 c = search needs
+
 same-length-7 : tie.Need-same-length-7 Inv-loop μ-loop
 same-length-7 c = search needs
 
@@ -83,12 +83,6 @@ same-length-9 c = search needs
 
 same-length-10 : tie.Need-same-length-10 Inv-loop μ-loop
 same-length-10 c = search needs
-
-same-length-11 : tie.Need-same-length-11 Inv-loop μ-loop
-same-length-11 c = search needs
-
-same-length-12 : tie.Need-same-length-12 Inv-loop μ-loop
-same-length-12 c = search needs
 
 returns-2 : tie.Need-returns-2 Inv-loop μ-loop
 returns-2 c = search needs
@@ -110,7 +104,6 @@ say-cases-spec =
     same-length-3
     same-length-4
     same-length-5
-    same-length-6
     returns
     add-n
     say-case-requires
@@ -118,10 +111,9 @@ say-cases-spec =
     loop-again
     slice-aggregate-finish-2
     finish-requires-2
+    same-length-6
     same-length-7
     same-length-8
     same-length-9
     same-length-10
-    same-length-11
-    same-length-12
     returns-2)

@@ -6,10 +6,10 @@ use Rattle.cases.proofs.case.is_whole.Statement.{statement}
 use Rattle.cases.proofs.case.is_whole.Tie as tie
 
 abbrev Inv-loop : tie.InvT-loop
-Inv-loop head i₀ i = Unit
+Inv-loop case i₀ i = Unit
 
 abbrev μ-loop : tie.MeasureT-loop
-μ-loop head i₀ i = 5 - i
+μ-loop case i₀ i = 5 - i
 
 loop-holds : tie.Need-loop-holds Inv-loop μ-loop
 loop-holds c = search needs
@@ -35,6 +35,9 @@ loop-less c = search needs
 loop-again : tie.Need-loop-again Inv-loop μ-loop
 loop-again c = search needs
 
+end-requires-3 : tie.Need-end-requires-3 Inv-loop μ-loop
+end-requires-3 c κs = search needs
+
 returns-2 : tie.Need-returns-2 Inv-loop μ-loop
 returns-2 c = search needs
 
@@ -52,4 +55,5 @@ is-whole-spec =
     add-i
     loop-less
     loop-again
+    end-requires-3
     returns-2)

@@ -71,7 +71,7 @@ def stored(tree, program):
     while at < len(file):
         size, call, name, rust = (struct.unpack_from(">Q", file, at + word)[0] for word in (SIZE, CALL, NAME, RUST))
         if call:
-            cases.append((rust == 1, name > 0))
+            cases.append((rust == 1, name > HEAD))
         at += size
     return cases
 

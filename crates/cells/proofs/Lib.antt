@@ -1,7 +1,6 @@
 pub mod Along
 mod Cases
 pub mod Fuel
-mod HighBytes
 mod Looking
 pub mod ReadBack
 pub mod Rebuilding

@@ -13,7 +13,7 @@ use Rattle.attempt.proofs.Shifts.{types-moved}
 use Rattle.attempt.specs.Attempt.{Found, Tried, miss, hit, kinds}
 use Rattle.attempt.specs.Inner.{headerTypes}
 use Rattle.attempt.specs.Values.{valuesFrom, rowValues}
-use Rattle.cells.specs.Cells.{CellRow, Looked, noCell, cell, cellAt, cellsFrom, cellsOf, startsOf, rebuiltStarts, cellHit, cellHits, rebuiltHit, startHits, rebuiltFrom, payloadHits}
+use Rattle.cells.specs.Cells.{CellRow, Looked, noCell, cell, cellAt, cellsFrom, cellsOf, startsOf, cellHit, cellHits, rebuiltHit, startHits, rebuiltFrom, payloadHits}
 use Rattle.cells.specs.Inner.{cellsThere, nextPlace}
 use Rattle.cells.specs.Values.{cellValues, cellsValues, valuesBehind, rebuiltValues, startValues, rebuiltValuesFrom, payloadValues, inSlice}
 use Rattle.cells.proofs.Looking.{cell-from, cells-none, cells-end, cells-on}
@@ -27,6 +27,7 @@ use Rattle.record.proofs.Numbers.{by-order}
 use Rattle.record.proofs.Shifts.{PartOf, part-taken, part-rest, part-within}
 use Rattle.record.specs.Value.{movedValue}
 use Rattle.record.specs.declared.record.Value.{Value}
+use Rattle.starts.specs.Starts.{rebuiltStarts}
 
 -- ---- values of the payload, said of the slice
 slice-append : (by : ℕ) (x y : List (List Value)) → inSlice by (x ++ y) ≡ inSlice by x ++ inSlice by y

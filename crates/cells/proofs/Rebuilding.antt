@@ -13,7 +13,8 @@ use Rattle.attempt.specs.Inner.{columnsAt, findTypes}
 use Rattle.attempt.specs.Moved.{moved}
 use Rattle.attempt.specs.declared.inner.Find.{Find}
 use Rattle.cells.specs.Cells.{rebuiltHit, startHits}
-use Rattle.cells.specs.Inner.{isCell, nextRow}
+use Rattle.cells.specs.Inner.{nextRow}
+use Rattle.starts.specs.Inner.{isCell}
 use Rattle.hit.proofs.Laws.{headAt, find-laid, there-is}
 use Rattle.hit.specs.Hit.{rowAt, hitOf}
 use Rattle.hit.specs.Inner.{hitThere, Laid, Ready}

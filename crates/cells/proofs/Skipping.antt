@@ -12,7 +12,7 @@ use lib.Dec.{ltb, eqb}
 use lib.ListN.{length, take, drop, getD, set}
 use lib.Seq.{sets, length-sets, getD-set-same, getD-set-other, take-all}
 use Rattle.cells.specs.Cells.{CellRow, Looked, noCell, cell, cellAt, cellsFrom, cellsOf, cellHit, cellHits, startsOf}
-use Rattle.cells.specs.Inner.{cellsThere, nextPlace, isCell, nextRow, Standing}
+use Rattle.cells.specs.Inner.{cellsThere, nextPlace, nextRow, Standing}
 use Rattle.cells.proofs.Looking.{cell-from, cells-none, cells-end, cells-on}
 use Rattle.hit.specs.declared.inner.Spot.{Spot}
 use Rattle.page.specs.Page.{among}
@@ -22,6 +22,7 @@ use Rattle.sheet.specs.Columns.{roomOf}
 use Rattle.sheet.specs.Limits.{wordsPerRow}
 use Rattle.sheet.specs.Row.{rowWords}
 use Rattle.sheet.specs.Sheet.{rowsWords}
+use Rattle.starts.specs.Inner.{isCell}
 use Rattle.walk.proofs.Carving.{told-on}
 use Rattle.walk.specs.Carve.{Hit, rowsOf}
 use Rattle.walk.specs.Inner.{on, Told, Carves}
@@ -98,16 +99,6 @@ module _ (spot : Spot) (o : ℕ) (S rows : List ℕ) (cells v k : ℕ) (w : Pass
       let n = next-stands spot o rows cells v k (w .left) (w .standing) (w .rising) in
       rw (next-decides spot o rows cells v k (w .left) (w .standing) (w .rising))
       (record { left = n .0; standing = n .1; rising = n .2; same = λ u h. w .same u (omega arith) ∙ n .3 u h })
-
-pub cell-below : (rows : List ℕ) (k cells offset : ℕ) → isCell rows k cells offset ≡ true → k < cells
-unfolding isCell
-cell-below rows k cells offset e = ltb-true k cells (and-eq-true-iff (ltb k cells) (eqb (getD rows (k * wordsPerRow) 0) offset) .0 e .0)
-
--- no cell is at an offset that is not that of the next
-pub cell-not : (rows : List ℕ) (k cells offset : ℕ) → (k < cells → getD rows (k * wordsPerRow) 0 ≡ offset → ⊥) → isCell rows k cells offset ≡ false
-unfolding isCell
-cell-not rows k cells offset none =
-    by-order k cells (λ lt. simp (lt-ltb k cells lt, ne-eqb (getD rows (k * wordsPerRow) 0) offset (none lt))) (λ ge. simp (le-ltb k cells ge))
 
 -- ---- words that are written elsewhere
 getD-sets-before : (l : List ℕ) (i : ℕ) (vs : List ℕ) (j : ℕ) → j < i → getD (sets l i vs) j 0 ≡ getD l j 0

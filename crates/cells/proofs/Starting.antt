@@ -9,8 +9,8 @@ use native.Mathlib.Numerals.{add-one}
 use native.Mathlib.Omega.{arith}
 use lib.ListN.{length}
 use Rattle.attempt.specs.Attempt.{miss}
-use Rattle.cells.specs.Cells.{cellsOf, cellHits, startsOf, rebuiltStarts, startHits, rebuiltFrom, payloadHits}
-use Rattle.cells.specs.Inner.{isCell, nextRow, Standing, NoneFrom, StartIs}
+use Rattle.cells.specs.Cells.{cellsOf, cellHits, startsOf, startHits, rebuiltFrom, payloadHits}
+use Rattle.cells.specs.Inner.{nextRow, Standing}
 use Rattle.cells.proofs.Along.{Along, along-start, along-end, along-on, along-full}
 use Rattle.cells.proofs.Skipping.{Passing, passing-start, passing-is, passing-on, passing-kept}
 use Rattle.hit.specs.declared.inner.Lent.{Lent}
@@ -18,6 +18,8 @@ use Rattle.hit.specs.declared.inner.Spot.{Spot}
 use Rattle.page.specs.Page.{among}
 use Rattle.rebuild.specs.Header.{rebuilt}
 use Rattle.rebuild.specs.declared.rebuilding.Rebuilding.{Rebuilding}
+use Rattle.starts.specs.Inner.{isCell, NoneFrom, StartIs}
+use Rattle.starts.specs.Starts.{rebuiltStarts}
 use Rattle.walk.proofs.Carving.{told-on, carves-none, carves-more, carves-stop}
 use Rattle.walk.specs.Carve.{Hit}
 use Rattle.walk.specs.Inner.{Told, on, over, Carves}

@@ -19,6 +19,7 @@ use Rattle.sheet.specs.Confidence.{share, rebuiltShare, percentOf}
 use Rattle.sheet.specs.declared.row.RowId.{RowId}
 use Rattle.sheet.specs.declared.row.RowId.the-variants.{Absent, Present}
 use Rattle.sheet.specs.declared.row.Source.the-variants.{CarvedIntraPage}
+use Rattle.starts.specs.Starts.{rebuiltStarts}
 use Rattle.walk.specs.Carve.{Hit}
 
 -- ---- cells
@@ -71,10 +72,6 @@ cellsOf d hints = cellsFrom (length d) d hints 0
 abbrev pub startsOf : List CellRow → List ℕ
 startsOf [] = []
 startsOf (c ∷ cs) = c .at ∷ startsOf cs
-
--- Rule 11.6: so many starts, those v with v + columns - 1 no more than the payload's length
-abbrev pub rebuiltStarts : ℕ → ℕ → ℕ
-rebuiltStarts len columns = suc len - (columns - 1)
 
 -- ---- rows
 

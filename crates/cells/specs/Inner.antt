@@ -2,11 +2,10 @@
 -- Assumes nothing.
 use Prim.Native.Nat.{ℕ, suc, _+_, _-_, _*_, _≤_, _<_}
 use mathlib.Core.Path.{_≡_}
-use mathlib.Core.Bool.{Bool, false, cond, _&&_}
+use mathlib.Core.Bool.{Bool, cond}
 use mathlib.Core.List.{List, [], _∷_}
-use lib.Dec.{ltb, eqb}
 use lib.ListN.{length, take, drop, getD}
-use Rattle.attempt.specs.Attempt.{miss, attemptAt}
+use Rattle.attempt.specs.Attempt.{attemptAt}
 use Rattle.attempt.specs.Inner.{foundAt, HitIs}
 use Rattle.attempt.specs.Places.{attemptPlaces}
 use Rattle.attempt.specs.declared.inner.Find.{Find}
@@ -16,9 +15,6 @@ use Rattle.cells.specs.declared.inner.cell.Cell.the-variants.{At, Nothin
 use Rattle.cells.specs.declared.inner.turn.Turn.{Turn}
 use Rattle.cells.specs.declared.inner.turn.Turn.the-variants.{On, Full}
 use Rattle.hit.specs.declared.inner.Spot.{Spot}
-use Rattle.rebuild.specs.Header.{rebuilt}
-use Rattle.rebuild.specs.declared.rebuilding.Rebuilding.{Rebuilding}
-use Rattle.rebuild.specs.declared.rebuilding.Rebuilding.the-variants.{OneByte}
 use Rattle.sheet.specs.Limits.{wordsPerRow}
 use Rattle.walk.specs.Inner.{Told, on, over}
 
@@ -59,10 +55,6 @@ nextPlace pos (cell c) = c .end
 
 -- ---- rebuilt headers
 
--- the row k of a list is one of the first `cells`, and has that offset
-unfoldable pub isCell : List ℕ → ℕ → ℕ → ℕ → Bool
-isCell rows k cells offset = ltb k cells && eqb (getD rows (k * wordsPerRow) 0) offset
-
 -- the next row, if a start was passed over
 abbrev pub nextRow : ℕ → Bool → ℕ
 nextRow k passed = cond passed (suc k) k
@@ -71,32 +63,3 @@ nextRow k passed = cond passed (suc k) k
 abbrev pub Standing : Spot → ℕ → List ℕ → ℕ → ℕ → List ℕ → Type 0
 Standing spot o rows cells k [] = k ≡ cells
 Standing spot o rows cells k (v ∷ vs) = (k < cells) × (getD rows (k * wordsPerRow) 0 ≡ spot .base + (o + v)) × Standing spot o rows cells (suc k) vs
-
--- ---- starts that are passed over
-
--- of the bytes from v on and before `last`, the last from 128 up is that before r; or none is, and r is v
-pub record BehindHigh (s : List ℕ) (v last r : ℕ) : Type 0 where
-  pub on : v ≤ r
-  pub near : r ≤ last
-  pub high : v < r → 128 ≤ getD s (r - 1) 0
-
--- from v on and before r, no types make a row
-abbrev pub NoneFrom : Rebuilding → List ℕ → List ℕ → ℕ → ℕ → Type 0
-NoneFrom how d hints v r = (u : ℕ) → v ≤ u → u < r → rebuilt how d hints u ≡ miss
-
-pub record Passes (d hints : List ℕ) (v end r : ℕ) : Type 0 where
-  pub on : v ≤ r
-  pub near : r ≤ end
-  pub none : NoneFrom OneByte d hints v r
-
--- before r, no start is that of the next cell's record
-pub record Apart (rows : List ℕ) (k cells offset starts r : ℕ) : Type 0 where
-  pub near : r ≤ starts
-  pub apart : (u : ℕ) → u < r → isCell rows k cells (offset + u) ≡ false
-
--- both, from v on and before r
-pub record StartIs (how : Rebuilding) (d hints rows : List ℕ) (k cells offset v starts r : ℕ) : Type 0 where
-  pub on : v ≤ r
-  pub near : r ≤ starts
-  pub apart : (u : ℕ) → v ≤ u → u < r → isCell rows k cells (offset + u) ≡ false
-  pub none : NoneFrom how d hints v r

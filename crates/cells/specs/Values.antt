@@ -6,7 +6,8 @@ use mathlib.Core.List.{List, [], _∷_, _++_, map}
 use lib.ListN.{length, take, drop}
 use Rattle.attempt.specs.Attempt.{Tried, miss, hit, kinds, typesFrom}
 use Rattle.attempt.specs.Values.{valuesFrom, rowValues}
-use Rattle.cells.specs.Cells.{CellRow, cellsOf, startsOf, rebuiltStarts}
+use Rattle.cells.specs.Cells.{CellRow, cellsOf, startsOf}
+use Rattle.starts.specs.Starts.{rebuiltStarts}
 use Rattle.page.specs.Page.{among}
 use Rattle.rebuild.specs.Header.{Guess, noHeader, takes, guessed, rebuilt}
 use Rattle.rebuild.specs.declared.rebuilding.Rebuilding.{Rebuilding}

@@ -1,7 +1,6 @@
 // The payload of one freed block, for our own crates.
 mod cell;
 mod rebuilt;
-mod starts;
 mod turn;
 
 use crate::inner::cell::carve_cells;

@@ -1,5 +1,4 @@
 // Records whose header's length is lost: each start of a payload is tried.
-use crate::inner::starts::next_start;
 use crate::inner::turn::Turn;
 use attempt::inner::Find;
 use hit::inner::Head;
@@ -9,7 +8,6 @@ use hit::inner::add_hit;
 use rebuild::inner::Rebuilt;
 use rebuild::inner::rebuild;
 use rebuild::rebuilding::Rebuilding;
-use sheet::WORDS_PER_ROW;
 use sheet::confidence::percent;
 use sheet::confidence::rebuilt;
 use sheet::confidence::suited_share;
@@ -17,18 +15,21 @@ use sheet::row::Mode;
 use sheet::row::Row;
 use sheet::row::RowId;
 use sheet::row::Source;
+use starts::inner::is_cell;
+use starts::inner::next_start;
+use starts::inner::starts_of;
 use walk::inner::Carved;
-ghost use mathlib.Core.Path.{_≡_};
 ghost use mathlib.Core.Bool.{false};
 ghost use mathlib.Core.List.{[], _∷_};
-ghost use Prim.Native.Nat.{_+_, _*_, _≤_};
+ghost use Prim.Native.Nat.{_+_, _≤_};
 ghost use lib.ListN.{length};
-ghost use Rattle.cells.specs.Cells.{cellsOf, startsOf, rebuiltStarts, rebuiltHit, startHits, rebuiltFrom};
-ghost use Rattle.cells.specs.Inner.{isCell, nextRow, Standing, turnAs, GoesTo};
+ghost use Rattle.cells.specs.Cells.{cellsOf, startsOf, rebuiltHit, startHits, rebuiltFrom};
+ghost use Rattle.cells.specs.Inner.{nextRow, Standing, turnAs, GoesTo};
 ghost use Rattle.hit.specs.Inner.{Laid, Ready};
 ghost use Rattle.rebuild.specs.Header.{mostBy, rebuilt as rebuiltAt};
 ghost use Rattle.rebuild.specs.Inner.{foundFrom};
-ghost use Rattle.sheet.specs.Limits.{largestRegion, wordsPerRow};
+ghost use Rattle.starts.specs.Starts.{rebuiltStarts};
+ghost use Rattle.starts.specs.Inner.{isCell};
 ghost use Rattle.walk.specs.Inner.{carvedAs, Carves};
 
 // Adds the row whose types begin at v of a payload, which stands at o in its page.
@@ -70,18 +71,6 @@ fn add_rebuilt(
     add_hit(payload, at, columns, row, lent, n, rows, cols)
 }
 
-// Whether the row k is one of the first `cells` and has that offset.
-fn is_cell(rows: &[u64], k: usize, cells: usize, offset: u64) -> bool
-    requires { ⌜ cells * wordsPerRow ≤ length (now rows) ⌝ }
-    ensures { λ r. ⌜ r ≡ isCell (now (rows .entry)) k cells offset ⌝ }
-{
-    if k >= cells {
-        return false;
-    }
-    // A row begins with its offset.
-    rows[k * WORDS_PER_ROW] == offset
-}
-
 // One start, which is passed over if the record of a cell starts there: the row k is the next of a cell.
 fn carve_start(
     how: Rebuilding,
@@ -114,18 +103,6 @@ fn carve_start(
         return Turn::Full;
     };
     Turn::On { next: k, n: m }
-}
-
-// How many starts are tried.
-fn starts_of(len: usize, columns: usize) -> usize
-    requires { ⌜ (len ≤ largestRegion) × (1 ≤ columns) ⌝ }
-    ensures { λ r. ⌜ r ≡ rebuiltStarts len columns ⌝ }
-{
-    let others = columns - 1;
-    if others > len {
-        return 0;
-    }
-    len + 1 - others
 }
 
 // The rows that are rebuilt, behind those of the cells, of which the first is the row `first` and which end before the row `cells`.

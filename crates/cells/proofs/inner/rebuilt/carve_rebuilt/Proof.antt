@@ -6,7 +6,7 @@ use native.Mathlib.Nat.{le-trans}
 use native.Mathlib.Omega.{arith}
 use denote.Ref.{now}
 use lib.ListN.{length}
-use Rattle.cells.specs.Cells.{rebuiltStarts}
+use Rattle.starts.specs.Starts.{rebuiltStarts}
 use Rattle.cells.proofs.Along.{along-ready, along-long}
 use Rattle.cells.proofs.Skipping.{rows-fit}
 use Rattle.cells.proofs.Starting.{Starting, starting-start, starting-passed, starting-on, starting-full, starting-end}

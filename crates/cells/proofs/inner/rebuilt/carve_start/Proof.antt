@@ -7,9 +7,10 @@ use native.Mathlib.Nat.{le-trans}
 use native.Mathlib.Omega.{arith}
 use denote.Ref.{now}
 use lib.ListN.{length}
-use Rattle.cells.specs.Inner.{isCell}
+use Rattle.starts.specs.Inner.{isCell}
 use Rattle.cells.proofs.Rebuilding.{start-passed, start-next, start-none, start-laid, start-one}
-use Rattle.cells.proofs.Skipping.{rows-fit, cell-below}
+use Rattle.cells.proofs.Skipping.{rows-fit}
+use Rattle.starts.proofs.Laws.{cell-below}
 use Rattle.rebuild.specs.Inner.{RebuiltFound}
 use borrow.Author.Needs.{needs}
 use Rattle.cells.proofs.inner.rebuilt.carve_start.Statement.{statement}

@@ -1,9 +1,9 @@
--- `cells::inner::starts::next_start` meets its contract: it passes over starts before that of the next cell's record alone, and in the one-byte mode.
+-- `starts::inner::next_start` meets its contract: it passes over starts before that of the next cell's record alone, and in the one-byte mode.
 -- Assumes nothing.
 use native.Mathlib.Omega.{arith}
 use borrow.Author.Needs.{needs}
-use Rattle.cells.proofs.inner.starts.next_start.Statement.{statement}
-use Rattle.cells.proofs.inner.starts.next_start.Tie as tie
+use Rattle.starts.proofs.inner.next_start.Statement.{statement}
+use Rattle.starts.proofs.inner.next_start.Tie as tie
 
 enum-told : tie.Need-enum-told
 enum-told c = search needs

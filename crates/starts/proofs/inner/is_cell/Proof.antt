@@ -1,10 +1,10 @@
--- `cells::inner::rebuilt::is_cell` meets its contract: both tests, in this order.
+-- `starts::inner::is_cell` meets its contract: both tests, in this order.
 -- Assumes nothing.
 use borrow.Author.Tests.{lt-ltb, le-ltb}
 use borrow.Author.Needs.{needs}
-use Rattle.cells.specs.Inner.{isCell}
-use Rattle.cells.proofs.inner.rebuilt.is_cell.Statement.{statement}
-use Rattle.cells.proofs.inner.rebuilt.is_cell.Tie as tie
+use Rattle.starts.specs.Inner.{isCell}
+use Rattle.starts.proofs.inner.is_cell.Statement.{statement}
+use Rattle.starts.proofs.inner.is_cell.Tie as tie
 
 returns : tie.Need-returns
 unfolding isCell

@@ -9,7 +9,7 @@ use Rattle.attempt.proofs.Judging.{judge-never}
 use Rattle.attempt.proofs.Types.{types-step, types-cut, types-none, types-end}
 use Rattle.attempt.specs.Attempt.{miss, kinds, typesFrom}
 use Rattle.attempt.specs.Inner.{Headed}
-use Rattle.cells.specs.Inner.{BehindHigh, NoneFrom}
+use Rattle.starts.specs.Inner.{BehindHigh, NoneFrom}
 use Rattle.rebuild.proofs.Laws.{rebuilt-cut, rebuilt-miss, one-byte-guess}
 use Rattle.rebuild.specs.Header.{oneByteTypes, rebuilt}
 use Rattle.rebuild.specs.declared.rebuilding.Rebuilding.the-variants.{OneByte}

@@ -1,10 +1,10 @@
--- `cells::inner::starts::before_cell` meets its contract: the next row's offset is that of no start before it.
+-- `starts::inner::before_cell` meets its contract: the next row's offset is that of no start before it.
 -- Assumes nothing.
 use native.Mathlib.Omega.{arith}
 use borrow.Author.Needs.{needs}
-use Rattle.cells.proofs.Skipping.{cell-not}
-use Rattle.cells.proofs.inner.starts.before_cell.Statement.{statement}
-use Rattle.cells.proofs.inner.starts.before_cell.Tie as tie
+use Rattle.starts.proofs.Laws.{cell-not}
+use Rattle.starts.proofs.inner.before_cell.Statement.{statement}
+use Rattle.starts.proofs.inner.before_cell.Tie as tie
 
 returns : tie.Need-returns
 returns c = record { near = omega arith; apart = λ u lt. cell-not _ _ _ _ (λ in′ e. omega (arith, c .if1 .taken)) }

@@ -1,10 +1,10 @@
--- `cells::inner::starts::behind_high` meets its contract: it goes back to a byte from 128 up, or to v.
+-- `starts::inner::behind_high` meets its contract: it goes back to a byte from 128 up, or to v.
 -- Assumes nothing.
 use Prim.Native.Nat.{_≤_}
 use native.Mathlib.Omega.{arith}
 use borrow.Author.Needs.{needs}
-use Rattle.cells.proofs.inner.starts.behind_high.Statement.{statement}
-use Rattle.cells.proofs.inner.starts.behind_high.Tie as tie
+use Rattle.starts.proofs.inner.behind_high.Statement.{statement}
+use Rattle.starts.proofs.inner.behind_high.Tie as tie
 
 abbrev Inv-loop : tie.InvT-loop
 Inv-loop payload v last at₀ at = (v ≤ at) × (at ≤ last)

@@ -1,13 +1,38 @@
-// Which starts can be passed over. In the one-byte mode as many types as the header has bytes take one byte each, but for the last, which may run
+// Starts of headers that are rebuilt in a payload: how many there are, and which can be passed over. In the one-byte mode as many types as the header has bytes take one byte each, but for the last, which may run
 // past its end; so a byte from 128 up before the header's last byte shows that there is no row.
 use rebuild::rebuilding::Rebuilding;
 use sheet::WORDS_PER_ROW;
+ghost use mathlib.Core.Path.{_≡_};
 ghost use Prim.Native.Nat.{_+_, _*_, _≤_};
 ghost use lib.ListN.{length};
-ghost use Rattle.cells.specs.Cells.{rebuiltStarts};
-ghost use Rattle.cells.specs.Inner.{BehindHigh, Apart, Passes, StartIs};
 ghost use Rattle.rebuild.specs.Header.{oneByteTypes, mostBy};
 ghost use Rattle.sheet.specs.Limits.{largestRegion, wordsPerRow};
+ghost use Rattle.starts.specs.Starts.{rebuiltStarts};
+ghost use Rattle.starts.specs.Inner.{isCell, BehindHigh, Apart, Passes, StartIs};
+
+// How many starts are tried.
+pub fn starts_of(len: usize, columns: usize) -> usize
+    requires { ⌜ (len ≤ largestRegion) × (1 ≤ columns) ⌝ }
+    ensures { λ r. ⌜ r ≡ rebuiltStarts len columns ⌝ }
+{
+    let others = columns - 1;
+    if others > len {
+        return 0;
+    }
+    len + 1 - others
+}
+
+// Whether the row k is one of the first `cells` and has that offset.
+pub fn is_cell(rows: &[u64], k: usize, cells: usize, offset: u64) -> bool
+    requires { ⌜ cells * wordsPerRow ≤ length (now rows) ⌝ }
+    ensures { λ r. ⌜ r ≡ isCell (now (rows .entry)) k cells offset ⌝ }
+{
+    if k >= cells {
+        return false;
+    }
+    // A row begins with its offset.
+    rows[k * WORDS_PER_ROW] == offset
+}
 
 // Behind the last byte from 128 up, of those from v on and before `last`; v if there is none.
 fn behind_high(payload: &[u8], v: usize, last: usize) -> usize

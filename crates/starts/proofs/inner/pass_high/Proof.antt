@@ -1,13 +1,13 @@
--- `cells::inner::starts::pass_high` meets its contract: all starts up to the last byte from 128 up are dismissed.
+-- `starts::inner::pass_high` meets its contract: all starts up to the last byte from 128 up are dismissed.
 -- Assumes nothing.
 use Prim.Native.Nat.{_-_, _≤_, _<_}
 use native.Mathlib.Omega.{arith}
 use borrow.Author.Needs.{needs}
-use Rattle.cells.specs.Inner.{NoneFrom}
-use Rattle.cells.proofs.HighBytes.{none-on}
+use Rattle.starts.specs.Inner.{NoneFrom}
+use Rattle.starts.proofs.HighBytes.{none-on}
 use Rattle.rebuild.specs.declared.rebuilding.Rebuilding.the-variants.{OneByte}
-use Rattle.cells.proofs.inner.starts.pass_high.Statement.{statement}
-use Rattle.cells.proofs.inner.starts.pass_high.Tie as tie
+use Rattle.starts.proofs.inner.pass_high.Statement.{statement}
+use Rattle.starts.proofs.inner.pass_high.Tie as tie
 
 abbrev Inv-loop : tie.InvT-loop
 Inv-loop payload hints v end others at₀ at = (v ≤ at) × NoneFrom OneByte payload hints v at

@@ -1,0 +1,2 @@
+mod HighBytes
+pub mod Laws

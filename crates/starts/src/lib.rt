@@ -1,0 +1,2 @@
+// Starts of headers that are rebuilt, and those that are passed over.
+pub mod inner;

@@ -9,9 +9,9 @@ use lib.ListN.{length}
 use lib.Seq.{sets}
 use Rattle.sheet.specs.Limits.{wordsPerRow, wordsPerEntry}
 use Rattle.sheet.specs.Row.{rowWords}
-use Rattle.walk.proofs.Carving.{carves-none, carves-one, carves-over, carves-more, carves-stop}
-use Rattle.walk.specs.Carve.{Hit, groupWords}
-use Rattle.walk.specs.Inner.{on, over, Carves}
+use Rattle.sheet.proofs.Carving.{carves-none, carves-one, carves-over, carves-more, carves-stop}
+use Rattle.sheet.specs.Hits.{Hit, groupWords}
+use Rattle.sheet.specs.Inner.{on, over, Carves}
 
 -- n rows were written; of the hits `whole`, `rest` is still to come
 pub record Carving (width room : ℕ) (whole rest : List Hit) (rows₀ cols₀ rows cols : List ℕ) (n : ℕ) : Type 0 where

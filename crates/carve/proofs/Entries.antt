@@ -25,7 +25,7 @@ use Rattle.sheet.specs.Columns.{columnWords, unusedWords}
 use Rattle.sheet.specs.Sheet.{columnsWords, entriesIn, AllWithin}
 use Rattle.sheet.specs.declared.columns.Column.{Column}
 use Rattle.sheet.specs.declared.columns.Column.the-variants.{Body, Unfit, Lost, Unused}
-use Rattle.walk.specs.Carve.{groupWords, groupsWords}
+use Rattle.sheet.specs.Hits.{groupWords, groupsWords}
 
 -- whatever words stand behind them, columns read as these values over the slice, and lie in it
 pub record ReadsAs (s : List ℕ) (cs : List Column) (vs : List Value) : Type 0 where

@@ -26,7 +26,7 @@ use Rattle.sheet.specs.Refusal.{afterOr0, afterOrKept}
 use Rattle.sheet.specs.Sheet.{overlay}
 use Rattle.sheet.specs.declared.refusal.Checked.{Checked}
 use Rattle.sheet.specs.declared.refusal.Checked.the-variants.{Passed, Refused as Held}
-use Rattle.walk.specs.Carve.{Hit, groupsWords}
+use Rattle.sheet.specs.Hits.{Hit, groupsWords}
 
 -- ---- no row has more columns than there may be
 few-both : (columns : ℕ) (a b : List Found) → AllFew columns a → AllFew columns b → AllFew columns (a ++ b)

@@ -24,9 +24,9 @@ use Rattle.sheet.specs.Limits.{wordsPerRow, wordsPerEntry, largestRegion, large
 use Rattle.sheet.specs.Refusal.{firstHeld}
 use Rattle.sheet.specs.Row.{rowWords}
 use Rattle.sheet.specs.declared.refusal.Checked.the-variants.{Passed}
-use Rattle.walk.proofs.Carving.{carves-more, carves-stop, told-on, told-over}
-use Rattle.walk.specs.Carve.{Hit as RowHit, groupWords}
-use Rattle.walk.specs.Inner.{Told, on, over, Carves}
+use Rattle.sheet.proofs.Carving.{carves-more, carves-stop, told-on, told-over}
+use Rattle.sheet.specs.Hits.{Hit as RowHit, groupWords}
+use Rattle.sheet.specs.Inner.{Told, on, over, Carves}
 
 -- what passed the checks
 pub filling : (len base columns : ℕ) → firstHeld (carveChecks len base columns) ≡ Passed → Filling len base columns

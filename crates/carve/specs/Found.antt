@@ -14,7 +14,7 @@ use Rattle.record.specs.declared.varint.Varint.the-variants.{Value, Short}
 use Rattle.sheet.specs.declared.columns.Column.{Column}
 use Rattle.sheet.specs.declared.columns.Column.the-variants.{Body, Unfit, Lost, Unused}
 use Rattle.sheet.specs.declared.row.RowId.the-variants.{Absent}
-use Rattle.walk.specs.Carve.{Hit}
+use Rattle.sheet.specs.Hits.{Hit}
 
 -- ---- types, and where reading them ended; or one of them runs off the slice
 pub data Types : Type 0 where

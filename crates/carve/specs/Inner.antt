@@ -15,7 +15,7 @@ use Rattle.record.specs.declared.varint.Varint.{Varint}
 use Rattle.record.specs.declared.varint.Varint.the-variants.{Value, Short}
 use Rattle.sheet.specs.Columns.{roomOf}
 use Rattle.sheet.specs.Limits.{wordsPerRow, wordsPerEntry, mostColumns, largestRegion, largestBase}
-use Rattle.walk.specs.Carve.{Hit as RowHit}
+use Rattle.sheet.specs.Hits.{Hit as RowHit}
 
 -- the types that were read
 pub record WholeIs (w : Types) (count end : ℕ) : Type 0 where

@@ -18,7 +18,7 @@ use Rattle.sheet.specs.declared.refusal.Checked.{Checked}
 use Rattle.sheet.specs.declared.refusal.Refusal.the-variants.{ColumnCount, TooLarge, BaseTooFar}
 use Rattle.sheet.specs.declared.row.Mode.the-variants.{Normal, ColumnsOnly, FirstColMissing}
 use Rattle.sheet.specs.declared.row.Source.the-variants.{Freelist}
-use Rattle.walk.specs.Carve.{Hit, pageAnswerOf, pageRowsOf, pageColsOf, pageNumberOf, pageWrittenOf}
+use Rattle.sheet.specs.Hits.{Hit, pageAnswerOf, pageRowsOf, pageColsOf, pageNumberOf, pageWrittenOf}
 
 -- ---- Rule 12.4: what each mode says of its rows; the confidences are the f32 nearest to 0.8, 0.5 and 0.3
 abbrev pub normal : Style

@@ -12,11 +12,11 @@ use sheet::LARGEST_REGION;
 use sheet::columns::room;
 use sheet::filled::Filled;
 use sheet::hint::hint_count_fits;
+use sheet::inner::Carved;
 use sheet::refusal::Checked;
 use sheet::refusal::Refusal;
 use sheet::row::Mode;
 use sheet::row::Source;
-use walk::inner::Carved;
 ghost use mathlib.Core.Path.{_≡_};
 ghost use mathlib.Core.Bool.{false};
 ghost use Prim.Native.Nat.{_+_, _≤_};
@@ -27,7 +27,7 @@ ghost use Rattle.carve.specs.Modes.{normal as normalStyle, columnsOnly a
 ghost use Rattle.sheet.specs.Filled.{filledNumber, filledWritten};
 ghost use Rattle.sheet.specs.Limits.{largestRegion};
 ghost use Rattle.sheet.specs.Refusal.{firstHeld};
-ghost use Rattle.walk.specs.Inner.{carvedAs, Carves, FilledIs};
+ghost use Rattle.sheet.specs.Inner.{carvedAs, Carves, FilledIs};
 
 const LEAST_ROW: usize = 3;
 // The bytes that a freeblock's own header writes over.

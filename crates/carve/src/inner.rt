@@ -21,7 +21,7 @@ ghost use Rattle.carve.specs.Inner.{kindsAt, TypesAre, foundIn, Fitting}
 ghost use Rattle.sheet.specs.Limits.{wordsPerRow, wordsPerEntry, largestRegion};
 ghost use Rattle.sheet.specs.Row.{rowWords};
 ghost use Rattle.sheet.specs.Sheet.{columnsWords};
-ghost use Rattle.walk.specs.Carve.{groupWords};
+ghost use Rattle.sheet.specs.Hits.{groupWords};
 
 // What a way of carving says of each of its rows: beside three of a row's words, how many columns, one at most, are lost before those that
 // are read.

@@ -25,7 +25,7 @@ use Rattle.sheet.specs.Sheet.{columnsWords, entriesIn, AllWithin, overlay}
 use Rattle.sheet.specs.declared.columns.Column.{Column}
 use Rattle.sheet.specs.declared.refusal.Checked.{Checked}
 use Rattle.sheet.specs.declared.refusal.Checked.the-variants.{Passed, Refused as Held}
-use Rattle.walk.specs.Carve.{Hit, groupsWords}
+use Rattle.sheet.specs.Hits.{Hit, groupsWords}
 use Rattle.walk.specs.Collect.{ifFlagged}
 
 -- ---- columns that read as values are as many

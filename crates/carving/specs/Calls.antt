@@ -18,7 +18,8 @@ use Rattle.sheet.specs.Refusal.{Check, firstHeld}
 use Rattle.sheet.specs.Slice.{sliceChecks}
 use Rattle.sheet.specs.declared.filled.Filled.{Filled}
 use Rattle.sheet.specs.declared.refusal.Refusal.the-variants.{ColumnCount, Malformed}
-use Rattle.walk.specs.Carve.{Hit, Carver, widest, tableChecks, carvedAnswer, carvedRows, carvedCols, carvedNumber, carvedWritten, pageAnswerOf, pageRowsOf, pageColsOf, pageNumberOf, pageWrittenOf}
+use Rattle.walk.specs.Carve.{Carver, widest, tableChecks, carvedAnswer, carvedRows, carvedCols, carvedNumber, carvedWritten}
+use Rattle.sheet.specs.Hits.{Hit, pageAnswerOf, pageRowsOf, pageColsOf, pageNumberOf, pageWrittenOf}
 use Rattle.walk.specs.Collect.{clearedUnless}
 use Rattle.walk.specs.declared.walk.Walked.{Walked}
 

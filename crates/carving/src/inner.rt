@@ -4,7 +4,7 @@ use hit::inner::Lent;
 use hit::inner::Spot;
 use rebuild::rebuilding::Rebuilding;
 use sheet::MOST_COLUMNS;
-use walk::inner::Carved;
+use sheet::inner::Carved;
 ghost use mathlib.Core.Path.{_≡_};
 ghost use mathlib.Core.Bool.{false};
 ghost use Prim.Native.Nat.{_≤_};
@@ -12,7 +12,7 @@ ghost use lib.Dec.{ltb};
 ghost use lib.ListN.{length};
 ghost use Rattle.carving.specs.Calls.{hitsBy, widthBy};
 ghost use Rattle.hit.specs.Inner.{Ready};
-ghost use Rattle.walk.specs.Inner.{carvedAs, Carves};
+ghost use Rattle.sheet.specs.Inner.{carvedAs, Carves};
 
 pub enum Carving {
     // The blocks of the page's chain.

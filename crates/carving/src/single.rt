@@ -9,16 +9,16 @@ use sheet::columns::room;
 use sheet::filled::Filled;
 use sheet::hint::hint_count_fits;
 use sheet::hint::hints_known;
+use sheet::inner::Carved;
 use sheet::refusal::Checked;
 use sheet::refusal::Refusal;
 use sheet::slice::check_slice;
-use walk::inner::Carved;
 ghost use mathlib.Core.Path.{_≡_};
 ghost use lib.ListN.{length};
 ghost use Rattle.carving.specs.Calls.{hitsBy, sliceAnswer, sliceRows, sliceCols, sliceNumber, sliceWritten, numberedAnswer, numberedRows, numberedCols, numberedNumber, numberedWritten};
 ghost use Rattle.carving.specs.Inner.{Filling};
 ghost use Rattle.sheet.specs.Filled.{filledNumber, filledWritten};
-ghost use Rattle.walk.specs.Inner.{FilledIs};
+ghost use Rattle.sheet.specs.Inner.{FilledIs};
 
 // Carves one page into lists that hold nothing yet.
 fn fill(

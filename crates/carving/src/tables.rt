@@ -5,9 +5,9 @@ use hit::inner::Lent;
 use hit::inner::Spot;
 use page::inner::head_of;
 use sheet::columns::room;
+use sheet::inner::Carved;
 use sheet::refusal::Checked;
 use sheet::refusal::Refusal;
-use walk::inner::Carved;
 use walk::inner::CarvedTable;
 use walk::inner::Next;
 use walk::inner::Pushed;
@@ -26,7 +26,8 @@ ghost use Rattle.carving.specs.Calls.{widthBy, leafHits, tabledAnswer, t
 ghost use Rattle.carving.specs.Inner.{TableReady};
 ghost use Rattle.walk.specs.Carve.{widest as widestOf};
 ghost use Rattle.walk.specs.Collect.{walkedNumber, walkedWritten};
-ghost use Rattle.walk.specs.Inner.{carvedAs, tableAs, Carves, Tabled, TablesFit};
+ghost use Rattle.walk.specs.Inner.{tableAs, Tabled, TablesFit};
+ghost use Rattle.sheet.specs.Inner.{carvedAs, Carves};
 ghost use Rattle.walk.specs.Walk.{walk as walkOf, hitsOf, overflows};
 
 // Carves the leaf p of a database.

@@ -9,9 +9,9 @@ use Rattle.hit.proofs.Laws.{carves-long, carves-wide, ready-next}
 use Rattle.hit.specs.Inner.{Ready}
 use Rattle.hit.specs.declared.inner.Lent.{Lent}
 use Rattle.hit.specs.declared.inner.Spot.{Spot}
-use Rattle.walk.proofs.Carving.{carves-none, carves-more, carves-stop}
-use Rattle.walk.specs.Carve.{Hit}
-use Rattle.walk.specs.Inner.{on, over, Carves}
+use Rattle.sheet.proofs.Carving.{carves-none, carves-more, carves-stop}
+use Rattle.sheet.specs.Hits.{Hit}
+use Rattle.sheet.specs.Inner.{on, over, Carves}
 
 -- of `whole`, which is carved behind n₀ rows, `rest` is still to come, and there are n rows
 pub record Along (lent : Lent) (n₀ : ℕ) (whole : List Hit) (rows₀ cols₀ : List ℕ) (rest : List Hit) (rows cols : List ℕ) (n : ℕ) : Type 0 where

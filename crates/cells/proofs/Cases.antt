@@ -18,7 +18,7 @@ use Rattle.sheet.specs.Columns.{columnWords, unusedWords}
 use Rattle.sheet.specs.Confidence.{share, rebuiltShare, percentOf}
 use Rattle.sheet.specs.Row.{rowWords}
 use Rattle.sheet.specs.Sheet.{rowsWords}
-use Rattle.walk.specs.Carve.{rowsOf, groupsWords}
+use Rattle.sheet.specs.Hits.{rowsOf, groupsWords}
 
 types : List ℕ
 types = 0x01 ∷ 0x17 ∷ 0x2a ∷ 0x68 ∷ 0x69 ∷ 0x70 ∷ 0x69 ∷ 0x6b ∷ []

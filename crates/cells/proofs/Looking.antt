@@ -30,9 +30,9 @@ use Rattle.sheet.specs.Confidence.{share, percentOf}
 use Rattle.sheet.specs.declared.row.Row.{Row}
 use Rattle.sheet.specs.declared.row.RowId.the-variants.{Present}
 use Rattle.sheet.specs.declared.row.Source.the-variants.{CarvedIntraPage}
-use Rattle.walk.proofs.Carving.{carves-none}
-use Rattle.walk.specs.Carve.{Hit}
-use Rattle.walk.specs.Inner.{Told, on, over, Carves}
+use Rattle.sheet.proofs.Carving.{carves-none}
+use Rattle.sheet.specs.Hits.{Hit}
+use Rattle.sheet.specs.Inner.{Told, on, over, Carves}
 
 -- ---- one place
 module _ (d hints : List ℕ) (pos : ℕ) where

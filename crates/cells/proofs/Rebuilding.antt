@@ -27,8 +27,8 @@ use Rattle.sheet.specs.Confidence.{share, rebuiltShare, percentOf}
 use Rattle.sheet.specs.declared.row.Row.{Row}
 use Rattle.sheet.specs.declared.row.RowId.the-variants.{Absent}
 use Rattle.sheet.specs.declared.row.Source.the-variants.{CarvedIntraPage}
-use Rattle.walk.proofs.Carving.{carves-none}
-use Rattle.walk.specs.Inner.{Told, on, Carves}
+use Rattle.sheet.proofs.Carving.{carves-none}
+use Rattle.sheet.specs.Inner.{Told, on, Carves}
 
 pub start-next : (k : ℕ) (passed : Bool) → passed ≡ false → k ≡ nextRow k passed
 start-next k passed e = rw e

@@ -23,9 +23,9 @@ use Rattle.sheet.specs.Limits.{wordsPerRow}
 use Rattle.sheet.specs.Row.{rowWords}
 use Rattle.sheet.specs.Sheet.{rowsWords}
 use Rattle.starts.specs.Inner.{isCell}
-use Rattle.walk.proofs.Carving.{told-on}
-use Rattle.walk.specs.Carve.{Hit, rowsOf}
-use Rattle.walk.specs.Inner.{on, Told, Carves}
+use Rattle.sheet.proofs.Carving.{told-on}
+use Rattle.sheet.specs.Hits.{Hit, rowsOf}
+use Rattle.sheet.specs.Inner.{on, Told, Carves}
 
 -- ---- the records of cells start one behind the other, none before v
 abbrev pub Rising : ℕ → List ℕ → Type 0

@@ -20,9 +20,9 @@ use Rattle.rebuild.specs.Header.{rebuilt}
 use Rattle.rebuild.specs.declared.rebuilding.Rebuilding.{Rebuilding}
 use Rattle.starts.specs.Inner.{isCell, NoneFrom, StartIs}
 use Rattle.starts.specs.Starts.{rebuiltStarts}
-use Rattle.walk.proofs.Carving.{told-on, carves-none, carves-more, carves-stop}
-use Rattle.walk.specs.Carve.{Hit}
-use Rattle.walk.specs.Inner.{Told, on, over, Carves}
+use Rattle.sheet.proofs.Carving.{told-on, carves-none, carves-more, carves-stop}
+use Rattle.sheet.specs.Hits.{Hit}
+use Rattle.sheet.specs.Inner.{Told, on, over, Carves}
 
 rebuilt-step : (j : ℕ) (how : Rebuilding) (spot : Spot) (o : ℕ) (S d hints : List ℕ) (v : ℕ)
     → rebuiltFrom (suc j) how spot o S d hints v ≡ startHits spot (length hints) o v (among v S) (rebuilt how d hints v) ++ rebuiltFrom j how spot o S d hints (suc v)

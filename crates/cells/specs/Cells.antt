@@ -20,7 +20,7 @@ use Rattle.sheet.specs.declared.row.RowId.{RowId}
 use Rattle.sheet.specs.declared.row.RowId.the-variants.{Absent, Present}
 use Rattle.sheet.specs.declared.row.Source.the-variants.{CarvedIntraPage}
 use Rattle.starts.specs.Starts.{rebuiltStarts}
-use Rattle.walk.specs.Carve.{Hit}
+use Rattle.sheet.specs.Hits.{Hit}
 
 -- ---- cells
 

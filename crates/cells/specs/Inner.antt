@@ -16,7 +16,7 @@ use Rattle.cells.specs.declared.inner.turn.Turn.{Turn}
 use Rattle.cells.specs.declared.inner.turn.Turn.the-variants.{On, Full}
 use Rattle.hit.specs.declared.inner.Spot.{Spot}
 use Rattle.sheet.specs.Limits.{wordsPerRow}
-use Rattle.walk.specs.Inner.{Told, on, over}
+use Rattle.sheet.specs.Inner.{Told, on, over}
 
 -- ---- one turn of a loop
 abbrev pub turnAs : Turn → Told

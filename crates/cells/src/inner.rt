@@ -8,14 +8,14 @@ use crate::inner::rebuilt::carve_rebuilt;
 use hit::inner::Lent;
 use hit::inner::Spot;
 use rebuild::rebuilding::Rebuilding;
-use walk::inner::Carved;
+use sheet::inner::Carved;
 ghost use mathlib.Core.Bool.{false};
 ghost use Prim.Native.Nat.{_+_, _≤_};
 ghost use lib.ListN.{length};
 ghost use Rattle.cells.specs.Cells.{payloadHits};
 ghost use Rattle.hit.specs.Inner.{Ready};
 ghost use Rattle.rebuild.specs.Header.{mostBy};
-ghost use Rattle.walk.specs.Inner.{carvedAs, Carves};
+ghost use Rattle.sheet.specs.Inner.{carvedAs, Carves};
 
 // Cells first, then records whose header's length is lost; the payload stands at o in its page.
 pub fn carve_payload(

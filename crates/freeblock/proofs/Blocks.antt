@@ -21,9 +21,9 @@ use Rattle.sheet.specs.Confidence.{share, freedShare}
 use Rattle.sheet.specs.declared.row.Row.{Row}
 use Rattle.sheet.specs.declared.row.RowId.the-variants.{Absent}
 use Rattle.sheet.specs.declared.row.Source.the-variants.{Freelist}
-use Rattle.walk.proofs.Carving.{carves-none, carves-more, carves-stop}
-use Rattle.walk.specs.Carve.{Hit}
-use Rattle.walk.specs.Inner.{on, over, Told, Carves}
+use Rattle.sheet.proofs.Carving.{carves-none, carves-more, carves-stop}
+use Rattle.sheet.specs.Hits.{Hit}
+use Rattle.sheet.specs.Inner.{on, over, Told, Carves}
 
 -- ---- a payload
 module _ (payload hints : List ℕ) (o : ℕ) (spot : Spot) (lent : Lent) (n : ℕ) (rows cols : List ℕ)

@@ -16,7 +16,7 @@ use Rattle.sheet.specs.Columns.{columnWords, unusedWords}
 use Rattle.sheet.specs.Confidence.{share, freedShare}
 use Rattle.sheet.specs.Row.{rowWords}
 use Rattle.sheet.specs.Sheet.{rowsWords}
-use Rattle.walk.specs.Carve.{rowsOf, groupsWords}
+use Rattle.sheet.specs.Hits.{rowsOf, groupsWords}
 
 -- the words of the rows that are found, and of their groups
 record Outcome : Type 0 where

@@ -12,7 +12,7 @@ use Rattle.page.specs.Page.{among, firstFreeblock, blockNext, blockSize, Block,
 use Rattle.sheet.specs.Confidence.{share, freedShare}
 use Rattle.sheet.specs.declared.row.RowId.the-variants.{Absent}
 use Rattle.sheet.specs.declared.row.Source.the-variants.{Freelist}
-use Rattle.walk.specs.Carve.{Hit}
+use Rattle.sheet.specs.Hits.{Hit}
 
 -- ---- the chain
 

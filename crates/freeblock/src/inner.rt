@@ -9,12 +9,12 @@ use hit::inner::Spot;
 use page::inner::block_next;
 use page::inner::block_size;
 use page::inner::first_freeblock;
-use walk::inner::Carved;
+use sheet::inner::Carved;
 ghost use mathlib.Core.Bool.{false};
 ghost use lib.ListN.{length};
 ghost use Rattle.freeblock.specs.Freeblock.{pageHits};
 ghost use Rattle.hit.specs.Inner.{Ready};
-ghost use Rattle.walk.specs.Inner.{carvedAs, Carves};
+ghost use Rattle.sheet.specs.Inner.{carvedAs, Carves};
 
 // Carves the blocks of a page whose b-tree header stands at `head`.
 pub fn carve_page(

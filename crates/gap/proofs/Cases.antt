@@ -22,7 +22,7 @@ use Rattle.sheet.specs.Columns.{columnWords, unusedWords}
 use Rattle.sheet.specs.Confidence.{share, rebuiltShare, percentOf}
 use Rattle.sheet.specs.Row.{rowWords}
 use Rattle.sheet.specs.Sheet.{rowsWords}
-use Rattle.walk.specs.Carve.{rowsOf, groupsWords}
+use Rattle.sheet.specs.Hits.{rowsOf, groupsWords}
 
 -- ---- pages
 

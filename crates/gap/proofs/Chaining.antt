@@ -15,7 +15,7 @@ use Rattle.gap.specs.Inner.{larger}
 use Rattle.hit.specs.declared.inner.Spot.{Spot}
 use Rattle.page.specs.Page.{Block, payloadOf, firstFreeblock, blockNext, blockSize}
 use Rattle.rebuild.specs.declared.rebuilding.Rebuilding.{Rebuilding}
-use Rattle.walk.specs.Carve.{Hit}
+use Rattle.sheet.specs.Hits.{Hit}
 
 module _ (page : List ℕ) where
   -- ---- where it ends

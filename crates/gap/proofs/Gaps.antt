@@ -13,8 +13,8 @@ use Rattle.gap.specs.Gap.{gapFrom, gapTo, hasGap, allZero, regionHits, g
 use Rattle.hit.specs.declared.inner.Lent.{Lent}
 use Rattle.hit.specs.declared.inner.Spot.{Spot}
 use Rattle.rebuild.specs.declared.rebuilding.Rebuilding.{Rebuilding}
-use Rattle.walk.proofs.Carving.{carves-more, carves-stop}
-use Rattle.walk.specs.Inner.{Told, on, over, Carves}
+use Rattle.sheet.proofs.Carving.{carves-more, carves-stop}
+use Rattle.sheet.specs.Inner.{Told, on, over, Carves}
 
 -- ---- zeros
 module _ (s : List ℕ) (i : ℕ) where

@@ -22,8 +22,8 @@ use Rattle.record.proofs.Numbers.{by-order}
 use Rattle.scan.proofs.Laws.{scan-missed, scan-found, scan-end}
 use Rattle.scan.specs.Scan.{Run, scanFrom}
 use Rattle.sheet.specs.declared.row.Row.{Row}
-use Rattle.walk.specs.Carve.{Hit}
-use Rattle.walk.specs.Inner.{Told, on, over, Carves}
+use Rattle.sheet.specs.Hits.{Hit}
+use Rattle.sheet.specs.Inner.{Told, on, over, Carves}
 
 -- ---- one row
 

@@ -15,7 +15,7 @@ use Rattle.scan.specs.Scan.{Run, through, noRoom, missed, found, scanFrom}
 use Rattle.sheet.specs.Confidence.{share, percentOf}
 use Rattle.sheet.specs.declared.row.RowId.the-variants.{Absent}
 use Rattle.sheet.specs.declared.row.Source.the-variants.{CarvedIntraPage}
-use Rattle.walk.specs.Carve.{Hit}
+use Rattle.sheet.specs.Hits.{Hit}
 
 -- ---- the gap
 

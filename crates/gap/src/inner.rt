@@ -7,14 +7,14 @@ use crate::inner::region::carve_gap;
 use hit::inner::Lent;
 use hit::inner::Spot;
 use rebuild::rebuilding::Rebuilding;
-use walk::inner::Carved;
+use sheet::inner::Carved;
 ghost use mathlib.Core.Bool.{false};
 ghost use Prim.Native.Nat.{_≤_};
 ghost use lib.ListN.{length};
 ghost use Rattle.gap.specs.Gap.{pageHits};
 ghost use Rattle.hit.specs.Inner.{Ready};
 ghost use Rattle.rebuild.specs.Header.{mostBy};
-ghost use Rattle.walk.specs.Inner.{carvedAs, Carves};
+ghost use Rattle.sheet.specs.Inner.{carvedAs, Carves};
 
 // Carves the gap and then the blocks of a page whose b-tree header stands at `head`.
 pub fn carve_page(

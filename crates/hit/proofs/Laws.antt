@@ -22,9 +22,9 @@ use Rattle.sheet.specs.Columns.{unusedWords}
 use Rattle.sheet.specs.Limits.{wordsPerRow, wordsPerEntry, largestRegion}
 use Rattle.sheet.specs.Sheet.{rowsWords, columnsWords}
 use Rattle.sheet.specs.declared.row.Row.{Row}
-use Rattle.walk.proofs.Carving.{told-on}
-use Rattle.walk.specs.Carve.{Hit, rowsOf, groupWords, groupsWords}
-use Rattle.walk.specs.Inner.{on, Told, Carves}
+use Rattle.sheet.proofs.Carving.{told-on}
+use Rattle.sheet.specs.Hits.{Hit, rowsOf, groupWords, groupsWords}
+use Rattle.sheet.specs.Inner.{on, Told, Carves}
 
 -- a part that goes on to the end
 pub part-is : (l : List ℕ) (v : ℕ) → take (length l - v) (drop v l) ≡ drop v l

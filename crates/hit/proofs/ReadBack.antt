@@ -13,7 +13,7 @@ use Rattle.record.specs.Value.{movedValue}
 use Rattle.record.specs.declared.record.Value.{Value}
 use Rattle.sheet.specs.declared.columns.Column.{Column}
 use Rattle.sheet.specs.declared.row.Row.{Row}
-use Rattle.walk.specs.Carve.{Hit}
+use Rattle.sheet.specs.Hits.{Hit}
 
 -- a row of so many columns, which read over the slice as these values
 pub record HitReads (s : List ℕ) (n : ℕ) (h : Hit) (vs : List Value) : Type 0 where

@@ -10,7 +10,7 @@ use Rattle.sheet.specs.declared.row.Mode.the-variants.{Plain}
 use Rattle.sheet.specs.declared.row.Row.{Row}
 use Rattle.sheet.specs.declared.row.RowId.{RowId}
 use Rattle.sheet.specs.declared.row.Source.{Source}
-use Rattle.walk.specs.Carve.{Hit}
+use Rattle.sheet.specs.Hits.{Hit}
 
 -- Rule 10.3: the row at the place `place` of a page; its columns are those of the page's part that begins at `part`
 abbrev pub rowAt : Spot → ℕ → ℕ → RowId → Source → Float → Row

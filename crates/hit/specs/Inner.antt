@@ -12,7 +12,7 @@ use Rattle.hit.specs.declared.inner.Spot.{Spot}
 use Rattle.sheet.specs.Columns.{roomOf}
 use Rattle.sheet.specs.Limits.{wordsPerRow, wordsPerEntry, mostColumns, largestRegion, largestBase}
 use Rattle.sheet.specs.declared.row.Row.{Row}
-use Rattle.walk.specs.Carve.{Hit}
+use Rattle.sheet.specs.Hits.{Hit}
 
 -- the types of a header, and the row that has them
 abbrev pub kindsAt : List ℕ → Head → List ℕ

@@ -1,10 +1,10 @@
 // Adds a row that was found to both lists, for our own crates: callers show by proof that its types and bodies are there.
 use attempt::inner::put_columns;
 use sheet::WORDS_PER_ENTRY;
+use sheet::inner::Carved;
 use sheet::inner::put_row;
 use sheet::inner::put_unused;
 use sheet::row::Row;
-use walk::inner::Carved;
 ghost use mathlib.Core.Path.{_≡_};
 ghost use mathlib.Core.Bool.{false};
 ghost use mathlib.Core.List.{[], _∷_};
@@ -15,8 +15,8 @@ ghost use Rattle.attempt.specs.Inner.{Headed};
 ghost use Rattle.hit.specs.Inner.{hitThere, Laid, Fitting, Space};
 ghost use Rattle.sheet.specs.Limits.{wordsPerRow, wordsPerEntry};
 ghost use Rattle.sheet.specs.Row.{rowWords};
-ghost use Rattle.walk.specs.Carve.{groupWords};
-ghost use Rattle.walk.specs.Inner.{carvedAs, Carves};
+ghost use Rattle.sheet.specs.Hits.{groupWords};
+ghost use Rattle.sheet.specs.Inner.{carvedAs, Carves};
 
 // Of a page: the absolute offset of its first byte, where it starts in the lent slice, and its table's index.
 pub struct Spot {

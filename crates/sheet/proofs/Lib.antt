@@ -1,3 +1,5 @@
+pub mod Carving
+pub mod Filling
 pub mod Laws
 pub mod Percent
 pub mod Shares

@@ -1,6 +1,8 @@
 pub mod Columns
 pub mod Confidence
 pub mod Filled
+pub mod Hits
+pub mod Inner
 pub mod Limits
 pub mod Refusal
 pub mod Row

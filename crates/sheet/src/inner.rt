@@ -13,6 +13,12 @@ ghost use Rattle.sheet.specs.Columns.{columnWords, unusedWords};
 ghost use Rattle.sheet.specs.Limits.{wordsPerRow, wordsPerEntry};
 ghost use Rattle.sheet.specs.Row.{rowWords};
 
+// What carving came to: how many rows there are now; or a row found no room.
+pub enum Carved {
+    On(usize),
+    Full,
+}
+
 // Rows and entries go through this one loop.
 pub fn put_words(list: &mut [u64], at: usize, words: &[u64])
     requires { ⌜ at + length (now words) ≤ length (now list) ⌝ }

@@ -21,8 +21,8 @@ use Rattle.sheet.specs.Row.{rowWords}
 use Rattle.sheet.specs.declared.refusal.Checked.the-variants.{Passed}
 use Rattle.unalloc.specs.Learned.{attemptAt, rowsFrom, rowsFound, learnedChecks}
 use Rattle.unalloc.proofs.Attempting.{attempt-found}
-use Rattle.walk.specs.Carve.{Hit as RowHit, groupWords}
-use Rattle.walk.specs.Inner.{on, over, Carves}
+use Rattle.sheet.specs.Hits.{Hit as RowHit, groupWords}
+use Rattle.sheet.specs.Inner.{on, over, Carves}
 
 -- what passed the checks
 pub filling : (len columns base : ℕ) → firstHeld (learnedChecks len columns base) ≡ Passed → Filling len base columns

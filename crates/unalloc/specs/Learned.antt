@@ -21,7 +21,7 @@ use Rattle.sheet.specs.declared.refusal.Checked.{Checked}
 use Rattle.sheet.specs.declared.refusal.Refusal.the-variants.{ColumnCount, TooLarge, BaseTooFar}
 use Rattle.sheet.specs.declared.row.Mode.the-variants.{Plain}
 use Rattle.sheet.specs.declared.row.Source.the-variants.{CarvedUnalloc}
-use Rattle.walk.specs.Carve.{Hit, pageAnswerOf, pageRowsOf, pageColsOf, pageNumberOf, pageWrittenOf}
+use Rattle.sheet.specs.Hits.{Hit, pageAnswerOf, pageRowsOf, pageColsOf, pageNumberOf, pageWrittenOf}
 
 -- ---- Rule 14.1: classes of types, which NULL and a real are not of
 unfoldable pub isInteger : ℕ → Bool

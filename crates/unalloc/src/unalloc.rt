@@ -15,11 +15,11 @@ use sheet::columns::room;
 use sheet::confidence::suited_share;
 use sheet::filled::Filled;
 use sheet::hint::hint_count_fits;
+use sheet::inner::Carved;
 use sheet::refusal::Checked;
 use sheet::refusal::Refusal;
 use sheet::row::Mode;
 use sheet::row::Source;
-use walk::inner::Carved;
 ghost use mathlib.Core.Path.{_≡_};
 ghost use mathlib.Core.Bool.{false};
 ghost use Prim.Native.Nat.{_≤_, _<_};
@@ -31,7 +31,7 @@ ghost use Rattle.sheet.specs.Limits.{mostColumns, largestRegion};
 ghost use Rattle.sheet.specs.Refusal.{firstHeld};
 ghost use Rattle.unalloc.specs.Inner.{matchesAt, Headed, Walked};
 ghost use Rattle.unalloc.specs.Learned.{isInteger, isText, isBlob, matches, learnedStyle, isThere, attemptAt, rowsFound, learnedChecks, learnedAnswer, learnedRows, learnedCols, learnedNumber, learnedWritten};
-ghost use Rattle.walk.specs.Inner.{carvedAs, Carves, FilledIs};
+ghost use Rattle.sheet.specs.Inner.{carvedAs, Carves, FilledIs};
 
 // What the types of a header come to: how many there are, and how many match.
 enum Walk {

@@ -17,7 +17,8 @@ use Rattle.sheet.specs.Limits.{countFits}
 use Rattle.sheet.specs.Refusal.{afterOr0, afterOrKept}
 use Rattle.sheet.specs.Sheet.{overlay}
 use Rattle.sheet.specs.declared.refusal.Checked.{Checked}
-use Rattle.walk.specs.Carve.{groupsWords, Table, tablesOf, sumOf, widest, countsFit, Carver, hitsFrom, tablesHits, tablesWritten, carvedCols, carvedWritten}
+use Rattle.walk.specs.Carve.{Table, tablesOf, sumOf, widest, countsFit, Carver, hitsFrom, tablesHits, tablesWritten, carvedCols, carvedWritten}
+use Rattle.sheet.specs.Hits.{groupsWords}
 use Rattle.walk.specs.Collect.{ifFlagged}
 use Rattle.walk.specs.Walk.{Popped, leafThen, onward, overflow, marked, popped, Walk, through, stackFull, leaf, goOn, walkFrom, walk}
 use Rattle.walk.proofs.Popping.{leaf-there}

@@ -1,6 +1,5 @@
 pub mod Along
 mod Calls
-pub mod Carving
 mod Cases
 mod Clearing
 mod Collecting

@@ -12,14 +12,16 @@ use lib.ListN.{length, getD, take, drop, replicate, length-append, drop-of-lengt
 use lib.Seq.{drop-cons, drop-drop}
 use Rattle.record.proofs.Numbers.{by-order}
 use Rattle.sheet.specs.Columns.{roomOf}
-use Rattle.walk.specs.Carve.{Hit, sumOf, widest, Table, tablesOf, Carver, hitsFrom, overflowFrom, tablesHits, tablesOverflow, tablesAnswer, tablesWritten}
+use Rattle.walk.specs.Carve.{sumOf, widest, Table, tablesOf, Carver, hitsFrom, overflowFrom, tablesHits, tablesOverflow, tablesAnswer, tablesWritten}
+use Rattle.sheet.specs.Hits.{Hit}
 use Rattle.walk.specs.Collect.{walkedOf}
-use Rattle.walk.specs.Inner.{tops, rest, LeafIs, Told, on, over, short, carvedTo, Carves, Tabled}
+use Rattle.walk.specs.Inner.{tops, rest, LeafIs, Tabled}
+use Rattle.sheet.specs.Inner.{Told, on, over, short, carvedTo, Carves}
 use Rattle.walk.specs.Walk.{Walk, through, stackFull, walk, onward, overflow, pushAll, hitsOf, overflows}
 use Rattle.walk.specs.declared.walk.Walked.{Walked}
 use Rattle.walk.specs.declared.walk.Walked.the-variants.{Done, Full, Short}
 use Rattle.walk.proofs.Along.{Along, along-start, along-leaf, along-more, along-done, along-full, walk-none}
-use Rattle.walk.proofs.Carving.{carves-none, carves-more, carves-stop, carves-as, told-on, told-short, puts-all}
+use Rattle.sheet.proofs.Carving.{carves-none, carves-more, carves-stop, carves-as, told-on, told-short, puts-all}
 use Rattle.walk.proofs.Summing.{sum-at}
 
 -- ---- the leaves of one table: `done` was carved behind n₀ rows, and there are n rows now

@@ -1,45 +1,23 @@
--- Carving over walks (rules 9.12 to 9.14): one definition for all that carve pages. A carver of pages knows of no room: that is applied once, at the end.
+-- Carving over walks (rules 9.12 to 9.14): one definition for all that carve pages. A carver of pages knows of no room: that is
+-- applied once, at the end.
 -- Assumes nothing.
-use Prim.Native.Nat.{ℕ, suc, _+_, _-_, max}
+use Prim.Native.Nat.{ℕ, suc, _+_, max}
 use mathlib.Core.Bool.{Bool, true, false, cond, not, _&&_, _||_}
 use mathlib.Core.List.{List, [], _∷_, _++_}
 use lib.Dec.{ltb, eqb}
 use lib.ListN.{length, take, drop}
 use Rattle.page.specs.Page.{sizeFits, wholePages}
-use Rattle.sheet.specs.Columns.{unusedWords, roomOf}
-use Rattle.sheet.specs.Filled.{filledBy, numberAfter, writtenAfter}
+use Rattle.sheet.specs.Columns.{roomOf}
+use Rattle.sheet.specs.Hits.{Hit, rowsOf, groupsWords}
 use Rattle.sheet.specs.Limits.{largestRegion, countFits, hintsKnown}
 use Rattle.sheet.specs.Refusal.{Check, after, afterOrKept}
-use Rattle.sheet.specs.Sheet.{overlay, rowsWords, columnsWords}
-use Rattle.sheet.specs.declared.columns.Column.{Column}
-use Rattle.sheet.specs.declared.filled.Filled.{Filled}
-use Rattle.sheet.specs.declared.filled.Filled.the-variants.{Refused as Barred}
+use Rattle.sheet.specs.Sheet.{overlay, rowsWords}
 use Rattle.sheet.specs.declared.refusal.Checked.{Checked}
 use Rattle.sheet.specs.declared.refusal.Refusal.the-variants.{ColumnCount, Malformed, TooLarge, PageSize}
-use Rattle.sheet.specs.declared.row.Row.{Row}
 use Rattle.walk.specs.Collect.{walkedOf, ifFlagged, walkNumber, walkWritten}
 use Rattle.walk.specs.Walk.{Walk, walk, hitsOf, overflows}
 use Rattle.walk.specs.declared.walk.Walked.{Walked}
 use Rattle.walk.specs.declared.walk.Walked.the-variants.{Short, Refused}
-
--- ---- what is found, and the words that say it
-
--- a row and its columns
-pub record Hit : Type 0 where
-  pub row : Row
-  pub columns : List Column
-
-abbrev pub rowsOf : List Hit → List Row
-rowsOf [] = []
-rowsOf (h ∷ hs) = h .row ∷ rowsOf hs
-
--- Rule 5.2: a group of `width` entries, and groups one behind the other
-abbrev pub groupWords : ℕ → Hit → List ℕ
-groupWords width h = columnsWords (h .columns) ++ unusedWords (width - length (h .columns))
-
-abbrev pub groupsWords : ℕ → List Hit → List ℕ
-groupsWords width [] = []
-groupsWords width (h ∷ hs) = groupWords width h ++ groupsWords width hs
 
 -- ---- tables
 
@@ -140,19 +118,3 @@ unfoldable pub carvedWritten : Checked → Carver → List ℕ → ℕ → List 
 carvedWritten c carve db size roots counts hints flags depth rows cols =
     walkWritten c (wholePages (length db) size) flags (roomOf rows cols (widest counts))
     (length (tablesHits carve db size roots counts hints depth))
-
--- ---- a call on one page: its checks came to c, and a group is as wide as the hints are many
-abbrev pub pageAnswerOf : Checked → List Hit → ℕ → ℕ → ℕ → Filled
-pageAnswerOf c hits width rows cols = after Barred c (filledBy (length hits) (roomOf rows cols width))
-
-abbrev pub pageRowsOf : Checked → List Hit → ℕ → List ℕ → List ℕ → List ℕ
-pageRowsOf c hits width rows cols = afterOrKept c (overlay (rowsWords (rowsOf (take (roomOf (length rows) (length cols) width) hits))) rows) rows
-
-abbrev pub pageColsOf : Checked → List Hit → ℕ → List ℕ → List ℕ → List ℕ
-pageColsOf c hits width rows cols = afterOrKept c (overlay (groupsWords width (take (roomOf (length rows) (length cols) width) hits)) cols) cols
-
-abbrev pub pageNumberOf : Checked → List Hit → ℕ → ℕ → ℕ → ℕ
-pageNumberOf c hits width rows cols = numberAfter c (length hits) (roomOf rows cols width)
-
-abbrev pub pageWrittenOf : Checked → List Hit → ℕ → ℕ → ℕ → ℕ
-pageWrittenOf c hits width rows cols = writtenAfter c (length hits) (roomOf rows cols width)

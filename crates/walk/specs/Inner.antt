@@ -7,15 +7,13 @@ use mathlib.Core.List.{List, [], _∷_}
 use lib.Dec.{leb, eqb}
 use lib.ListN.{length, getD, take}
 use lib.Seq.{sets}
-use Rattle.sheet.specs.declared.filled.Filled.{Filled}
-use Rattle.sheet.specs.declared.refusal.Checked.the-variants.{Passed}
-use Rattle.sheet.specs.Limits.{wordsPerRow, wordsPerEntry, largestRegion, hintsKnown}
+use Rattle.sheet.specs.Inner.{Told, on, over, short}
+use Rattle.sheet.specs.Limits.{largestRegion, hintsKnown}
 use Rattle.sheet.specs.Sheet.{overlay, rowsWords}
-use Rattle.walk.specs.Carve.{Hit, rowsOf, groupsWords, mostTables, sumOf, widest, countsFit, Carver, tablesAnswer, tablesWritten, pageAnswerOf, pageRowsOf, pageColsOf}
+use Rattle.walk.specs.Carve.{mostTables, sumOf, widest, countsFit, Carver, tablesAnswer, tablesWritten}
+use Rattle.sheet.specs.Hits.{Hit, rowsOf, groupsWords}
 use Rattle.walk.specs.Collect.{leavesAnswer, leavesWritten}
 use Rattle.walk.specs.Walk.{Popped, leafThen, onward, overflow, Walk, through, stackFull, leaf, walkFrom}
-use Rattle.walk.specs.declared.inner.Carved.{Carved}
-use Rattle.walk.specs.declared.inner.Carved.the-variants.{On as More, Full as NoMore}
 use Rattle.walk.specs.declared.inner.CarvedTable.{CarvedTable}
 use Rattle.walk.specs.declared.inner.CarvedTable.the-variants.{On as Further, Full as NoFurther, Short}
 use Rattle.walk.specs.declared.inner.Pushed.{Pushed}
@@ -88,37 +86,11 @@ pub record Collected (db : List ℕ) (size root flags depth : ℕ) (old : List �
   pub answer : r ≡ leavesAnswer db size root flags depth (length old)
   pub leaves-are : leaves ≡ leavesWritten db size root flags depth old
 
--- ---- carving: behind n rows come hits, as many as there is room for
-
--- the words of those that are written
-pub record Puts (width room n : ℕ) (hs : List Hit) (rows cols rows′ cols′ : List ℕ) : Type 0 where
-  pub rows-are : rows′ ≡ sets rows (n * wordsPerRow) (rowsWords (rowsOf (take (room - n) hs)))
-  pub cols-are : cols′ ≡ sets cols (n * (wordsPerEntry * width)) (groupsWords width (take (room - n) hs))
-  -- each group is as wide as it should be
-  pub wide : length (groupsWords width (take (room - n) hs)) ≡ length (take (room - n) hs) * (wordsPerEntry * width)
-
--- what carving came to: so many rows; a row found no room; a page found the stack full, with so many rows
-pub data Told : Type 0 where
-  on : ℕ → Told
-  over : Told
-  short : ℕ → Told
-
-abbrev pub carvedAs : Carved → Told
-carvedAs (More n) = on n
-carvedAs NoMore = over
-
+-- ---- carving tables
 abbrev pub tableAs : CarvedTable → Told
 tableAs (Further n) = on n
 tableAs NoFurther = over
 tableAs (Short n) = short n
-
--- where k hits come, and the stack was full or not
-abbrev pub carvedTo : ℕ → ℕ → ℕ → Bool → Told
-carvedTo room n k full = cond (leb (n + k) room) (cond full (short (n + k)) (on (n + k))) over
-
-pub record Carves (width room n : ℕ) (hs : List Hit) (full : Bool) (rows cols : List ℕ) (r : Told) (rows′ cols′ : List ℕ) : Type 0 where
-  pub answer : r ≡ carvedTo room n (length hs) full
-  pub puts : Puts width room n hs rows cols rows′ cols′
 
 -- what carving tables leaves
 pub record Tabled (carve : Carver) (db : List ℕ) (size : ℕ) (roots counts hints : List ℕ) (flags depth : ℕ) (rows cols : List ℕ) (r : Walked) (rows′ cols′ : List ℕ) : Type 0 where
@@ -136,9 +108,3 @@ pub record TablesFit (len size : ℕ) (roots counts hints : List ℕ) : Type 0 w
   pub few : length roots ≤ mostTables
   pub low : 512 ≤ size
   pub high : size ≤ 65536
-
--- what carving one page leaves
-pub record FilledIs (hits : List Hit) (width : ℕ) (rows cols : List ℕ) (r : Filled) (rows′ cols′ : List ℕ) : Type 0 where
-  pub answer : r ≡ pageAnswerOf Passed hits width (length rows) (length cols)
-  pub rows-are : rows′ ≡ pageRowsOf Passed hits width rows cols
-  pub cols-are : cols′ ≡ pageColsOf Passed hits width rows cols

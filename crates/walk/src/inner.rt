@@ -33,12 +33,6 @@ pub enum Next {
     Overflow,
 }
 
-// What carving a page came to: how many rows there are now; or a row found no room.
-pub enum Carved {
-    On(usize),
-    Full,
-}
-
 // What carving a table came to; beside that, a page may have found the stack full, with how many rows there are.
 pub enum CarvedTable {
     On(usize),

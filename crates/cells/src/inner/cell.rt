@@ -11,11 +11,11 @@ use record::varint::Cursor;
 use record::varint::Varint;
 use sheet::confidence::percent;
 use sheet::confidence::suited_share;
+use sheet::inner::Carved;
 use sheet::row::Mode;
 use sheet::row::Row;
 use sheet::row::RowId;
 use sheet::row::Source;
-use walk::inner::Carved;
 ghost use mathlib.Core.Bool.{false};
 ghost use mathlib.Core.List.{[], _∷_};
 ghost use Prim.Native.Nat.{_+_, _≤_, _<_};
@@ -25,7 +25,7 @@ ghost use Rattle.cells.specs.Cells.{cellAt, cellHit, cellHits, cellsOf};
 ghost use Rattle.cells.specs.Inner.{CellIs, cellsThere, nextPlace, turnAs, GoesTo};
 ghost use Rattle.hit.specs.Inner.{Laid, Ready};
 ghost use Rattle.sheet.specs.Limits.{largestRegion};
-ghost use Rattle.walk.specs.Inner.{carvedAs, Carves};
+ghost use Rattle.sheet.specs.Inner.{carvedAs, Carves};
 
 // A cell whose record is a row: where the record starts and ends, its row id, and the row.
 pub enum Cell {

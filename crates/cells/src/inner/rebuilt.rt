@@ -11,6 +11,7 @@ use rebuild::rebuilding::Rebuilding;
 use sheet::confidence::percent;
 use sheet::confidence::rebuilt;
 use sheet::confidence::suited_share;
+use sheet::inner::Carved;
 use sheet::row::Mode;
 use sheet::row::Row;
 use sheet::row::RowId;
@@ -18,7 +19,6 @@ use sheet::row::Source;
 use starts::inner::is_cell;
 use starts::inner::next_start;
 use starts::inner::starts_of;
-use walk::inner::Carved;
 ghost use mathlib.Core.Bool.{false};
 ghost use mathlib.Core.List.{[], _∷_};
 ghost use Prim.Native.Nat.{_+_, _≤_};
@@ -30,7 +30,7 @@ ghost use Rattle.rebuild.specs.Header.{mostBy, rebuilt as rebuiltAt};
 ghost use Rattle.rebuild.specs.Inner.{foundFrom};
 ghost use Rattle.starts.specs.Starts.{rebuiltStarts};
 ghost use Rattle.starts.specs.Inner.{isCell};
-ghost use Rattle.walk.specs.Inner.{carvedAs, Carves};
+ghost use Rattle.sheet.specs.Inner.{carvedAs, Carves};
 
 // Adds the row whose types begin at v of a payload, which stands at o in its page.
 fn add_rebuilt(

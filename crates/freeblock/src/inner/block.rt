@@ -8,11 +8,11 @@ use hit::inner::Spot;
 use hit::inner::add_hit;
 use sheet::confidence::freed;
 use sheet::confidence::suited_share;
+use sheet::inner::Carved;
 use sheet::row::Mode;
 use sheet::row::Row;
 use sheet::row::RowId;
 use sheet::row::Source;
-use walk::inner::Carved;
 ghost use mathlib.Core.Path.{_≡_};
 ghost use mathlib.Core.Bool.{false};
 ghost use Prim.Native.Nat.{_+_, _≤_, min};
@@ -21,7 +21,7 @@ ghost use Rattle.freeblock.specs.Freeblock.{mostStarts, firstStart, firs
 ghost use Rattle.freeblock.specs.Inner.{Starts};
 ghost use Rattle.hit.specs.Inner.{Ready};
 ghost use Rattle.sheet.specs.Limits.{largestRegion};
-ghost use Rattle.walk.specs.Inner.{carvedAs, Carves};
+ghost use Rattle.sheet.specs.Inner.{carvedAs, Carves};
 
 // The first start at which there is a row, and the row.
 pub enum Start {

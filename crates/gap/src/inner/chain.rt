@@ -6,7 +6,7 @@ use page::inner::block_next;
 use page::inner::block_size;
 use page::inner::first_freeblock;
 use rebuild::rebuilding::Rebuilding;
-use walk::inner::Carved;
+use sheet::inner::Carved;
 ghost use mathlib.Core.Path.{_≡_};
 ghost use mathlib.Core.Bool.{false};
 ghost use mathlib.Core.List.{[]};
@@ -17,7 +17,7 @@ ghost use Rattle.gap.specs.Inner.{larger};
 ghost use Rattle.hit.specs.Inner.{Ready};
 ghost use Rattle.page.specs.Page.{blockNext};
 ghost use Rattle.rebuild.specs.Header.{mostBy};
-ghost use Rattle.walk.specs.Inner.{carvedAs, Carves};
+ghost use Rattle.sheet.specs.Inner.{carvedAs, Carves};
 
 // No more places than this are gone to.
 const MOST_STEPS: usize = 1_024;

@@ -12,11 +12,11 @@ use page::inner::cell_count;
 use page::inner::content_start;
 use sheet::confidence::percent;
 use sheet::confidence::suited_share;
+use sheet::inner::Carved;
 use sheet::row::Mode;
 use sheet::row::Row;
 use sheet::row::RowId;
 use sheet::row::Source;
-use walk::inner::Carved;
 ghost use mathlib.Core.Path.{_≡_};
 ghost use mathlib.Core.Bool.{false};
 ghost use mathlib.Core.List.{[], _∷_};
@@ -28,7 +28,7 @@ ghost use Rattle.attempt.specs.Places.{attemptPlaces};
 ghost use Rattle.gap.specs.Gap.{allZero, gapFrom, gapTo, regionHit, regionHits, gapHits};
 ghost use Rattle.hit.specs.Inner.{Ready};
 ghost use Rattle.page.specs.Inner.{farthest};
-ghost use Rattle.walk.specs.Inner.{carvedAs, Carves};
+ghost use Rattle.sheet.specs.Inner.{carvedAs, Carves};
 
 // What a content start of 0 stands for, since two bytes cannot say it.
 const LARGEST_PAGE: usize = 65_536;

@@ -6,7 +6,7 @@ use Rattle.carve.proofs.Running.{filling}
 use Rattle.carve.proofs.carver.carve_freeblock.Statement.{statement}
 use Rattle.carve.proofs.carver.carve_freeblock.Tie as tie
 use Rattle.carve.specs.Modes.{carveAnswer, carveRows, carveCols, carveNumber, carveWritten}
-use Rattle.walk.proofs.Promises.{page-refused, page-passed}
+use Rattle.sheet.proofs.Filling.{page-refused, page-passed}
 
 check-requires : tie.Need-check-requires
 check-requires c κs = search needs

@@ -6,7 +6,7 @@ use Rattle.carve.proofs.Writing.{few-columns, fitting}
 use Rattle.carve.proofs.carver.carve_one.Statement.{statement}
 use Rattle.carve.proofs.carver.carve_one.Tie as tie
 use Rattle.carve.specs.Inner.{FindFits}
-use Rattle.walk.proofs.Carving.{carves-none, carves-one, carves-over}
+use Rattle.sheet.proofs.Carving.{carves-none, carves-one, carves-over}
 
 enum-known-tried : tie.Need-enum-known-tried
 enum-known-tried c = search needs

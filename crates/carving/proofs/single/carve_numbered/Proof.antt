@@ -16,7 +16,7 @@ use Rattle.page.proofs.Laws.{paged-refused, paged-at, PagedAt}
 use Rattle.page.specs.Page.{pageChecks}
 use Rattle.sheet.specs.Limits.{countFits}
 use Rattle.sheet.specs.Refusal.{firstHeld}
-use Rattle.walk.proofs.Promises.{page-refused, page-passed}
+use Rattle.sheet.proofs.Filling.{page-refused, page-passed}
 
 refuses-requires : tie.Need-refuses-requires
 refuses-requires c κs = search needs

@@ -13,7 +13,7 @@ use Rattle.carving.proofs.single.carve_slice.Statement.{statement}
 use Rattle.carving.proofs.single.carve_slice.Tie as tie
 use Rattle.sheet.specs.Refusal.{firstHeld}
 use Rattle.sheet.specs.Slice.{sliceChecks}
-use Rattle.walk.proofs.Promises.{page-refused, page-passed}
+use Rattle.sheet.proofs.Filling.{page-refused, page-passed}
 
 refuses-requires : tie.Need-refuses-requires
 refuses-requires c κs = search needs

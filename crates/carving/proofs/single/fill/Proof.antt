@@ -3,7 +3,7 @@
 use borrow.Author.Needs.{needs}
 use Rattle.carving.proofs.single.fill.Statement.{statement}
 use Rattle.carving.proofs.single.fill.Tie as tie
-use Rattle.walk.proofs.Promises.{page-done, page-over}
+use Rattle.sheet.proofs.Filling.{page-done, page-over}
 
 room-requires : tie.Need-room-requires
 room-requires c κs = search needs

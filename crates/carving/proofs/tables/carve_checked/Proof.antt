@@ -17,7 +17,8 @@ use Rattle.sheet.specs.Columns.{roomOf}
 use Rattle.walk.proofs.Promises.{table-fits}
 use Rattle.walk.proofs.Tables.{Tables, tables-start, tables-inside, tables-on, tables-over, tables-short, tables-done, tables-room, tabled, tabled-few}
 use Rattle.walk.specs.Carve.{widest}
-use Rattle.walk.specs.Inner.{tableAs, Carves}
+use Rattle.walk.specs.Inner.{tableAs}
+use Rattle.sheet.specs.Inner.{Carves}
 use Rattle.walk.specs.Walk.{walk, hitsOf, overflows}
 
 -- the lists are as long as they were

@@ -10,7 +10,7 @@ use Rattle.gap.proofs.Gaps.{page-short, page-full, page-more}
 use Rattle.gap.proofs.inner.carve_page.Statement.{statement}
 use Rattle.gap.proofs.inner.carve_page.Tie as tie
 use Rattle.hit.proofs.Laws.{ready-next}
-use Rattle.walk.proofs.Carving.{carves-none}
+use Rattle.sheet.proofs.Carving.{carves-none}
 
 -- the page goes on behind its header
 long : (c : tie.Else2) → c .before .before .before .before .before .before .args .head + 8 ≤ length (now (c .before .before .before .before .before .before .args .page))

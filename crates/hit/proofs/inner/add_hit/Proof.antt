@@ -6,7 +6,7 @@ use denote.Ref.{now}
 use Rattle.hit.proofs.Laws.{space-fits, there-length}
 use Rattle.hit.proofs.inner.add_hit.Statement.{statement}
 use Rattle.hit.proofs.inner.add_hit.Tie as tie
-use Rattle.walk.proofs.Carving.{carves-one, carves-over}
+use Rattle.sheet.proofs.Carving.{carves-one, carves-over}
 
 returns : tie.Need-returns
 returns c = carves-over _ _ _ _ _ _ (c .if1 .taken)

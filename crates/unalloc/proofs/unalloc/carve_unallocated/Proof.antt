@@ -6,7 +6,7 @@ use Rattle.unalloc.proofs.Running.{filling}
 use Rattle.unalloc.proofs.unalloc.carve_unallocated.Statement.{statement}
 use Rattle.unalloc.proofs.unalloc.carve_unallocated.Tie as tie
 use Rattle.unalloc.specs.Learned.{learnedAnswer, learnedRows, learnedCols, learnedNumber, learnedWritten}
-use Rattle.walk.proofs.Promises.{page-refused, page-passed}
+use Rattle.sheet.proofs.Filling.{page-refused, page-passed}
 
 check-requires : tie.Need-check-requires
 check-requires c κs = search needs

@@ -8,7 +8,7 @@ use denote.Ref.{now}
 use lib.ListN.{length}
 use Rattle.cells.specs.Cells.{cellAt, cellHits}
 use Rattle.cells.specs.Inner.{cellsThere, nextPlace}
-use Rattle.walk.specs.Inner.{on, Carves}
+use Rattle.sheet.specs.Inner.{on, Carves}
 use Rattle.cells.proofs.Along.{along-ready, along-long}
 use Rattle.cells.proofs.Looking.{Looking, looking-start, looking-on, looking-full, looking-end, next-past}
 use borrow.Author.Needs.{needs}

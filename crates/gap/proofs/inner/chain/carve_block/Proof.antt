@@ -6,7 +6,7 @@ use denote.Ref.{now}
 use Rattle.gap.proofs.Chaining.{block-small, block-past, block-hits}
 use Rattle.gap.proofs.inner.chain.carve_block.Statement.{statement}
 use Rattle.gap.proofs.inner.chain.carve_block.Tie as tie
-use Rattle.walk.proofs.Carving.{carves-none}
+use Rattle.sheet.proofs.Carving.{carves-none}
 
 block-size-requires : tie.Need-block-size-requires
 block-size-requires c κs = search needs

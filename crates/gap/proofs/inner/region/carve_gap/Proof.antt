@@ -6,7 +6,7 @@ use denote.Ref.{now}
 use Rattle.gap.proofs.Gaps.{gap-none, gap-past, gap-zero, gap-some}
 use Rattle.gap.proofs.inner.region.carve_gap.Statement.{statement}
 use Rattle.gap.proofs.inner.region.carve_gap.Tie as tie
-use Rattle.walk.proofs.Carving.{carves-none}
+use Rattle.sheet.proofs.Carving.{carves-none}
 
 gap-from-requires : tie.Need-gap-from-requires
 gap-from-requires c κs = search needs

@@ -10,13 +10,13 @@ use borrow.Author.Tests.{le-leb, lt-leb}
 use lib.ListN.{length, take, drop, length-append, length-take}
 use lib.Seq.{sets, sets-eq, take-nil, take-all, take-append-le, take-append-add}
 use Rattle.record.proofs.Numbers.{by-order}
 use Rattle.sheet.proofs.Laws.{sets-append, rows-words-length, columns-words-length, unused-words-length, room-rows, room-cols}
 use Rattle.sheet.specs.Columns.{unusedWords, roomOf}
 use Rattle.sheet.specs.Limits.{wordsPerRow, wordsPerEntry}
 use Rattle.sheet.specs.Row.{rowWords}
 use Rattle.sheet.specs.Sheet.{overlay, rowsWords, columnsWords}
-use Rattle.walk.specs.Carve.{Hit, rowsOf, groupWords, groupsWords}
-use Rattle.walk.specs.Inner.{Puts, Told, on, over, short, carvedTo, Carves}
+use Rattle.sheet.specs.Hits.{Hit, rowsOf, groupWords, groupsWords}
+use Rattle.sheet.specs.Inner.{Puts, Told, on, over, short, carvedTo, Carves}
 
 -- ---- words of hits
 rows-append : (a b : List Hit) → rowsWords (rowsOf (a ++ b)) ≡ rowsWords (rowsOf a) ++ rowsWords (rowsOf b)

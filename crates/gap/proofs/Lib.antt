@@ -3,4 +3,3 @@ mod Chaining
 mod Gaps
 pub mod ReadBack
 mod Regions
-pub mod Room

@@ -17,8 +17,6 @@ use Rattle.phsarodil.proofs.gaps.phs_scan_single_page_gap.Reads as scan
 use Rattle.phsarodil.proofs.modes.phs_carve_freeblock.Reads as carve-freeblock
 use Rattle.phsarodil.proofs.pages.phs_collect_leaf_pages.Reads as collect-leaf-pages
 use Rattle.phsarodil.proofs.pages.phs_get_page_data.Reads as get-page-data
-use Rattle.phsarodil.proofs.rebuildings.named.Reads as named
-use Rattle.phsarodil.proofs.rebuildings.unnamed.Reads as unnamed
 use Rattle.phsarodil.proofs.rows.phs_is_compatible.Reads as is-compatible
 use Rattle.phsarodil.proofs.rows.phs_scan_region.Reads as scan-region
 use Rattle.phsarodil.proofs.rows.phs_try_parse_record.Reads as try-parse-record
@@ -176,13 +174,7 @@ recover-slice-freeblocks-rows k a x y s t p q = p .1 .1 .0 ∙ sym (q .1 .1 .0)
 pub recover-slice-freeblocks-cols : FixesSeen recover-slice-freeblocks.Post (λ k r s. now (s .1 .1 .1 .1 .1 .0))
 recover-slice-freeblocks-cols k a x y s t p q = p .1 .1 .1 ∙ sym (q .1 .1 .1)
 
--- ---- the free space of pages, and which code names which rebuilding
-pub named-fixed : Fixes named.Post
-named-fixed k a x y s t p q = p ∙ sym q
-
-pub unnamed-fixed : Fixes unnamed.Post
-unnamed-fixed k a x y s t p q = p ∙ sym q
-
+-- ---- the free space of pages
 pub scan-page-gaps-number : Fixes scan-page-gaps.Post
 scan-page-gaps-number k a x y s t p q = p .0 ∙ sym (q .0)
 

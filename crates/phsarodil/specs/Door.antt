@@ -1,12 +1,11 @@
 -- The words that a call writes into `out` for its answer.
 -- Assumes nothing.
-use Prim.Native.Nat.{ℕ, _-_, _^_}
+use Prim.Native.Nat.{ℕ}
 use mathlib.Core.Bool.{cond}
 use mathlib.Core.List.{List, [], _∷_}
 use lib.Dec.{eqb}
-use lib.IntN.{ℤ, pos, negsuc}
 use lib.ListN.{length}
-use Rattle.record.specs.Value.{bigEndian, startOf, lengthOf}
+use Rattle.record.specs.Value.{startOf, lengthOf}
 use Rattle.record.specs.declared.entry.Entry.{Entry}
 use Rattle.record.specs.declared.entry.EntryRead.{EntryRead}
 use Rattle.record.specs.declared.entry.EntryRead.the-variants.{Of as Reads, Refused as Bad}
@@ -14,13 +13,12 @@ use Rattle.record.specs.declared.record.Decoded.{Decoded}
 use Rattle.record.specs.declared.record.Decoded.the-variants.{Of, Nothing}
 use Rattle.record.specs.declared.record.Length.{Length}
 use Rattle.record.specs.declared.record.Length.the-variants.{Bytes, Reserved}
-use Rattle.record.specs.declared.record.Value.{Value}
-use Rattle.record.specs.declared.record.Value.the-variants.{Null, Int, Real, Text, Blob}
 use Rattle.record.specs.declared.varint.Read.{Read}
 use Rattle.record.specs.declared.varint.Read.the-variants.{Number, Nothing as Short}
 use Rattle.page.specs.declared.btree.Paged.{Paged}
 use Rattle.page.specs.declared.btree.Paged.the-variants.{At, Refused}
 use Rattle.scan.specs.Scan.{scanWritten, scanPlace, scanCount}
+use Rattle.tagged.specs.Tagged.{tagOf, bitsOf}
 
 -- phs_read_varint: found, value, bytes taken
 abbrev pub varintWords : Read → List ℕ
@@ -33,28 +31,6 @@ lengthWords (Bytes n) = 1 ∷ n ∷ []
 lengthWords Reserved = 0 ∷ 0 ∷ []
 
 -- ---- a value
-
--- which of the five it is; 0 stands for none
-abbrev pub tagOf : Value → ℕ
-tagOf Null = 1
-tagOf (Int z) = 2
-tagOf (Real x) = 3
-tagOf (Text start n) = 4
-tagOf (Blob start n) = 5
-
--- two's complement in 64 bits, where negsuc n is -1 - n
-unfoldable pub wordOf : ℤ → ℕ
-wordOf (pos n) = n
-wordOf (negsuc n) = 2 ^ 64 - 1 - n
-
--- the bits of a number; those of a real are the eight bytes of its body, which is at `at`
-abbrev pub bitsOf : List ℕ → ℕ → Value → ℕ
-bitsOf s at Null = 0
-bitsOf s at (Int z) = wordOf z
-bitsOf s at (Real x) = bigEndian s at 8
-bitsOf s at (Text start n) = 0
-bitsOf s at (Blob start n) = 0
-
 -- phs_decode_serial_type: tag, bits, start, bytes taken
 abbrev pub decodedWords : List ℕ → ℕ → Decoded → List ℕ
 decodedWords s at (Of v n) = tagOf v ∷ bitsOf s at v ∷ startOf v ∷ n ∷ []

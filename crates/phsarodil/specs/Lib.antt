@@ -1,3 +1,2 @@
 pub mod Door
-pub mod Rebuildings
 pub mod Version

@@ -1,12 +1,12 @@
 // Rows in the free space of pages: of tables, of a page by its number, of a page slice, and of the payload of one freed block. Each takes the code of
 // the way in which lost headers are rebuilt.
-use crate::rebuildings::Way;
-use crate::rebuildings::named;
-use crate::rebuildings::unnamed;
 use carving::gaps::parse_cells_from_freeblock;
 use carving::gaps::scan_page_gap;
 use carving::gaps::scan_page_gaps;
 use carving::gaps::scan_single_page_gap;
+use rebuild::ways::Way;
+use rebuild::ways::named;
+use rebuild::ways::unnamed;
 use sheet::refusal::hint_count_fits;
 use walk::inner::tables::counts_fit;
 ghost use mathlib.Core.Path.{_≡_};
@@ -14,7 +14,7 @@ ghost use mathlib.Core.List.{[], _∷_};
 ghost use lib.ListN.{length};
 ghost use Rattle.carving.specs.Calls.{sliceRows, sliceCols, sliceNumber, sliceWritten, numberedRows, numberedCols, numberedNumber, numberedWritten, tabledRows, tabledCols, tabledCleared, tabledNumber, tabledWritten};
 ghost use Rattle.carving.specs.declared.inner.Carving.the-variants.{Gaps, Payload};
-ghost use Rattle.phsarodil.specs.Rebuildings.{named as wayNamed, byName, unnamedNumber};
+ghost use Rattle.rebuild.specs.Ways.{named as wayNamed, byName, unnamedNumber};
 ghost use Rattle.sheet.specs.Limits.{countFits};
 ghost use Rattle.walk.specs.Carve.{countsFit};
 

@@ -6,7 +6,6 @@ pub mod learned;
 pub mod lists;
 pub mod modes;
 pub mod pages;
-mod rebuildings;
 pub mod rows;
 pub mod values;
 pub mod version;

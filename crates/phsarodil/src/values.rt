@@ -1,7 +1,6 @@
 // Varints, serial types, values and column entries.
 use record::entry::Entry;
 use record::entry::EntryRead;
-use record::inner::big_endian;
 use record::record::Decoded;
 use record::record::Length;
 use record::record::Value;
@@ -9,11 +8,13 @@ use record::record::body_length;
 use record::record::decode_serial_type;
 use record::varint::Read;
 use record::varint::read_varint;
+use tagged::inner::bits_of;
+use tagged::inner::number_of;
+use tagged::inner::tag_of;
 ghost use mathlib.Core.Path.{_≡_};
-ghost use Rattle.phsarodil.specs.Door.{varintWords, lengthWords, tagOf, wordOf, bitsOf, decodedWords, entryOf, entryWords, viewWords};
-ghost use Rattle.record.specs.Inner.{BodyThere};
+ghost use Rattle.phsarodil.specs.Door.{varintWords, lengthWords, decodedWords, entryOf, entryWords, viewWords};
 ghost use Rattle.record.specs.Entry.{readEntry, refusalOf, entryBytes};
-ghost use Rattle.record.specs.Value.{bodyLength, decodeAt, startOf, lengthOf};
+ghost use Rattle.record.specs.Value.{bodyLength, decodeAt};
 ghost use Rattle.record.specs.Varint.{readVarint};
 
 #[no_mangle]
@@ -42,66 +43,6 @@ pub extern "C" fn phs_body_length(kind: u64, out: &mut [u64; 2]) -> u64
     0
 }
 
-fn tag_of(value: Value) -> u64
-    ensures { λ r. ⌜ r ≡ tagOf value ⌝ }
-{
-    match value {
-        Value::Null => 1,
-        Value::Int(_) => 2,
-        Value::Real(_) => 3,
-        Value::Text { .. } => 4,
-        Value::Blob { .. } => 5,
-    }
-}
-
-// A negative v is kept as 2^64 + v.
-fn word_of(v: i64) -> u64
-    ensures { λ r. ⌜ r ≡ wordOf v ⌝ }
-{
-    if v < 0 {
-        return 0xffff_ffff_ffff_ffff - (-1 - v) as u64;
-    }
-    v as u64
-}
-
-// A real's bits are read from its body at `at`, for an f64 would lose a NaN's payload.
-fn bits_of(value: Value, bytes: &[u8], at: usize) -> u64
-    requires { ⌜ BodyThere (now bytes) at value ⌝ }
-    ensures { λ r. ⌜ r ≡ bitsOf (now (bytes .entry)) at value ⌝ }
-{
-    match value {
-        Value::Int(v) => word_of(v),
-        Value::Real(_) => big_endian(bytes, at, 8),
-        Value::Null => 0,
-        Value::Text { .. } => 0,
-        Value::Blob { .. } => 0,
-    }
-}
-
-fn start_of(value: Value) -> u64
-    ensures { λ r. ⌜ r ≡ startOf value ⌝ }
-{
-    match value {
-        Value::Text { start, .. } => start as u64,
-        Value::Blob { start, .. } => start as u64,
-        Value::Null => 0,
-        Value::Int(_) => 0,
-        Value::Real(_) => 0,
-    }
-}
-
-fn length_of(value: Value) -> u64
-    ensures { λ r. ⌜ r ≡ lengthOf value ⌝ }
-{
-    match value {
-        Value::Text { len, .. } => len as u64,
-        Value::Blob { len, .. } => len as u64,
-        Value::Null => 0,
-        Value::Int(_) => 0,
-        Value::Real(_) => 0,
-    }
-}
-
 #[no_mangle]
 pub extern "C" fn phs_decode_serial_type(
     kind: u64,
@@ -118,7 +59,7 @@ pub extern "C" fn phs_decode_serial_type(
     };
     let tag = tag_of(value);
     let bits = bits_of(value, bytes, offset);
-    let from = start_of(value);
+    let from = value.start() as u64;
     *out = [tag, bits, from, n as u64];
     0
 }
@@ -141,14 +82,15 @@ pub extern "C" fn phs_read_entry(
         start,
         len: length,
     };
-    let EntryRead::Of(value) = entry.read(bytes) else {
+    let read = entry.read(bytes);
+    let EntryRead::Of(value) = read else {
         *out = [0, 0, 0, 0];
-        return 2;
+        return number_of(read);
     };
     let tag = tag_of(value);
     let bits = bits_of(value, bytes, start as usize);
-    let from = start_of(value);
-    let size = length_of(value);
+    let from = value.start() as u64;
+    let size = value.len() as u64;
     *out = [tag, bits, from, size];
     0
 }

@@ -1,2 +1,3 @@
 pub mod Header
 pub mod Inner
+pub mod Ways

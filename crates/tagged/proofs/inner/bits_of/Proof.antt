@@ -1,13 +1,13 @@
--- `values::bits_of` meets its contract: each arm is a clause of the definition.
+-- `tagged::inner::bits_of` meets its contract: each arm is a clause of the definition.
 -- Assumes nothing.
 use mathlib.Core.Path.{ap, _∙_}
 use lib.Dec.{lit≤}
 use mir.Syntax.{w64}
 use mir.Facts.{toZ-ofZ}
 use borrow.Author.Needs.{needs}
-use Rattle.phsarodil.specs.Door.{wordOf}
-use Rattle.phsarodil.proofs.values.bits_of.Statement.{statement}
-use Rattle.phsarodil.proofs.values.bits_of.Tie as tie
+use Rattle.tagged.specs.Tagged.{wordOf}
+use Rattle.tagged.proofs.inner.bits_of.Statement.{statement}
+use Rattle.tagged.proofs.inner.bits_of.Tie as tie
 
 enum-known-value : tie.Need-enum-known-value
 enum-known-value c = search needs

@@ -3,10 +3,10 @@
 use Prim.Native.Nat.{ℕ}
 use mathlib.Core.Bool.{Bool, cond}
 use lib.Dec.{eqb}
-use Rattle.phsarodil.specs.declared.rebuildings.Way.{Way}
-use Rattle.phsarodil.specs.declared.rebuildings.Way.the-variants.{By, Unnamed}
+use Rattle.rebuild.specs.declared.ways.Way.{Way}
+use Rattle.rebuild.specs.declared.ways.Way.the-variants.{By, Unnamed}
 use Rattle.rebuild.specs.declared.rebuilding.Rebuilding.{Rebuilding}
 use Rattle.rebuild.specs.declared.rebuilding.Rebuilding.the-variants.{OneByte, Exact}
 use Rattle.sheet.specs.Refusal.{refusalNumber}
 use Rattle.sheet.specs.declared.refusal.Refusal.the-variants.{ColumnCount, Malformed}
 

@@ -1,9 +1,9 @@
 // The codes of the ways in which a header is rebuilt.
-use rebuild::rebuilding::Rebuilding;
+use crate::rebuilding::Rebuilding;
 use sheet::refusal::Refusal;
 use sheet::refusal::number;
 ghost use mathlib.Core.Path.{_≡_};
-ghost use Rattle.phsarodil.specs.Rebuildings.{named as wayNamed, unnamedNumber};
+ghost use Rattle.rebuild.specs.Ways.{named as wayNamed, unnamedNumber};
 
 pub enum Way {
     By(Rebuilding),

@@ -1,8 +1,8 @@
--- `phsarodil::rebuildings::named` meets its contract: 1 and 2 name a way.
+-- `rebuild::ways::named` meets its contract: 1 and 2 name a way.
 -- Assumes nothing.
 use borrow.Author.Tests.{eq-eqb, ne-eqb}
-use Rattle.phsarodil.proofs.rebuildings.named.Statement.{statement}
-use Rattle.phsarodil.proofs.rebuildings.named.Tie as tie
+use Rattle.rebuild.proofs.ways.named.Statement.{statement}
+use Rattle.rebuild.proofs.ways.named.Tie as tie
 
 returns : tie.Need-returns
 returns c = simp (eq-eqb (c .before .args .code) 1 (c .if1 .taken))

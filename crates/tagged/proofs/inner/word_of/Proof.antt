@@ -1,12 +1,12 @@
--- `values::word_of` meets its contract: of v = -1 - n the code takes n away from 2 ^ 64 - 1.
+-- `tagged::inner::word_of` meets its contract: of v = -1 - n the code takes n away from 2 ^ 64 - 1.
 -- Assumes nothing.
 use mathlib.Core.Path.{sym, ap}
 use native.Mathlib.Omega.{arith}
 use mir.Facts.{fits-natAbs}
 use Rattle.record.proofs.Laws.{Below, below-zero, From, from-zero}
-use Rattle.phsarodil.specs.Door.{wordOf}
-use Rattle.phsarodil.proofs.values.word_of.Statement.{statement}
-use Rattle.phsarodil.proofs.values.word_of.Tie as tie
+use Rattle.tagged.specs.Tagged.{wordOf}
+use Rattle.tagged.proofs.inner.word_of.Statement.{statement}
+use Rattle.tagged.proofs.inner.word_of.Tie as tie
 
 below : (c : tie.Then1) → Below (c .before .args .v)
 below c = below-zero (c .before .fits .v) (c .if1 .taken)

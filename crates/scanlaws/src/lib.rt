@@ -1,0 +1,1 @@
+// Laws of the region scan; no code.

@@ -5,8 +5,9 @@ use Prim.Native.String.{String}
 use mathlib.Core.Path.{_≡_, refl}
 use mathlib.Core.List.{List, [], _∷_, _++_, map}
 use lib.ListN.{length, replicate}
-use Rattle.statement.specs.Statement.{between, isInteger, isText, isReal, isBlob, hintOf, isRowId, isConstraint, isSkipped, pieceHints, allHints, hintsOf, statementChecks, statementNumber, statementWritten, statementHints}
-use Rattle.statement.specs.Words.{bytes, isBlank, raise, takeWhile, dropWhile, trim, has, behindFirst, beforeLast, pieces, firstWord, secondWord, startsWith, equals, holds, oneOf}
+use Rattle.statement.specs.Statement.{between, hintOf, isRowId, isSkipped, pieceHints, allHints, hintsOf, statementChecks, statementNumber, statementWritten, statementHints}
+use Rattle.words.specs.Runs.{isBlank, takeWhile, dropWhile, has, behindFirst, beforeLast}
+use Rattle.words.specs.Words.{bytes, raise, trim, pieces, firstWord, secondWord, startsWith, equals, holds}
 use Rattle.sheet.specs.Limits.{countFits}
 
 -- a statement and how many cells are lent, with the answer's number, how many hints are written, and the hints
@@ -78,5 +79,5 @@ cases : List Case
 cases = given ++ refused ++ roomed ++ counted
 
 table : map computed cases ≡ cases
-unfolding cases given refused roomed counted several computed statementNumber statementWritten statementHints statementChecks hintsOf allHints pieceHints isSkipped isRowId isConstraint hintOf isInteger isText isReal isBlob between oneOf equals holds startsWith secondWord firstWord pieces beforeLast behindFirst has trim dropWhile takeWhile raise isBlank countFits
+unfolding cases given refused roomed counted several computed statementNumber statementWritten statementHints statementChecks hintsOf allHints pieceHints isSkipped isRowId hintOf between equals holds startsWith secondWord firstWord pieces beforeLast behindFirst has trim dropWhile takeWhile raise isBlank countFits
 table = refl

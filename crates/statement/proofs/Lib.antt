@@ -1,4 +1,3 @@
 mod Cases
 mod StatementLaws
 pub mod Unique
-mod WordsLaws

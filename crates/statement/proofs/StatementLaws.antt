@@ -6,13 +6,14 @@ use mathlib.Core.Bool.{true, false, cond, not, and-eq-true-iff}
 use mathlib.Core.List.{List, [], _∷_, _++_, append-nil, append-assoc}
 use native.Mathlib.Omega.{arith}
 use borrow.Author.Tests.{lt-ltb, le-ltb, le-leb, lt-leb, leb-true, leb-false}
-use lib.Dec.{ltb, leb}
+use lib.Dec.{leb}
 use lib.ListN.{length, take, drop, length-append}
 use lib.Seq.{sets, set-out, take-all, take-nil, take-append-seam, take-append-le, length-take-le}
 use Rattle.statement.specs.Statement.{largestStatement, opening, closing, between, pieceHints, allHints, hintsOf, statementNumber, statementWritten, statementChecks, statementAnswer, statementHints}
-use Rattle.statement.specs.Inner.{Kept, PieceEnds, piecesFrom}
-use Rattle.statement.specs.Words.{trim, isNot, has, behindFirst, beforeLast, pieces}
-use Rattle.statement.proofs.WordsLaws.{behind-has, kept-has, kept-before, pieces-none}
+use Rattle.words.specs.Inner.{Kept, PieceEnds, piecesFrom}
+use Rattle.words.specs.Runs.{isNot, has, behindFirst, beforeLast}
+use Rattle.words.specs.Words.{trim, pieces}
+use Rattle.words.proofs.Laws.{behind-has, kept-has, kept-before, pieces-none}
 use Rattle.sheet.specs.Filled.{filledNumber, filledWritten, laid}
 use Rattle.sheet.specs.Limits.{mostColumns, countFits}
 use Rattle.sheet.specs.Refusal.{firstHeld}

@@ -6,7 +6,8 @@ use mathlib.Core.Bool.{Bool, cond, not, _&&_, _||_}
 use mathlib.Core.List.{List, [], _∷_, _++_}
 use lib.Dec.{ltb, eqb}
 use lib.ListN.{length}
-use Rattle.statement.specs.Words.{bytes, trim, has, behindFirst, beforeLast, pieces, secondWord, holds, startsWithOne, equalsOne}
+use Rattle.words.specs.Runs.{has, behindFirst, beforeLast}
+use Rattle.words.specs.Words.{bytes, trim, pieces, secondWord, holds, starting, whole, meetsOne}
 use Rattle.sheet.specs.Filled.{filledBy, numberAfter, writtenAfter, laid}
 use Rattle.sheet.specs.Limits.{integerHint, realHint, textHint, blobHint, anyHint, countFits}
 use Rattle.sheet.specs.Refusal.{Check, firstHeld, after, afterOrKept}
@@ -31,22 +32,20 @@ unfoldable pub between : List ℕ → List ℕ
 between s = beforeLast closing (behindFirst opening s)
 
 -- the types that are integers
-unfoldable pub isInteger : List ℕ → Bool
-isInteger w =
-    startsWithOne ("INT" ∷ []) w
-    || equalsOne ("BOOLEAN" ∷ "TINYINT" ∷ "SMALLINT" ∷ "BIGINT" ∷ "MEDIUMINT" ∷ []) w
+abbrev pub isInteger : List ℕ → Bool
+isInteger = meetsOne (starting "INT" ∷ whole "BOOLEAN" ∷ whole "TINYINT" ∷ whole "SMALLINT" ∷ whole "BIGINT" ∷ whole "MEDIUMINT" ∷ [])
 
 -- the types that are texts
-unfoldable pub isText : List ℕ → Bool
-isText w = startsWithOne ("TEXT" ∷ "CHAR" ∷ "VARCHAR" ∷ "NCHAR" ∷ "NVARCHAR" ∷ []) w || equalsOne ("CLOB" ∷ []) w
+abbrev pub isText : List ℕ → Bool
+isText = meetsOne (starting "TEXT" ∷ starting "CHAR" ∷ starting "VARCHAR" ∷ starting "NCHAR" ∷ starting "NVARCHAR" ∷ whole "CLOB" ∷ [])
 
 -- the types that are floats
-unfoldable pub isReal : List ℕ → Bool
-isReal w = startsWithOne ("REAL" ∷ "FLOAT" ∷ "DOUBLE" ∷ "NUMERIC" ∷ "DECIMAL" ∷ []) w
+abbrev pub isReal : List ℕ → Bool
+isReal = meetsOne (starting "REAL" ∷ starting "FLOAT" ∷ starting "DOUBLE" ∷ starting "NUMERIC" ∷ starting "DECIMAL" ∷ [])
 
 -- the types that are blobs
-unfoldable pub isBlob : List ℕ → Bool
-isBlob w = startsWithOne ("BLOB" ∷ []) w || equalsOne ("BINARY" ∷ "VARBINARY" ∷ []) w
+abbrev pub isBlob : List ℕ → Bool
+isBlob = meetsOne (starting "BLOB" ∷ whole "BINARY" ∷ whole "VARBINARY" ∷ [])
 
 -- Rule 6.4, the hint of a declared type: the first kind that it is of; Any where it is of none, or missing
 unfoldable pub hintOf : List ℕ → ℕ
@@ -61,8 +60,8 @@ unfoldable pub isRowId : List ℕ → Bool
 isRowId p = holds (bytes "INTEGER") p && holds (bytes "PRIMARY") p && holds (bytes "KEY") p
 
 -- a piece that starts with one of these is no column, even where a column's name starts so
-unfoldable pub isConstraint : List ℕ → Bool
-isConstraint p = startsWithOne ("PRIMARY" ∷ "UNIQUE" ∷ "CHECK" ∷ "FOREIGN" ∷ "CONSTRAINT" ∷ []) p
+abbrev pub isConstraint : List ℕ → Bool
+isConstraint = meetsOne (starting "PRIMARY" ∷ starting "UNIQUE" ∷ starting "CHECK" ∷ starting "FOREIGN" ∷ starting "CONSTRAINT" ∷ [])
 
 -- Rule 6.3: the pieces that give no hint
 unfoldable pub isSkipped : List ℕ → Bool

@@ -8,241 +8,34 @@ use sheet::hint::REAL;
 use sheet::hint::TEXT;
 use sheet::hint::hint_count_fits;
 use sheet::refusal::Refusal;
+use words::inner::keywords::begins;
+use words::inner::keywords::holds_word;
+use words::inner::keywords::is_word;
+use words::inner::pieces::piece_end;
+use words::runs::Run;
+use words::runs::behind_first;
+use words::runs::kept;
+use words::words::second_word;
+use words::words::trimmed;
 ghost use mathlib.Core.Path.{_≡_};
 ghost use Prim.Native.Nat.{_+_, _≤_, _<_};
 ghost use lib.ListN.{length};
 ghost use lib.Seq.{sets};
 ghost use Rattle.sheet.specs.Filled.{filledNumber, filledWritten, laid};
-ghost use Rattle.statement.specs.Statement.{closing, isInteger, isText, isReal, isBlob, hintOf, isRowId, isConstraint, isSkipped, pieceHints, allHints, statementNumber, statementWritten, statementAnswer, statementHints};
-ghost use Rattle.statement.specs.Inner.{inRun, AllIn, Leads, Kept, PieceEnds, givenHints};
-ghost use Rattle.statement.specs.Words.{isBlank, isNot, raise, takeWhile, dropWhile, trim, behindFirst, pieces, firstWord, secondWord, startsWith, equals, holds};
+ghost use Rattle.statement.specs.Inner.{givenHints};
+ghost use Rattle.statement.specs.Statement.{closing, isInteger, isText, isReal, isBlob, hintOf, isRowId, isConstraint, isSkipped};
+ghost use Rattle.statement.specs.Statement.{pieceHints, allHints, statementNumber, statementWritten, statementAnswer, statementHints};
+ghost use Rattle.words.specs.Inner.{Kept};
+ghost use Rattle.words.specs.Runs.{isNot};
+ghost use Rattle.words.specs.Words.{trim, pieces};
 
 // In bytes.
 pub const LARGEST_STATEMENT: usize = 65_536;
-
-// Bytes of one kind, one behind the other.
-enum Run {
-    Blanks,
-    // Bytes that are no blanks.
-    Word,
-    // Bytes that are not this one.
-    Until(u8),
-    // Bytes that cannot be this capital letter, raised.
-    Unlike(u8),
-}
 
 // What a piece gives.
 enum Given {
     Hint(u8),
     Nothing,
-}
-
-fn is_blank(byte: u8) -> bool
-    ensures { λ r. ⌜ r ≡ isBlank byte ⌝ }
-{
-    // Most bytes are letters.
-    if byte > 32 {
-        return false;
-    }
-    if byte == 32 {
-        return true;
-    }
-    if byte < 9 {
-        return false;
-    }
-    byte <= 13
-}
-
-fn raised(byte: u8) -> u8
-    ensures { λ r. ⌜ r ≡ raise byte ⌝ }
-{
-    if byte < b'a' {
-        return byte;
-    }
-    if byte > b'z' {
-        return byte;
-    }
-    byte - 32
-}
-
-fn in_run(run: Run, byte: u8) -> bool
-    ensures { λ r. ⌜ r ≡ inRun run byte ⌝ }
-{
-    match run {
-        Run::Blanks => is_blank(byte),
-        Run::Word => !is_blank(byte),
-        Run::Until(end) => byte != end,
-        // A letter and its capital are 32 apart.
-        Run::Unlike(letter) => byte % 32 != letter % 32,
-    }
-}
-
-// How many bytes of the run `s` starts with.
-fn leading(s: &[u8], run: Run) -> usize
-    ensures { λ r. ⌜ r ≡ length (takeWhile (inRun run) (now (s .entry))) ⌝ }
-    ensures within { λ r. ⌜ r ≤ length (now (s .entry)) ⌝ }
-{
-    let mut i = 0;
-    while i < s.len() {
-        if !in_run(run, s[i]) {
-            return i;
-        }
-        i = i + 1;
-    }
-    i
-}
-
-// Whether 8 bytes are of the run, all of them tested: a test for all at once is cheap.
-fn all_in(s: &[u8], at: usize, run: Run) -> bool
-    requires { ⌜ at + 8 ≤ length (now s) ⌝ }
-    ensures { λ r. ⌜ AllIn (inRun run) (now (s .entry)) at 8 r ⌝ }
-{
-    let mut all = true;
-    let mut k = 0;
-    while k < 8 {
-        all = all & in_run(run, s[at + k]);
-        k = k + 1;
-    }
-    all
-}
-
-// How many bytes of the run `s` starts with, as far as they fill blocks of 8.
-fn whole_blocks(s: &[u8], run: Run) -> usize
-    ensures { λ r. ⌜ Leads (inRun run) (now (s .entry)) r ⌝ }
-{
-    let mut i = 0;
-    while s.len() - i >= 8 {
-        if !all_in(s, i, run) {
-            return i;
-        }
-        i = i + 8;
-    }
-    i
-}
-
-// As `leading`, for runs that are long.
-fn long_run(s: &[u8], run: Run) -> usize
-    ensures { λ r. ⌜ r ≡ length (takeWhile (inRun run) (now (s .entry))) ⌝ }
-    ensures within { λ r. ⌜ r ≤ length (now (s .entry)) ⌝ }
-{
-    let i = whole_blocks(s, run);
-    i + leading(&s[i..], run)
-}
-
-// Where `s` ends without the run at its end.
-fn kept(s: &[u8], run: Run) -> usize
-    ensures { λ r. ⌜ Kept (inRun run) (now (s .entry)) r ⌝ }
-{
-    let mut end = s.len();
-    while end > 0 {
-        if !in_run(run, s[end - 1]) {
-            return end;
-        }
-        end = end - 1;
-    }
-    end
-}
-
-fn dropped(s: &[u8], run: Run) -> &[u8]
-    ensures { λ r. ⌜ now r ≡ dropWhile (inRun run) (now (s .entry)) ⌝ }
-{
-    let n = leading(s, run);
-    &s[n..]
-}
-
-fn trimmed(s: &[u8]) -> &[u8]
-    ensures { λ r. ⌜ now r ≡ trim (now (s .entry)) ⌝ }
-{
-    let from = dropped(s, Run::Blanks);
-    let end = kept(from, Run::Blanks);
-    &from[..end]
-}
-
-fn behind_first(s: &[u8], byte: u8) -> &[u8]
-    ensures { λ r. ⌜ now r ≡ behindFirst byte (now (s .entry)) ⌝ }
-{
-    let from = dropped(s, Run::Until(byte));
-    if from.len() == 0 {
-        return from;
-    }
-    &from[1..]
-}
-
-fn first_word(s: &[u8]) -> &[u8]
-    ensures { λ r. ⌜ now r ≡ firstWord (now (s .entry)) ⌝ }
-{
-    let from = dropped(s, Run::Blanks);
-    let n = leading(from, Run::Word);
-    &from[..n]
-}
-
-fn second_word(s: &[u8]) -> &[u8]
-    ensures { λ r. ⌜ now r ≡ secondWord (now (s .entry)) ⌝ }
-{
-    first_word(dropped(dropped(s, Run::Blanks), Run::Word))
-}
-
-fn starts_with(s: &[u8], word: &[u8]) -> bool
-    ensures { λ r. ⌜ r ≡ startsWith (now (word .entry)) (now (s .entry)) ⌝ }
-{
-    if s.len() < word.len() {
-        return false;
-    }
-    let mut i = 0;
-    while i < word.len() {
-        if raised(s[i]) != word[i] {
-            return false;
-        }
-        i = i + 1;
-    }
-    true
-}
-
-// As `starts_with`, told mostly by the first letter: a letter and its capital are 32 apart.
-fn begins(s: &[u8], word: &[u8]) -> bool
-    requires { ⌜ 0 < length (now word) ⌝ }
-    ensures { λ r. ⌜ r ≡ startsWith (now (word .entry)) (now (s .entry)) ⌝ }
-{
-    if s.len() < word.len() {
-        return false;
-    }
-    if s[0] % 32 != word[0] % 32 {
-        return false;
-    }
-    starts_with(s, word)
-}
-
-fn is_word(s: &[u8], word: &[u8]) -> bool
-    requires { ⌜ 0 < length (now word) ⌝ }
-    ensures { λ r. ⌜ r ≡ equals (now (word .entry)) (now (s .entry)) ⌝ }
-{
-    if s.len() != word.len() {
-        return false;
-    }
-    begins(s, word)
-}
-
-fn holds_word(s: &[u8], word: &[u8]) -> bool
-    requires { ⌜ 0 < length (now word) ⌝ }
-    ensures { λ r. ⌜ r ≡ holds (now (word .entry)) (now (s .entry)) ⌝ }
-{
-    let mut i = 0;
-    while i < s.len() {
-        i = i + long_run(&s[i..], Run::Unlike(word[0]));
-        if starts_with(&s[i..], word) {
-            return true;
-        }
-        i = i + 1;
-    }
-    false
-}
-
-// Where the piece that starts at `at` ends: at a comma, or with the slice.
-fn piece_end(s: &[u8], at: usize) -> usize
-    requires { ⌜ at ≤ length (now s) ⌝ }
-    ensures { λ r. ⌜ PieceEnds (now (s .entry)) at r ⌝ }
-{
-    at + long_run(&s[at..], Run::Until(b','))
 }
 
 fn is_integer(word: &[u8]) -> bool

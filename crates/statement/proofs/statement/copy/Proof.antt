@@ -8,7 +8,7 @@ use borrow.Author.Needs.{needs}
 use lib.ListN.{length, drop, getD, length-set}
 use lib.Seq.{drop-length}
 use Rattle.statement.proofs.StatementLaws.{Written, written-none, written-more, written-full, written-all}
-use Rattle.statement.proofs.WordsLaws.{from-at}
+use Rattle.words.proofs.Laws.{from-at}
 use Rattle.statement.proofs.statement.copy.Statement.{statement}
 use Rattle.statement.proofs.statement.copy.Tie as tie
 

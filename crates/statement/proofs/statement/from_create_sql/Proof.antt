@@ -9,7 +9,7 @@ use borrow.Author.Needs.{needs}
 use lib.ListN.{length, take, replicate}
 use lib.Seq.{length-take-le}
 use Rattle.statement.specs.Statement.{allHints}
-use Rattle.statement.specs.Words.{pieces}
+use Rattle.words.specs.Words.{pieces}
 use Rattle.statement.proofs.StatementLaws.{taken, fits-most, too-large, no-list, lists-at, Counts, bad-count, full, done}
 use Rattle.sheet.specs.Limits.{mostColumns, anyHint, countFits}
 use Rattle.statement.proofs.statement.from_create_sql.Statement.{statement}

@@ -6,10 +6,11 @@ use native.Mathlib.Omega.{arith}
 use borrow.Author.Needs.{needs}
 use lib.ListN.{length}
 use Rattle.statement.specs.Statement.{allHints}
-use Rattle.statement.specs.Inner.{piecesFrom, givenHints}
-use Rattle.statement.specs.Words.{pieces}
+use Rattle.statement.specs.Inner.{givenHints}
+use Rattle.words.specs.Inner.{piecesFrom}
+use Rattle.words.specs.Words.{pieces}
 use Rattle.statement.proofs.StatementLaws.{hints-next, hints-none, Written, written-none, written-more, written-all}
-use Rattle.statement.proofs.WordsLaws.{pieces-start}
+use Rattle.words.proofs.Laws.{pieces-start}
 use Rattle.statement.proofs.statement.read_hints.Statement.{statement}
 use Rattle.statement.proofs.statement.read_hints.Tie as tie
 
@@ -51,7 +52,7 @@ loop-again : tie.Need-loop-again Inv-loop μ-loop
 loop-again c =
     let l = c .before .before .before .before .before .before .before .before .loop in
     let put = c .before .before .put in
-    let ends = c .before .before .before .before .before .before .piece-end .ensures in
+    let ends = c .before .before .before .before .before .before .piece-end .ensures .1 in
     let w = rw (hints-next ends, ← c .before .before .before .piece-hint .ensures) at (l .inv .2) in (
       put .kept .0 ∙ l .inv .0,
       omega (arith, put .ensures .1 .0),

@@ -1,0 +1,3 @@
+// For our own crates: what asks something of its caller.
+pub mod keywords;
+pub mod pieces;

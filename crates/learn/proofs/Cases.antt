@@ -6,10 +6,11 @@ use mathlib.Core.Bool.{true, false, or-true}
 use mathlib.Core.List.{List, [], _∷_, _++_, map}
 use borrow.Author.Tests.{lt-ltb}
 use lib.ListN.{length}
+use Rattle.groups.specs.Rows.{rowCount, rowsIn, rowsOf, columnsOf, longest, anyBad, gapped, badRows}
 use Rattle.record.specs.Entry.{badEntry, readEntry}
 use Rattle.record.specs.Value.{bodyLength, bigEndian, twosComplement, valueOf}
 use Rattle.sheet.specs.Limits.{largestRegion, countFits}
-use Rattle.learn.specs.Learn.{mostRows, rowCount, rowsIn, rowsOf, columnsOf, anyBad, gapped, badRows, given, givenAt, columnTypes, hintOf, hintsBelow, longest, hintsOf, learnNumber, learnWritten, learnChecks, learnTypes}
+use Rattle.learn.specs.Learn.{mostRows, given, givenAt, columnTypes, hintOf, hintsBelow, hintsOf, learnNumber, learnWritten, learnChecks, learnTypes}
 use Rattle.learn.specs.Types.{widthType, integerType, valueType, countIn, better, bestOf, commonestOf}
 
 -- the paper's number, how many hints are written, and what the list holds

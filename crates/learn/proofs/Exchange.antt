@@ -1,19 +1,18 @@
 -- The order of the rows does not matter: where two blocks of whole rows change places among the entries, the call answers and writes the same.
 -- Assumes nothing.
-use Prim.Native.Nat.{ℕ, zero, suc, _+_, _*_, _/_, _≤_, _<_, max}
+use Prim.Native.Nat.{ℕ, zero, suc, _+_, _<_, max}
 use mathlib.Core.Path.{_≡_, refl, sym, ap, _∙_}
-use mathlib.Core.Bool.{Bool, true, false, _||_}
+use mathlib.Core.Bool.{true, _||_, or-assoc, or-comm}
 use mathlib.Core.List.{List, [], _∷_, _++_, append-assoc}
-use native.Mathlib.Nat.{suc-mul, suc-add, zero-add, add-mul-div-right}
 use native.Mathlib.Omega.{arith}
-use lib.ListN.{length, drop, length-append, length-drop, List·getD-append}
-use lib.Seq.{drop-append-le}
+use lib.ListN.{length, length-append}
+use Rattle.groups.specs.Rows.{rowCount, rowsIn, rowsOf, longest, badRows}
+use Rattle.groups.proofs.Joining.{Rows, bad-append, longest-append, rows-of-append}
 use Rattle.record.proofs.Numbers.{by-test}
 use Rattle.record.specs.declared.entry.Entry.{Entry}
-use Rattle.sheet.specs.Limits.{wordsPerEntry, countFits}
-use Rattle.sheet.specs.Sheet.{entryIn, entriesIn}
+use Rattle.sheet.specs.Limits.{countFits}
 use Rattle.sheet.proofs.Laws.{count-fits}
-use Rattle.learn.specs.Learn.{rowCount, rowsIn, rowsOf, badRow, badRows, givenAt, columnTypes, hintOf, hintsBelow, longest, hintsOf, learnChecks, learnAnswer, learnTypes}
+use Rattle.learn.specs.Learn.{givenAt, columnTypes, hintOf, hintsBelow, hintsOf, learnChecks, learnAnswer, learnTypes}
 use Rattle.learn.specs.Types.{countIn}
 use Rattle.learn.proofs.Counting.{count-append, commonest-same}
 
@@ -33,26 +32,6 @@ module _ {A M : Type 0} (op : M → M → M) (assoc : (x y z : M) → op (op x y
       simp join (ap (λ m. op (f a) m) swap)
 
 -- ---- rows
-or-assoc : (x y z : Bool) → ((x || y) || z) ≡ (x || (y || z))
-or-assoc true y z = refl
-or-assoc false y z = refl
-
-or-swap : (x y : Bool) → (x || y) ≡ (y || x)
-or-swap true true = refl
-or-swap true false = refl
-or-swap false true = refl
-or-swap false false = refl
-
-bad-append : (s : List ℕ) (x y : List (List Entry)) → badRows s (x ++ y) ≡ (badRows s x || badRows s y)
-unfolding badRows
-bad-append s [] y = refl
-bad-append s (r ∷ x) y = rw (bad-append s x y) (sym (or-assoc (badRow s r) (badRows s x) (badRows s y)))
-
-longest-append : (x y : List (List Entry)) → longest (x ++ y) ≡ max (longest x) (longest y)
-unfolding longest
-longest-append [] y = omega arith
-longest-append (r ∷ x) y = omega (arith, longest-append x y)
-
 types-append : (s : List ℕ) (c : ℕ) (x y : List (List Entry)) → columnTypes s c (x ++ y) ≡ columnTypes s c x ++ columnTypes s c y
 unfolding columnTypes
 types-append s c [] y = refl
@@ -71,7 +50,7 @@ module _ (s : List ℕ) (a p b q c : List (List Entry)) where
   behind = a ++ (q ++ (b ++ (p ++ c)))
 
   bad-exchanged : badRows s before ≡ badRows s behind
-  bad-exchanged = exchange _||_ or-assoc or-swap (badRows s) (bad-append s) a p b q c
+  bad-exchanged = exchange _||_ or-assoc or-comm (badRows s) (bad-append s) a p b q c
 
   longest-exchanged : longest before ≡ longest behind
   longest-exchanged = exchange max (λ x y z. omega arith) (λ x y. omega arith) longest longest-append a p b q c
@@ -91,39 +70,6 @@ module _ (s : List ℕ) (a p b q c : List (List Entry)) where
   hints-exchanged = rw longest-exchanged (hints-same s before behind hint-exchanged (longest behind))
 
 -- ---- words
-entry-append : (a b : List ℕ) → wordsPerEntry ≤ length a → entryIn (a ++ b) ≡ entryIn a
-entry-append a b h =
-    rw (List·getD-append a b 0 0 (omega arith), List·getD-append a b 0 1 (omega arith), List·getD-append a b 0 2 (omega arith), List·getD-append a b 0 3 (omega arith))
-
-entries-append : (n : ℕ) (a b : List ℕ) → wordsPerEntry * n ≤ length a → entriesIn n (a ++ b) ≡ entriesIn n a
-entries-append zero a b h = refl
-entries-append (suc n) a b h =
-    rw (entry-append a b (omega arith), drop-append-le wordsPerEntry a b (omega arith))
-    (ap (λ es. entryIn a ∷ es) (entries-append n (drop wordsPerEntry a) b (omega (arith, length-drop wordsPerEntry a))))
-
-rows-append : (n m width : ℕ) (a b : List ℕ) → length a ≡ n * (wordsPerEntry * width) → rowsIn (n + m) width (a ++ b) ≡ rowsIn n width a ++ rowsIn m width b
-unfolding rowsIn
-rows-append zero m width [] b h = rw zero-add
-rows-append zero m width (x ∷ a) b h = absurd (omega arith)
-rows-append (suc n) m width a b h =
-    let group = wordsPerEntry * width in
-    let more : suc n * group ≡ n * group + group = suc-mul n group in
-    rw (suc-add, entries-append width a b (omega arith), drop-append-le group a b (omega arith))
-    (ap (λ rows. entriesIn width a ∷ rows) (rows-append n m width (drop group a) b (omega (arith, length-drop group a))))
-
--- a block of n whole rows; one row is a block, too
-abbrev pub Rows : ℕ → List ℕ → ℕ → Type 0
-Rows width words n = length words ≡ n * (wordsPerEntry * width)
-
-module _ (width : ℕ) (some : 0 < width) where
-  rows-of-append : (n : ℕ) (a b : List ℕ) → Rows width a n → rowsOf width (a ++ b) ≡ rowsIn n width a ++ rowsOf width b
-  unfolding rowsOf
-  rows-of-append n a b h =
-      let group = wordsPerEntry * width in
-      let count : length (a ++ b) / group ≡ n + length b / group =
-      rw (length-append a b, h) (ap (λ k. k / group) (omega arith) ∙ add-mul-div-right (length b) n (omega arith) ∙ omega arith) in
-      rw count (rows-append n (length b / group) width a b h)
-
 module _ (s : List ℕ) (width i k j l : ℕ) (a p b q c : List ℕ) (ra : Rows width a i) (rp : Rows width p k) (rb : Rows width b j) (rq : Rows width q l) where
   abbrev first : List ℕ
   first = a ++ (p ++ (b ++ (q ++ c)))

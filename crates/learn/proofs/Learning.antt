@@ -1,6 +1,6 @@
 -- Laws of the call: the hints as they are written, and the answer from what the code found.
 -- Assumes nothing.
-use Prim.Native.Nat.{ℕ, zero, suc, _+_, _≤_, _<_, max, min}
+use Prim.Native.Nat.{ℕ, zero, suc, _+_, _≤_, _<_, min}
 use mathlib.Core.Path.{_≡_, refl, sym, ap, _∙_}
 use mathlib.Core.Bool.{Bool, true, false, cond, or-true}
 use mathlib.Core.List.{List, [], _∷_, _++_}
@@ -12,6 +12,10 @@ use borrow.Author.Tests.{lt-ltb, le-ltb}
 use lib.Dec.{ltb}
 use lib.ListN.{length, take, set, length-append}
 use lib.Seq.{take-all, take-append-le}
+use Rattle.groups.specs.Judging.{judgedRows}
+use Rattle.groups.specs.Rows.{rowCount, rowsIn, rowsOf, longest, badRows}
+use Rattle.groups.specs.declared.inner.Judged.the-variants.{Columns, Bad}
+use Rattle.groups.proofs.Laws.{rows-of, longest-most, rows-good, rows-bad}
 use Rattle.record.proofs.Numbers.{by-order}
 use Rattle.record.specs.declared.entry.Entry.{Entry}
 use Rattle.sheet.specs.Filled.{filledNumber, filledWritten, filledBy, laid}
@@ -20,15 +24,11 @@ use Rattle.sheet.specs.Refusal.{firstHeld}
 use Rattle.sheet.specs.Sheet.{overlay}
 use Rattle.sheet.specs.declared.filled.Filled.{Filled}
 use Rattle.sheet.specs.declared.filled.Filled.the-variants.{Refused}
-use Rattle.sheet.specs.declared.refusal.Checked.{Checked}
 use Rattle.sheet.specs.declared.refusal.Checked.the-variants.{Passed, Refused as Stopped}
 use Rattle.sheet.specs.declared.refusal.Refusal.{Refusal}
 use Rattle.sheet.specs.declared.refusal.Refusal.the-variants.{ColumnCount, Malformed, TooLarge}
 use Rattle.sheet.proofs.Laws.{overlay-length, overlay-more, Numbers, filled-numbers}
-use Rattle.learn.specs.Inner.{judgedRows}
-use Rattle.learn.specs.Learn.{mostRows, rowCount, rowsIn, rowsOf, badRows, hintOf, hintsBelow, longest, hintsOf, tooLarge, learned, learnNumber, learnWritten, learnChecks, learnAnswer, learnTypes}
-use Rattle.learn.specs.declared.learn.Judged.the-variants.{Columns, Bad}
-use Rattle.learn.proofs.Rows.{longest-most}
+use Rattle.learn.specs.Learn.{mostRows, hintOf, hintsBelow, hintsOf, tooLarge, learned, learnNumber, learnWritten, learnChecks, learnAnswer, learnTypes}
 
 -- ---- hints, written one behind the other
 put-next : (ws old : List ℕ) (c x : ℕ) → length ws ≡ c → c < length old → set (overlay ws old) c x ≡ overlay (ws ++ (x ∷ [])) old
@@ -80,19 +80,13 @@ module _ {s : List ℕ} {rows : List (List Entry)} {columns : ℕ} {old : List �
   put-end h = let e : c ≡ columns = omega (arith, p .inside) in rw e at (p .list)
 
 -- ---- rows that were judged to be good
-module _ (s : List ℕ) (width : ℕ) (words : List ℕ) {columns : ℕ} (good : Columns columns ≡ judgedRows s (rowsIn (rowCount width words) width words) 0) where
+module _ (s : List ℕ) (width : ℕ) (words : List ℕ) {columns : ℕ} (good : Columns columns ≡ judgedRows s (rowsIn (rowCount width words) width words)) where
   judged : (badRows s (rowsOf width words) ≡ false) × (columns ≡ longest (rowsOf width words))
-  unfolding rowsOf
-  judged = go (badRows s (rowsIn (rowCount width words) width words)) good
-    where
-      go : (b : Bool) {k : ℕ} → Columns columns ≡ cond b Bad (Columns (max 0 k)) → (b ≡ false) × (columns ≡ k)
-      go true e = let z : _≡_ {A = ℕ} 0 1 = cc in absurd (omega arith)
-      go false {k} e = let z : columns ≡ max 0 k = cc in (refl, omega arith)
+  judged = rw (rows-of width words) (rows-good s (rowsIn (rowCount width words) width words) good)
 
   -- no row has more columns than the width
   pub columns-fit : columns ≤ width
-  unfolding rowsOf
-  columns-fit = omega (arith, judged .1, longest-most (rowCount width words) width words)
+  columns-fit = omega (arith, rows-good s (rowsIn (rowCount width words) width words) good .1, longest-most (rowCount width words) width words)
 
 -- ---- the answer
 -- THE LAW: its number is that of the first check that holds
@@ -122,15 +116,13 @@ module _ (s : List ℕ) (width : ℕ) (words old : List ℕ) where
 
   -- what judging the rows of a good width came to
   module _ (fits : countFits width ≡ true) where
-    pub bad-rows : Bad ≡ judgedRows s (rowsIn (rowCount width words) width words) 0 → Answers s width words old (Refused Malformed) old
-    unfolding learnChecks rowsOf
-    bad-rows h = refused-by (simp fits (go (badRows s (rowsIn (rowCount width words) width words)) _ _ h))
-      where
-        go : (b : Bool) (k : ℕ) (rest : Checked) → Bad ≡ cond b Bad (Columns k) → cond b (Stopped Malformed) rest ≡ Stopped Malformed
-        go true k rest e = refl
-        go false k rest e = let z : _≡_ {A = ℕ} 0 1 = cc in absurd (omega arith)
+    pub bad-rows : Bad ≡ judgedRows s (rowsIn (rowCount width words) width words) → Answers s width words old (Refused Malformed) old
+    unfolding learnChecks
+    bad-rows h =
+        let bad : badRows s (rowsOf width words) ≡ true = rw (rows-of width words) (rows-bad s (rowsIn (rowCount width words) width words) h) in
+        refused-by (simp (fits, bad))
 
-    module _ {columns : ℕ} (good : Columns columns ≡ judgedRows s (rowsIn (rowCount width words) width words) 0) where
+    module _ {columns : ℕ} (good : Columns columns ≡ judgedRows s (rowsIn (rowCount width words) width words)) where
       last-check : (b : Bool) → tooLarge s width words ≡ b → firstHeld (learnChecks s width words) ≡ cond b (Stopped TooLarge) Passed
       unfolding learnChecks
       last-check b h = simp (fits, judged s width words good .0, h)
@@ -146,10 +138,10 @@ module _ (s : List ℕ) (width : ℕ) (words old : List ℕ) where
           r ≡ filledBy columns (length old) →
           list ≡ laid (hintsBelow s columns (rowsIn (rowCount width words) width words)) old →
           Answers s width words old r list
-      unfolding learnAnswer learnTypes rowsOf hintsOf
+      unfolding learnAnswer learnTypes hintsOf
       all-good small few e l =
-          let rows = rowsIn (rowCount width words) width words in
+          let rows = rowsOf width words in
           let passed = last-check false (simp (le-ltb largestRegion (length s) small, le-ltb mostRows (rowCount width words) few)) in
           let long : columns ≡ longest rows = judged s width words good .1 in
           let size : length (hintsBelow s (longest rows) rows) ≡ columns = hints-length s rows (longest rows) ∙ sym long in
-          answers (rw (passed, size) e) (rw (passed, ← long) l)
+          answers (rw (passed, size) e) (rw (passed, ← long, rows-of width words) l)

@@ -1,8 +1,8 @@
 mod Cases
+mod Columns
 pub mod Counting
 pub mod Exchange
 mod Learning
 pub mod Promises
-mod Rows
 mod Tallying
 pub mod Unique

@@ -1,22 +1,22 @@
 -- What the hints are: each is the commonest type of its column, and no value counts as type 5.
 -- Assumes nothing.
-use Prim.Native.Nat.{ℕ, zero, suc, _+_, _<_}
+use Prim.Native.Nat.{ℕ, zero, suc, _<_}
 use mathlib.Core.Path.{_≡_, refl, _∙_}
-use mathlib.Core.Bool.{Bool, true, false, cond, not, _&&_, _||_}
+use mathlib.Core.Bool.{Bool, true, false, cond}
 use mathlib.Core.List.{List, [], _∷_}
 use native.Mathlib.Omega.{arith}
-use borrow.Author.Tests.{lt-ltb}
-use lib.Dec.{ltb}
 use lib.ListN.{length, getD, length-append, List·getD-append}
 use lib.Seq.{getD-at}
-use Rattle.record.proofs.Numbers.{by-order, by-test}
+use Rattle.groups.specs.Rows.{isUsed, columnsOf, longest, isRefused, badRow, badRows}
+use Rattle.groups.proofs.Laws.{columns-none, longest-none, longest-next, GoodEntry, good-entry, good-next}
+use Rattle.record.proofs.Numbers.{by-order}
 use Rattle.record.specs.Entry.{readEntry}
 use Rattle.record.specs.declared.entry.Entry.{Entry}
 use Rattle.record.specs.declared.entry.EntryRead.{EntryRead}
 use Rattle.record.specs.declared.entry.EntryRead.the-variants.{Of, Refused}
 use Rattle.record.specs.declared.record.Value.{Value}
 use Rattle.record.specs.declared.record.Value.the-variants.{Null, Int, Real, Text, Blob}
-use Rattle.learn.specs.Learn.{isRefused, isUsed, columnsOf, anyBad, gapped, badRow, badRows, typesOf, given, givenAt, columnTypes, hintOf, hintsBelow, longest, hintsOf}
+use Rattle.learn.specs.Learn.{typesOf, given, givenAt, columnTypes, hintOf, hintsBelow, hintsOf}
 use Rattle.learn.specs.Types.{isBit, within, widthType, integerType, valueType, IsCommonest, commonestOf}
 use Rattle.learn.proofs.Counting.{commonest-is}
 use Rattle.learn.proofs.Learning.{hints-length}
@@ -40,10 +40,6 @@ never-five (Text at n) e = omega arith
 never-five (Blob at n) e = omega arith
 
 -- ---- a column that some row has
-or-false : (x y : Bool) → (x || y) ≡ false → (x ≡ false) × (y ≡ false)
-or-false true y e = let z : _≡_ {A = ℕ} 0 1 = cc in absurd (omega arith)
-or-false false y e = (refl, e)
-
 module _ (s : List ℕ) where
   one-type : (e : Entry) → isUsed e ≡ true → isRefused (readEntry e s) ≡ false → length (given s e) ≡ 1
   unfolding given
@@ -55,36 +51,24 @@ module _ (s : List ℕ) where
 
   -- a good row gives one type to each of its columns
   pub gives-one : (es : List Entry) (c : ℕ) → badRow s es ≡ false → c < columnsOf es → length (givenAt s c es) ≡ 1
-  unfolding columnsOf anyBad gapped givenAt
-  gives-one [] c good h = absurd (omega arith)
-  gives-one (e ∷ es) c good h =
-      let (bad, gap) = or-false (isRefused (readEntry e s) || anyBad s es) _ good in
-      let (here, rest) = or-false (isRefused (readEntry e s)) (anyBad s es) bad in
-      let none = or-false (not (isUsed e) && ltb 0 (columnsOf es)) (gapped es) gap in
-      by-test (isUsed e)
-      (λ used. go c used here (λ d lt. gives-one es d (rw (rest, none .1)) lt) (rw used at h))
-      (λ unused.
-      let more = rw unused at h in
-      let some : ltb 0 (columnsOf es) ≡ true = lt-ltb 0 (columnsOf es) (omega arith) in
-      let never : true ≡ false = rw (unused, some) at (none .0) in
-      let z : _≡_ {A = ℕ} 0 1 = cc in
-      absurd (omega arith))
+  unfolding givenAt
+  gives-one [] c good h = absurd (omega (arith, columns-none))
+  gives-one (e ∷ es) c good h = let g = good-entry s e es c good h in at c g (λ d lt. gives-one es d (g .rest) lt)
     where
-      go : (c : ℕ) → isUsed e ≡ true → isRefused (readEntry e s) ≡ false → ((d : ℕ) → d < columnsOf es → length (givenAt s d es) ≡ 1) →
-          c < 1 + columnsOf es → length (givenAt s c (e ∷ es)) ≡ 1
-      go zero used here rest h = one-type e used here
-      go (suc c) used here rest h = rest c (omega arith)
+      at : (c : ℕ) → GoodEntry s e es c → ((d : ℕ) → d < columnsOf es → length (givenAt s d es) ≡ 1) → length (givenAt s c (e ∷ es)) ≡ 1
+      at zero g rest = one-type e (g .used) (g .reads)
+      at (suc c) g rest = rest c (omega (arith, g .behind))
 
   -- so a column of the longest row has a type
   some-types : (rows : List (List Entry)) (c : ℕ) → badRows s rows ≡ false → c < longest rows → 0 < length (columnTypes s c rows)
-  unfolding badRows longest columnTypes
-  some-types [] c good h = absurd (omega arith)
+  unfolding columnTypes
+  some-types [] c good h = absurd (omega (arith, longest-none))
   some-types (r ∷ rs) c good h =
-      let (here, rest) = or-false (badRow s r) (badRows s rs) good in
+      let (here, rest) = good-next s r rs good in
       let size = length-append (givenAt s c r) (columnTypes s c rs) in
       by-order c (columnsOf r)
       (λ has. omega (arith, gives-one r c here has))
-      (λ short. omega (arith, some-types rs c rest (omega arith)))
+      (λ short. omega (arith, some-types rs c rest (omega (arith, longest-next r rs))))
 
   -- THE LAW: in good rows the hint of a column is the commonest of its types
   pub hint-is : (rows : List (List Entry)) (c : ℕ) → badRows s rows ≡ false → c < longest rows → IsCommonest (hintOf s c rows) (columnTypes s c rows)

@@ -1,39 +1,15 @@
 -- What the code carries between its own functions; nothing that a caller has to believe.
 -- Assumes nothing.
-use Prim.Native.Nat.{ℕ, _+_, _*_, _≤_, _<_, max}
+use Prim.Native.Nat.{ℕ, _+_, _*_, _≤_, _<_}
 use mathlib.Core.Path.{_≡_}
-use mathlib.Core.Bool.{Bool, true, false, cond}
+use mathlib.Core.Bool.{Bool, true, false}
 use mathlib.Core.List.{List, [], _∷_, _++_}
-use lib.Dec.{eqb}
 use lib.ListN.{length, getD, take}
-use Rattle.record.specs.Entry.{readEntry}
 use Rattle.record.specs.declared.entry.Entry.{Entry}
 use Rattle.sheet.specs.Limits.{mostColumns, wordsPerEntry, largestRegion}
-use Rattle.learn.specs.Learn.{mostRows, isRefused, isUsed, columnsOf, badRow, badRows, given, longest}
+use Rattle.learn.specs.Learn.{mostRows, given}
 use Rattle.learn.specs.Types.{countIn}
-use Rattle.learn.specs.declared.learn.Judged.{Judged}
-use Rattle.learn.specs.declared.learn.Judged.the-variants.{Columns, Bad}
 use Rattle.learn.specs.declared.learn.Leader.{Leader}
-
--- the entry at index i, behind n used ones
-abbrev pub judgedEntry : List ℕ → Entry → ℕ → ℕ → Judged
-judgedEntry s e i n = cond (isRefused (readEntry e s)) Bad (cond (isUsed e) (cond (eqb n i) (Columns (i + 1)) Bad) (Columns n))
-
-abbrev pub judgedThen : Judged → (ℕ → Judged) → Judged
-judgedThen (Columns n) f = f n
-judgedThen Bad f = Bad
-
--- the entries from index i on, behind n used ones
-unfoldable pub judgedFrom : List ℕ → List Entry → ℕ → ℕ → Judged
-judgedFrom s [] i n = Columns n
-judgedFrom s (e ∷ es) i n = judgedThen (judgedEntry s e i n) (λ m. judgedFrom s es (i + 1) m)
-
--- a row, and rows behind some of which the longest has so many columns
-abbrev pub judgedRow : List ℕ → List Entry → Judged
-judgedRow s es = cond (badRow s es) Bad (Columns (columnsOf es))
-
-abbrev pub judgedRows : List ℕ → List (List Entry) → ℕ → Judged
-judgedRows s rows n = cond (badRows s rows) Bad (Columns (max n (longest rows)))
 
 -- a type with its count
 abbrev pub Counts : List ℕ → Leader → Type 0

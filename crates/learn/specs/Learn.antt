@@ -1,18 +1,18 @@
--- The rows to learn from, the hints that they give, and what the call answers and writes.
+-- The hints that rows give, and what the call answers and writes.
 -- Assumes nothing.
-use Prim.Native.Nat.{ℕ, zero, suc, _+_, _*_, _/_, max}
-use mathlib.Core.Bool.{Bool, true, false, cond, not, _&&_, _||_}
+use Prim.Native.Nat.{ℕ, zero, suc}
+use mathlib.Core.Bool.{Bool, cond, not, _||_}
 use mathlib.Core.List.{List, [], _∷_, _++_}
 use lib.Dec.{ltb}
-use lib.ListN.{length, drop}
-use Rattle.record.specs.Entry.{unusedState, readEntry}
+use lib.ListN.{length}
+use Rattle.groups.specs.Rows.{rowCount, rowsOf, isUsed, longest, badRows}
+use Rattle.record.specs.Entry.{readEntry}
 use Rattle.record.specs.declared.entry.Entry.{Entry}
 use Rattle.record.specs.declared.entry.EntryRead.{EntryRead}
 use Rattle.record.specs.declared.entry.EntryRead.the-variants.{Of, Refused as Bad}
 use Rattle.sheet.specs.Filled.{filledBy, numberAfter, writtenAfter, laid}
-use Rattle.sheet.specs.Limits.{wordsPerEntry, largestRegion, countFits}
+use Rattle.sheet.specs.Limits.{largestRegion, countFits}
 use Rattle.sheet.specs.Refusal.{Check, firstHeld, after, afterOrKept}
-use Rattle.sheet.specs.Sheet.{entriesIn}
 use Rattle.sheet.specs.declared.filled.Filled.{Filled}
 use Rattle.sheet.specs.declared.filled.Filled.the-variants.{Refused}
 use Rattle.sheet.specs.declared.refusal.Refusal.the-variants.{ColumnCount, Malformed, TooLarge}
@@ -21,50 +21,6 @@ use Rattle.learn.specs.Types.{valueType, commonestOf}
 -- the most rows to learn from
 abbrev pub mostRows : ℕ
 mostRows = 1024
-
--- ---- rows
-
--- n rows one behind the other, each a group of `width` entries
-unfoldable pub rowsIn : ℕ → ℕ → List ℕ → List (List Entry)
-rowsIn zero width words = []
-rowsIn (suc n) width words = entriesIn width words ∷ rowsIn n width (drop (wordsPerEntry * width) words)
-
--- Rule 13.1: how many whole groups there are; a rest is not read
-abbrev pub rowCount : ℕ → List ℕ → ℕ
-rowCount width words = length words / (wordsPerEntry * width)
-
-unfoldable pub rowsOf : ℕ → List ℕ → List (List Entry)
-rowsOf width words = rowsIn (rowCount width words) width words
-
--- the states 0, 1 and 2 are used
-abbrev pub isUsed : Entry → Bool
-isUsed e = ltb (e .state) unusedState
-
--- how many columns a row has: its used entries
-unfoldable pub columnsOf : List Entry → ℕ
-columnsOf [] = 0
-columnsOf (e ∷ es) = cond (isUsed e) 1 0 + columnsOf es
-
--- Rule 3.3: an entry of the row is bad, so reading it over the slice s is refused
-abbrev pub isRefused : EntryRead → Bool
-isRefused (Of v) = false
-isRefused Bad = true
-
-unfoldable pub anyBad : List ℕ → List Entry → Bool
-anyBad s [] = false
-anyBad s (e ∷ es) = isRefused (readEntry e s) || anyBad s es
-
--- Rule 13.1: a used entry stands behind an unused one
-unfoldable pub gapped : List Entry → Bool
-gapped [] = false
-gapped (e ∷ es) = (not (isUsed e) && ltb 0 (columnsOf es)) || gapped es
-
-abbrev pub badRow : List ℕ → List Entry → Bool
-badRow s es = anyBad s es || gapped es
-
-unfoldable pub badRows : List ℕ → List (List Entry) → Bool
-badRows s [] = false
-badRows s (r ∷ rs) = badRow s r || badRows s rs
 
 -- ---- hints
 
@@ -98,10 +54,6 @@ hintsBelow s zero rows = []
 hintsBelow s (suc n) rows = hintsBelow s n rows ++ (hintOf s n rows ∷ [])
 
 -- Rule 13.3: there are as many hints as the longest row has columns
-unfoldable pub longest : List (List Entry) → ℕ
-longest [] = 0
-longest (r ∷ rs) = max (columnsOf r) (longest rs)
-
 unfoldable pub hintsOf : List ℕ → List (List Entry) → List ℕ
 hintsOf s rows = hintsBelow s (longest rows) rows
 
@@ -131,8 +83,8 @@ learnChecks s width words =
     ∷ record { refusal = TooLarge; holds = tooLarge s width words }
     ∷ []
 
--- Rule 13.1: the number that the call answers with, and how many hints it says are written, by the slice, the width, the entries' words and how
--- many cells are lent
+-- Rule 13.1: the number that the call answers with, and how many hints it says are written, by the slice, the width, the entries' words
+-- and how many cells are lent
 unfoldable pub learnNumber : List ℕ → ℕ → List ℕ → ℕ → ℕ
 learnNumber s width words room = numberAfter (firstHeld (learnChecks s width words)) (length (learned s width words)) room
 

@@ -1,4 +1,7 @@
 // Hints learned from rows that were read: for each column the commonest type of its values.
+use groups::inner::Judged;
+use groups::inner::entry_at;
+use groups::inner::judge_rows;
 use record::entry::BODY;
 use record::entry::Entry;
 use record::entry::EntryRead;
@@ -12,28 +15,23 @@ use sheet::refusal::Refusal;
 ghost use mathlib.Core.Path.{_≡_};
 ghost use mathlib.Core.Bool.{cond};
 ghost use mathlib.Core.List.{[]};
-ghost use Prim.Native.Nat.{_+_, _*_, _≤_, _<_, max, min};
+ghost use Prim.Native.Nat.{_+_, _≤_, _<_, min};
 ghost use lib.Dec.{eqb};
 ghost use lib.IntN.{pos};
-ghost use lib.ListN.{length, getD, set, take, drop};
-ghost use Rattle.learn.specs.Inner.{counterCount, judgedEntry, judgedRow, judgedRows, Lent, OwnType, PutType, Counts, Tallied};
-ghost use Rattle.learn.specs.Learn.{mostRows, rowsIn, given, columnTypes, hintOf, hintsBelow, learnNumber, learnWritten, learnAnswer, learnTypes};
+ghost use lib.ListN.{length, getD, set, take};
+ghost use Rattle.groups.specs.Rows.{rowsIn};
+ghost use Rattle.learn.specs.Inner.{counterCount, Lent, OwnType, PutType, Counts, Tallied};
+ghost use Rattle.learn.specs.Learn.{mostRows, given, columnTypes, hintOf, hintsBelow};
+ghost use Rattle.learn.specs.Learn.{learnNumber, learnWritten, learnAnswer, learnTypes};
 ghost use Rattle.learn.specs.Types.{widthType, integerType, valueType, countIn, better, commonestOf};
 ghost use Rattle.record.specs.Value.{lengthOf};
 ghost use Rattle.sheet.specs.Filled.{filledNumber, filledWritten, filledBy, laid};
-ghost use Rattle.sheet.specs.Limits.{mostColumns, wordsPerEntry, largestRegion};
-ghost use Rattle.sheet.specs.Sheet.{overlay, entryIn, entriesIn};
+ghost use Rattle.sheet.specs.Limits.{largestRegion};
+ghost use Rattle.sheet.specs.Sheet.{overlay};
 
 pub const MOST_ROWS: usize = 1_024;
 // Types below it have a counter in a table. Larger ones, texts and blobs of 4 KiB, are rare.
 const COUNTERS: usize = 8_192;
-
-// What judging entries comes to.
-enum Judged {
-    // All are good, and so many columns are used.
-    Columns(usize),
-    Bad,
-}
 
 // A type, and how often it occurs.
 struct Leader {
@@ -81,81 +79,6 @@ fn value_type(value: Value) -> u64
         Value::Text { len, .. } => 13 + 2 * len as u64,
         Value::Blob { len, .. } => 12 + 2 * len as u64,
     }
-}
-
-fn entry_at(entries: &[u64], at: usize) -> Entry
-    requires { ⌜ at + wordsPerEntry ≤ length (now entries) ⌝ }
-    ensures { λ r. ⌜ r ≡ entryIn (drop at (now (entries .entry))) ⌝ }
-{
-    Entry {
-        state: entries[at],
-        kind: entries[at + 1],
-        start: entries[at + 2],
-        len: entries[at + 3],
-    }
-}
-
-// The entry at index i of a row, behind n used ones.
-fn judge_entry(e: Entry, bytes: &[u8], i: usize, n: usize) -> Judged
-    requires { ⌜ i < mostColumns ⌝ }
-    ensures { λ r. ⌜ r ≡ judgedEntry (now (bytes .entry)) e i n ⌝ }
-{
-    if e.is_bad(bytes) {
-        return Judged::Bad;
-    }
-    if e.state >= UNUSED {
-        return Judged::Columns(n);
-    }
-    // An unused entry stands before it.
-    if n != i {
-        return Judged::Bad;
-    }
-    Judged::Columns(i + 1)
-}
-
-fn judge_row(bytes: &[u8], entries: &[u64], from: usize, width: usize) -> Judged
-    requires { ⌜ width ≤ mostColumns ⌝ }
-    requires { ⌜ from + wordsPerEntry * width ≤ length (now entries) ⌝ }
-    ensures { λ r. ⌜ r ≡ judgedRow (now (bytes .entry)) (entriesIn width (drop from (now (entries .entry)))) ⌝ }
-{
-    let mut at = from;
-    let mut i = 0;
-    let mut n = 0;
-    while i < width {
-        let Judged::Columns(used) = judge_entry(entry_at(entries, at), bytes, i, n) else {
-            return Judged::Bad;
-        };
-        n = used;
-        at = at + WORDS_PER_ENTRY;
-        i = i + 1;
-    }
-    Judged::Columns(n)
-}
-
-fn larger(a: usize, b: usize) -> usize
-    ensures { λ r. ⌜ r ≡ max a b ⌝ }
-{
-    if a < b { b } else { a }
-}
-
-// The columns of the longest of so many rows.
-fn judge_rows(bytes: &[u8], entries: &[u64], width: usize, rows: usize) -> Judged
-    requires { ⌜ width ≤ mostColumns ⌝ }
-    requires { ⌜ rows * (wordsPerEntry * width) ≤ length (now entries) ⌝ }
-    ensures { λ r. ⌜ r ≡ judgedRows (now (bytes .entry)) (rowsIn rows width (now (entries .entry))) 0 ⌝ }
-{
-    let mut at = 0;
-    let mut left = rows;
-    let mut most = 0;
-    while left > 0 {
-        let Judged::Columns(n) = judge_row(bytes, entries, at, width) else {
-            return Judged::Bad;
-        };
-        most = larger(most, n);
-        at = at + WORDS_PER_ENTRY * width;
-        left = left - 1;
-    }
-    Judged::Columns(most)
 }
 
 // Whether it surely is a text or a blob: those count as the type that they have, and need not be decoded.
@@ -390,7 +313,9 @@ fn put_hints(
     requires { ⌜ columns ≤ length (now types) ⌝ }
     requires { ⌜ length (now kinds) ≡ mostRows ⌝ }
     requires { ⌜ Tallied (now table) [] ⌝ }
-    ensures { λ _. ⌜ now (types .exit) ≡ overlay (hintsBelow (now (bytes .entry)) columns (rowsIn rows width (now (entries .entry)))) (now (types .entry)) ⌝ }
+    ensures { λ _.
+        ⌜ now (types .exit) ≡ overlay (hintsBelow (now (bytes .entry)) columns (rowsIn rows width (now (entries .entry))))
+        (now (types .entry)) ⌝ }
 {
     let mut c = 0;
     while c < columns {
@@ -425,7 +350,9 @@ fn learn_columns(
     requires { ⌜ Lent (now bytes) (now entries) width rows ⌝ }
     requires { ⌜ columns ≤ width ⌝ }
     ensures { λ r. ⌜ r ≡ filledBy columns (length (now (types .entry))) ⌝ }
-    ensures list { λ _. ⌜ now (types .exit) ≡ laid (hintsBelow (now (bytes .entry)) columns (rowsIn rows width (now (entries .entry)))) (now (types .entry)) ⌝ }
+    ensures list { λ _.
+        ⌜ now (types .exit) ≡ laid (hintsBelow (now (bytes .entry)) columns (rowsIn rows width (now (entries .entry))))
+        (now (types .entry)) ⌝ }
 {
     let room = types.len();
     let mut kinds = [0; MOST_ROWS];
@@ -449,7 +376,8 @@ fn learn_columns(
 pub fn learn_signatures(bytes: &[u8], width: usize, entries: &[u64], types: &mut [u64]) -> Filled
     ensures answer { λ r. ⌜ r ≡ learnAnswer (now (bytes .entry)) width (now (entries .entry)) (length (now (types .entry))) ⌝ }
     ensures number { λ r. ⌜ filledNumber r ≡ learnNumber (now (bytes .entry)) width (now (entries .entry)) (length (now (types .entry))) ⌝ }
-    ensures written { λ r. ⌜ filledWritten r ≡ learnWritten (now (bytes .entry)) width (now (entries .entry)) (length (now (types .entry))) ⌝ }
+    ensures written { λ r.
+        ⌜ filledWritten r ≡ learnWritten (now (bytes .entry)) width (now (entries .entry)) (length (now (types .entry))) ⌝ }
     ensures list { λ _. ⌜ now (types .exit) ≡ learnTypes (now (bytes .entry)) width (now (entries .entry)) (now (types .entry)) ⌝ }
 {
     if !hint_count_fits(width) {

@@ -4,7 +4,7 @@ use mathlib.Core.Path.{_≡_, _∙_}
 use native.Mathlib.Omega.{arith}
 use borrow.Author.Needs.{needs}
 use lib.ListN.{length}
-use Rattle.learn.proofs.Rows.{Gathered, gathered-none, gathered-place, gathered-more, gathered-all}
+use Rattle.learn.proofs.Columns.{Gathered, gathered-none, gathered-place, gathered-more, gathered-all}
 use Rattle.learn.proofs.learn.gather.Statement.{statement}
 use Rattle.learn.proofs.learn.gather.Tie as tie
 

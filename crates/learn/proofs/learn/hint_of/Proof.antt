@@ -6,7 +6,7 @@ use native.Mathlib.Omega.{arith}
 use lib.Seq.{length-take-le}
 use Rattle.learn.specs.Learn.{hintOf}
 use Rattle.learn.specs.Types.{commonestOf}
-use Rattle.learn.proofs.Rows.{taken-most}
+use Rattle.learn.proofs.Columns.{taken-most}
 use Rattle.learn.proofs.learn.hint_of.Statement.{statement}
 use Rattle.learn.proofs.learn.hint_of.Tie as tie
 

@@ -3,7 +3,7 @@
 use borrow.Author.Needs.{needs}
 use mathlib.Core.Path.{sym, _∙_}
 use native.Mathlib.Omega.{arith}
-use Rattle.learn.proofs.Rows.{given-own}
+use Rattle.learn.proofs.Columns.{given-own}
 use Rattle.learn.proofs.learn.is_own_type.Statement.{statement}
 use Rattle.learn.proofs.learn.is_own_type.Tie as tie
 

@@ -5,7 +5,8 @@ use mathlib.Core.Path.{_≡_, refl}
 use native.Mathlib.Omega.{arith}
 use borrow.Author.Tests.{le-leb, lt-leb}
 use denote.Ref.{now}
-use Rattle.learn.specs.Learn.{rowsIn, hintsBelow}
+use Rattle.groups.specs.Rows.{rowsIn}
+use Rattle.learn.specs.Learn.{hintsBelow}
 use Rattle.learn.proofs.Learning.{hints-laid}
 use Rattle.sheet.specs.Filled.{laid}
 use Rattle.learn.proofs.learn.learn_columns.Statement.{statement}

@@ -7,11 +7,11 @@ use native.Mathlib.Nat.{div-mul-le-self}
 use native.Mathlib.Omega.{arith}
 use borrow.Author.Tests.{not-true, not-false}
 use denote.Ref.{now}
+use Rattle.groups.specs.Judging.{judgedRows}
+use Rattle.groups.specs.Rows.{rowCount, rowsIn}
+use Rattle.groups.specs.declared.inner.Judged.the-variants.{Columns}
 use Rattle.sheet.specs.Limits.{countFits}
 use Rattle.sheet.proofs.Laws.{count-fits}
-use Rattle.learn.specs.Inner.{judgedRows}
-use Rattle.learn.specs.Learn.{rowCount, rowsIn}
-use Rattle.learn.specs.declared.learn.Judged.the-variants.{Columns}
 use Rattle.learn.proofs.Learning.{bad-width, bad-rows, columns-fit, too-long, too-many, all-good}
 use Rattle.learn.proofs.learn.learn_signatures.Statement.{statement}
 use Rattle.learn.proofs.learn.learn_signatures.Tie as tie
@@ -24,7 +24,7 @@ fits c = sym (c .before .hint-count-fits .ensures) ∙ not-false _ (c .if1 .left
 good : (c : tie.After-known-told) →
     let a = c .before .before .before .before .before .before .before .before .before .args in
     let words = now (a .entries) in
-    Columns (c .before .columns .given .0 .0) ≡ judgedRows (now (a .bytes)) (rowsIn (rowCount (a .width) words) (a .width) words) 0
+    Columns (c .before .columns .given .0 .0) ≡ judgedRows (now (a .bytes)) (rowsIn (rowCount (a .width) words) (a .width) words)
 good c = sym (c .before .columns .given .1) ∙ c .before .before .before .judge-rows .ensures
 
 hint-count-fits-requires : tie.Need-hint-count-fits-requires

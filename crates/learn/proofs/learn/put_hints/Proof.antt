@@ -6,8 +6,8 @@ use mathlib.Core.List.{[]}
 use native.Mathlib.Omega.{arith}
 use borrow.Author.Needs.{needs}
 use lib.ListN.{length}
+use Rattle.groups.specs.Rows.{rowsIn}
 use Rattle.learn.specs.Inner.{Tallied}
-use Rattle.learn.specs.Learn.{rowsIn}
 use Rattle.learn.proofs.Learning.{PutTo, put-start, put-kept, put-more, put-end}
 use Rattle.learn.proofs.learn.put_hints.Statement.{statement}
 use Rattle.learn.proofs.learn.put_hints.Tie as tie

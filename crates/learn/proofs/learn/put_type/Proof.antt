@@ -7,7 +7,7 @@ use denote.Ref.{now}
 use Rattle.record.specs.Entry.{readEntry}
 use Rattle.record.specs.declared.entry.EntryRead.the-variants.{Of}
 use Rattle.record.proofs.Bodies.{entry-inside}
-use Rattle.learn.proofs.Rows.{given-unused, given-value, given-bad, put-none, put-one}
+use Rattle.learn.proofs.Columns.{given-unused, given-value, given-bad, put-none, put-one}
 use Rattle.learn.proofs.learn.put_type.Statement.{statement}
 use Rattle.learn.proofs.learn.put_type.Tie as tie
 

@@ -1,11 +1,11 @@
--- `learn::learn::judge_row` meets its contract. The loop's invariant: the entries before index i are judged, and n of them are used.
+-- `groups::inner::judge_row` meets its contract. The loop's invariant: the entries before index i are judged, and n of them are used.
 -- Assumes nothing.
 use Prim.Native.Nat.{_-_}
 use native.Mathlib.Omega.{arith}
 use borrow.Author.Needs.{needs}
-use Rattle.learn.proofs.Rows.{RowTo, row-start, row-step, row-refused, row-end}
-use Rattle.learn.proofs.learn.judge_row.Statement.{statement}
-use Rattle.learn.proofs.learn.judge_row.Tie as tie
+use Rattle.groups.proofs.Judging.{RowTo, row-start, row-step, row-refused, row-end}
+use Rattle.groups.proofs.inner.judge_row.Statement.{statement}
+use Rattle.groups.proofs.inner.judge_row.Tie as tie
 
 abbrev Inv-loop : tie.InvT-loop
 Inv-loop bytes entries from width at₀ i₀ n₀ at i n = RowTo bytes entries from width at i n

@@ -1,10 +1,10 @@
--- `learn::learn::judge_rows` meets its contract. The loop's invariant: the rows before `at` are judged, and the longest has so many columns.
+-- `groups::inner::judge_rows` meets its contract. The loop's invariant: the rows before `at` are judged, and the longest has so many columns.
 -- Assumes nothing.
 use native.Mathlib.Omega.{arith}
 use borrow.Author.Needs.{needs}
-use Rattle.learn.proofs.Rows.{RowsTo, rows-start, rows-place, rows-step, rows-refused, rows-ended}
-use Rattle.learn.proofs.learn.judge_rows.Statement.{statement}
-use Rattle.learn.proofs.learn.judge_rows.Tie as tie
+use Rattle.groups.proofs.Judging.{RowsTo, rows-start, rows-place, rows-step, rows-refused, rows-ended}
+use Rattle.groups.proofs.inner.judge_rows.Statement.{statement}
+use Rattle.groups.proofs.inner.judge_rows.Tie as tie
 
 abbrev Inv-loop : tie.InvT-loop
 Inv-loop bytes entries width rows at₀ left₀ most₀ at left most = RowsTo bytes entries width rows at left most

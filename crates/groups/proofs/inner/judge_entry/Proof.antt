@@ -1,4 +1,4 @@
--- `learn::learn::judge_entry` meets its contract.
+-- `groups::inner::judge_entry` meets its contract.
 -- Assumes nothing.
 use borrow.Author.Needs.{needs}
 use mathlib.Core.Path.{_≡_, sym, _∙_}
@@ -7,10 +7,10 @@ use native.Mathlib.Omega.{arith}
 use borrow.Author.Tests.{lt-ltb, le-ltb, eq-eqb, ne-eqb}
 use denote.Ref.{now}
 use Rattle.record.specs.Entry.{readEntry}
-use Rattle.learn.specs.Learn.{isRefused}
-use Rattle.learn.proofs.Rows.{refused-bad}
-use Rattle.learn.proofs.learn.judge_entry.Statement.{statement}
-use Rattle.learn.proofs.learn.judge_entry.Tie as tie
+use Rattle.groups.specs.Rows.{isRefused}
+use Rattle.groups.proofs.Laws.{refused-bad}
+use Rattle.groups.proofs.inner.judge_entry.Statement.{statement}
+use Rattle.groups.proofs.inner.judge_entry.Tie as tie
 
 -- reading is not refused
 good : (c : tie.Else1) → let a = c .before .before .before .args in isRefused (readEntry (a .e) (now (a .bytes))) ≡ false

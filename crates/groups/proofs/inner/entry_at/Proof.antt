@@ -1,10 +1,10 @@
--- `learn::learn::entry_at` meets its contract.
+-- `groups::inner::entry_at` meets its contract.
 -- Assumes nothing.
 use native.Mathlib.Nat.{add-zero}
 use borrow.Author.Needs.{needs}
 use lib.Seq.{getD-drop}
-use Rattle.learn.proofs.learn.entry_at.Statement.{statement}
-use Rattle.learn.proofs.learn.entry_at.Tie as tie
+use Rattle.groups.proofs.inner.entry_at.Statement.{statement}
+use Rattle.groups.proofs.inner.entry_at.Tie as tie
 
 mul-t3 : tie.Need-mul-t3
 mul-t3 c = search needs

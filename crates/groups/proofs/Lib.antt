@@ -1,0 +1,3 @@
+pub mod Joining
+mod Judging
+pub mod Laws

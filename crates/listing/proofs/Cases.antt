@@ -4,9 +4,10 @@ use Prim.Native.Nat.{ℕ, _+_}
 use mathlib.Core.Path.{_≡_, refl}
 use mathlib.Core.List.{List, [], _∷_, _++_, map}
 use lib.ListN.{replicate}
+use Rattle.digits.specs.Digits.{decimalFrom, decimal, hexDigit, hex8}
 use Rattle.listing.specs.Input.{countOf, hintsOf, regionOf, inputChecks}
 use Rattle.listing.specs.Part.{rowSpace, colSpace, partText, partAnswer, partsFrom, partsOf, rowsSum, readSum}
-use Rattle.listing.specs.Text.{decimalFrom, decimal, hexDigit, hex8, typeText, typesText, numbersText, lineText, rowsText, heading, totalsLine, refusalLine}
+use Rattle.listing.specs.Text.{typeText, typesText, numbersText, lineText, rowsText, heading, totalsLine, refusalLine}
 use lib.Ieee.{ofInt, div, round, toBits}
 use Rattle.record.specs.Places.{varintPlaces}
 use Rattle.record.specs.Value.{bodyLength, bigEndian}

@@ -1,77 +1,23 @@
-// Text into a lent buffer: callers show by proof that there is room. Each function answers the place behind what it wrote.
+// The lines of rows into a lent buffer: callers show by proof that there is room. Each function answers the place behind what it wrote.
+use digits::inner::HEX_DIGITS;
+use digits::inner::MOST_DIGITS;
+use digits::inner::put_bytes;
+use digits::inner::put_decimal;
+use digits::inner::put_field;
+use digits::inner::put_hex;
 use sheet::MOST_COLUMNS;
 use sheet::WORDS_PER_ENTRY;
 use sheet::WORDS_PER_ROW;
 ghost use mathlib.Core.Path.{_≡_};
 ghost use Prim.Native.Nat.{_+_, _*_, _≤_, _<_};
 ghost use lib.ListN.{length};
-ghost use Rattle.listing.specs.Inner.{Put, mostField, mostNumbers, mostLine};
-ghost use Rattle.listing.specs.Text.{mostDigits, hexDigits, decimal, field, hexDigit, hex8, typeText, typesText, numbersText, lineText, rowsText};
+ghost use Rattle.digits.specs.Inner.{Put, mostField};
+ghost use Rattle.listing.specs.Inner.{mostNumbers, mostLine};
+ghost use Rattle.listing.specs.Text.{typeText, typesText, numbersText, lineText, rowsText};
 ghost use Rattle.sheet.specs.Limits.{wordsPerRow, wordsPerEntry};
 
-// The digits of the largest word.
-const MOST_DIGITS: usize = 20;
-// The digits of a confidence.
-const HEX_DIGITS: usize = 8;
 // Offset, length and each type, with the byte that ends it; the confidence with its blank.
 pub const LONGEST_LINE: usize = (2 + MOST_COLUMNS) * (MOST_DIGITS + 1) + HEX_DIGITS + 2;
-
-pub fn put_bytes(out: &mut [u8], at: usize, bytes: &[u8]) -> usize
-    requires { ⌜ at + length (now bytes) ≤ length (now out) ⌝ }
-    ensures { λ r. ⌜ Put (now (out .entry)) at (now (bytes .entry)) (now (out .exit)) r ⌝ }
-{
-    let mut i = 0;
-    while i < bytes.len() {
-        out[at + i] = bytes[i];
-        i = i + 1;
-    }
-    at + i
-}
-
-pub fn put_decimal(out: &mut [u8], at: usize, n: u64) -> usize
-    requires { ⌜ at + mostDigits ≤ length (now out) ⌝ }
-    ensures { λ r. ⌜ Put (now (out .entry)) at (decimal n) (now (out .exit)) r ⌝ }
-    ensures near { λ r. ⌜ r ≤ at + mostDigits ⌝ }
-{
-    let mut digits = [0u8; MOST_DIGITS];
-    let k = io::decimal(n, &mut digits);
-    put_bytes(out, at, &digits[..k])
-}
-
-// A number, and the blank that ends its field.
-fn put_field(out: &mut [u8], at: usize, n: u64) -> usize
-    requires { ⌜ at + mostField ≤ length (now out) ⌝ }
-    ensures { λ r. ⌜ Put (now (out .entry)) at (field n) (now (out .exit)) r ⌝ }
-    ensures near { λ r. ⌜ r ≤ at + mostField ⌝ }
-{
-    let end = put_decimal(out, at, n);
-    put_bytes(out, end, b" ")
-}
-
-fn hex_digit(n: u64) -> u8
-    ensures { λ r. ⌜ r ≡ hexDigit n ⌝ }
-{
-    let d = (n % 16) as u8;
-    if d < 10 { 48 + d } else { 55 + d }
-}
-
-fn put_hex(out: &mut [u8], at: usize, n: u64) -> usize
-    requires { ⌜ at + hexDigits ≤ length (now out) ⌝ }
-    ensures { λ r. ⌜ Put (now (out .entry)) at (hex8 n) (now (out .exit)) r ⌝ }
-    ensures near { λ r. ⌜ r ≡ at + hexDigits ⌝ }
-{
-    let digits = [
-        hex_digit(n / 0x1000_0000),
-        hex_digit(n / 0x100_0000),
-        hex_digit(n / 0x10_0000),
-        hex_digit(n / 0x1_0000),
-        hex_digit(n / 0x1000),
-        hex_digit(n / 0x100),
-        hex_digit(n / 0x10),
-        hex_digit(n),
-    ];
-    put_bytes(out, at, &digits)
-}
 
 // The type of the column k: a comma parts it from the one before.
 fn put_type(out: &mut [u8], at: usize, k: usize, kind: u64) -> usize

@@ -61,11 +61,16 @@ pub fn list_part(
     out: &mut [u8; TEXT_BYTES],
 ) -> Part
     ensures answer { λ r. ⌜ r .found ≡ partAnswer (now (region .entry)) (now (hints .entry)) start ⌝ }
-    ensures length { λ r. ⌜ r .len ≡ length (partText (now (region .entry)) (now (hints .entry)) start (now (rows .entry)) (now (cols .entry))) ⌝ }
+    ensures length { λ r. ⌜ r .len
+        ≡ length (partText (now (region .entry)) (now (hints .entry)) start (now (rows .entry)) (now (cols .entry))) ⌝ }
     ensures within { λ r. ⌜ Counts (r .len) (now (out .exit)) ⌝ }
-    ensures text { λ _. ⌜ now (out .exit) ≡ sets (now (out .entry)) 0 (partText (now (region .entry)) (now (hints .entry)) start (now (rows .entry)) (now (cols .entry))) ⌝ }
-    ensures rows { λ _. ⌜ now (rows .exit) ≡ scanRows (now (region .entry)) (now (hints .entry)) 0 start (now (rows .entry)) (now (cols .entry)) ⌝ }
-    ensures cols { λ _. ⌜ now (cols .exit) ≡ scanCols (now (region .entry)) (now (hints .entry)) 0 start (now (rows .entry)) (now (cols .entry)) ⌝ }
+    ensures text { λ _. ⌜ now (out .exit)
+        ≡ sets (now (out .entry)) 0
+        (partText (now (region .entry)) (now (hints .entry)) start (now (rows .entry)) (now (cols .entry))) ⌝ }
+    ensures rows { λ _. ⌜ now (rows .exit)
+        ≡ scanRows (now (region .entry)) (now (hints .entry)) 0 start (now (rows .entry)) (now (cols .entry)) ⌝ }
+    ensures cols { λ _. ⌜ now (cols .exit)
+        ≡ scanCols (now (region .entry)) (now (hints .entry)) 0 start (now (rows .entry)) (now (cols .entry)) ⌝ }
 {
     let found = scan_region(region, hints, 0, start, rows, cols);
     let len = put_rows(out, rows, cols, hints.len(), found.written());

@@ -1,11 +1,11 @@
 // The lines that are not of a row: each is written to the front of a lent buffer, and the answer is its length.
-use crate::inner::put_bytes;
-use crate::inner::put_decimal;
 use crate::part::TEXT_BYTES;
 use crate::part::Totals;
+use digits::inner::put_bytes;
+use digits::inner::put_decimal;
 use sheet::refusal::Refusal;
 use sheet::refusal::number;
-ghost use Rattle.listing.specs.Inner.{Put};
+ghost use Rattle.digits.specs.Inner.{Put};
 ghost use Rattle.listing.specs.Text.{heading, totalsLine, refusalLine};
 ghost use Rattle.io.specs.Counts.{Counts};
 ghost use Rattle.sheet.specs.Refusal.{refusalNumber};

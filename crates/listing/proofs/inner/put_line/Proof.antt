@@ -1,7 +1,7 @@
 -- `listing::inner::put_line` meets its contract: numbers, types and line end stand one behind the other.
 -- Assumes nothing.
 use borrow.Author.Needs.{needs}
-use Rattle.listing.proofs.Texts.{put-more}
+use Rattle.digits.proofs.Laws.{put-more}
 use Rattle.listing.specs.Text.{lineText}
 use Rattle.listing.proofs.inner.put_line.Statement.{statement}
 use Rattle.listing.proofs.inner.put_line.Tie as tie

@@ -1,7 +1,7 @@
 -- `listing::inner::put_numbers` meets its contract: its fields stand one behind the other.
 -- Assumes nothing.
 use borrow.Author.Needs.{needs}
-use Rattle.listing.proofs.Texts.{put-more}
+use Rattle.digits.proofs.Laws.{put-more}
 use Rattle.listing.specs.Text.{numbersText}
 use Rattle.listing.proofs.inner.put_numbers.Statement.{statement}
 use Rattle.listing.proofs.inner.put_numbers.Tie as tie

@@ -6,9 +6,11 @@ use native.Mathlib.Omega.{arith}
 use denote.Ref.{now}
 use lib.ListN.{length}
 use borrow.Author.Needs.{needs}
-use Rattle.listing.proofs.Texts.{put-none, put-more, rows-none, rows-more, one-more, has-room}
+use Rattle.digits.proofs.Laws.{put-none, put-more}
+use Rattle.listing.proofs.Texts.{rows-none, rows-more, one-more, has-room}
 use Rattle.sheet.specs.Limits.{wordsPerEntry}
-use Rattle.listing.specs.Inner.{Put, mostLine}
+use Rattle.digits.specs.Inner.{Put}
+use Rattle.listing.specs.Inner.{mostLine}
 use Rattle.listing.specs.Text.{lineText, rowsText}
 use Rattle.listing.proofs.inner.put_rows.Statement.{statement}
 use Rattle.listing.proofs.inner.put_rows.Tie as tie

@@ -3,7 +3,8 @@
 use mathlib.Core.Path.{_≡_}
 use native.Mathlib.Omega.{arith}
 use borrow.Author.Needs.{needs}
-use Rattle.listing.proofs.Texts.{put-more, type-first, type-next}
+use Rattle.digits.proofs.Laws.{put-more}
+use Rattle.listing.proofs.Texts.{type-first, type-next}
 use Rattle.listing.proofs.inner.put_type.Statement.{statement}
 use Rattle.listing.proofs.inner.put_type.Tie as tie
 

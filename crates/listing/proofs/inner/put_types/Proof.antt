@@ -5,9 +5,10 @@ use mathlib.Core.Path.{_≡_, refl, _∙_}
 use native.Mathlib.Omega.{arith}
 use lib.ListN.{length}
 use borrow.Author.Needs.{needs}
-use Rattle.listing.specs.Inner.{Put, mostField}
+use Rattle.digits.specs.Inner.{Put, mostField}
 use Rattle.listing.specs.Text.{typesText}
-use Rattle.listing.proofs.Texts.{put-none, put-more, types-none, types-more}
+use Rattle.digits.proofs.Laws.{put-none, put-more}
+use Rattle.listing.proofs.Texts.{types-none, types-more}
 use Rattle.listing.proofs.inner.put_types.Statement.{statement}
 use Rattle.listing.proofs.inner.put_types.Tie as tie
 

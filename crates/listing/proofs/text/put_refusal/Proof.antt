@@ -2,7 +2,7 @@
 -- Assumes nothing.
 use borrow.Author.Needs.{needs}
 use Rattle.io.proofs.Counting.{counts}
-use Rattle.listing.proofs.Texts.{put-more}
+use Rattle.digits.proofs.Laws.{put-more}
 use Rattle.listing.specs.Text.{refusalLine}
 use Rattle.listing.proofs.text.put_refusal.Statement.{statement}
 use Rattle.listing.proofs.text.put_refusal.Tie as tie

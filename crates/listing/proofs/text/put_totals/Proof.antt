@@ -2,7 +2,7 @@
 -- Assumes nothing.
 use borrow.Author.Needs.{needs}
 use Rattle.io.proofs.Counting.{counts}
-use Rattle.listing.proofs.Texts.{put-more}
+use Rattle.digits.proofs.Laws.{put-more}
 use Rattle.listing.specs.Text.{totalsLine}
 use Rattle.listing.proofs.text.put_totals.Statement.{statement}
 use Rattle.listing.proofs.text.put_totals.Tie as tie

@@ -1,16 +1,15 @@
--- `listing::inner::put_bytes` meets its contract. The loop's invariant: the bytes from i on, written to what the buffer has become, give what all of them give.
+-- `digits::inner::put_bytes` meets its contract. The loop's invariant: the bytes from i on, written to what the buffer has become, give what all of them give.
 -- Assumes nothing.
-use Prim.Native.Nat.{ℕ, _+_, _-_, _≤_, _<_}
+use Prim.Native.Nat.{_+_, _-_, _≤_}
 use mathlib.Core.Path.{_≡_, refl, _∙_}
-use mathlib.Core.List.{List}
-use native.Mathlib.Nat.{add-zero, add-suc}
-use native.Mathlib.Numerals.{add-one}
+use native.Mathlib.Nat.{add-zero}
 use native.Mathlib.Omega.{arith}
-use lib.ListN.{length, drop, getD, set, length-set}
-use lib.Seq.{sets, drop-cons, drop-length}
+use lib.ListN.{length, drop, length-set}
+use lib.Seq.{sets, drop-length}
 use borrow.Author.Needs.{needs}
-use Rattle.listing.proofs.inner.put_bytes.Statement.{statement}
-use Rattle.listing.proofs.inner.put_bytes.Tie as tie
+use Rattle.sheet.proofs.Laws.{sets-next}
+use Rattle.digits.proofs.inner.put_bytes.Statement.{statement}
+use Rattle.digits.proofs.inner.put_bytes.Tie as tie
 
 abbrev Inv-loop : tie.InvT-loop
 Inv-loop out₀ at bytes i₀ out i =
@@ -18,11 +17,6 @@ Inv-loop out₀ at bytes i₀ out i =
 
 abbrev μ-loop : tie.MeasureT-loop
 μ-loop out₀ at bytes i₀ out i = length bytes - i
-
--- one byte, and then those behind it
-one-more : (out : List ℕ) (at : ℕ) (bytes : List ℕ) (i : ℕ) → i < length bytes →
-    sets (set out (at + i) (getD bytes i 0)) (at + (i + 1)) (drop (i + 1) bytes) ≡ sets out (at + i) (drop i bytes)
-one-more out at bytes i h = rw (add-one, add-suc, drop-cons bytes i 0)
 
 loop-holds : tie.Need-loop-holds Inv-loop μ-loop
 loop-holds c = (search needs, refl, rw add-zero)
@@ -45,7 +39,7 @@ loop-less c = search needs
 loop-again : tie.Need-loop-again Inv-loop μ-loop
 loop-again c =
     let l = c .before .before .loop in
-    (omega arith, simp length-set (l .inv .1), one-more _ _ _ _ (c .before .loop-test .taken) ∙ l .inv .2)
+    (omega arith, simp length-set (l .inv .1), sets-next _ _ _ _ (c .before .loop-test .taken) ∙ l .inv .2)
 
 add-result : tie.Need-add-result Inv-loop μ-loop
 add-result c = search needs

@@ -1,9 +1,9 @@
--- `listing::inner::put_hex` meets its contract.
+-- `digits::inner::put_hex` meets its contract.
 -- Assumes nothing.
 use borrow.Author.Needs.{needs}
-use Rattle.listing.specs.Text.{hex8}
-use Rattle.listing.proofs.inner.put_hex.Statement.{statement}
-use Rattle.listing.proofs.inner.put_hex.Tie as tie
+use Rattle.digits.specs.Digits.{hex8}
+use Rattle.digits.proofs.inner.put_hex.Statement.{statement}
+use Rattle.digits.proofs.inner.put_hex.Tie as tie
 
 hex-digit-requires : tie.Need-hex-digit-requires
 hex-digit-requires c κs = search needs

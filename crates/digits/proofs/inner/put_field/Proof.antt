@@ -1,9 +1,9 @@
--- `listing::inner::put_field` meets its contract.
+-- `digits::inner::put_field` meets its contract.
 -- Assumes nothing.
 use borrow.Author.Needs.{needs}
-use Rattle.listing.proofs.Texts.{put-more}
-use Rattle.listing.proofs.inner.put_field.Statement.{statement}
-use Rattle.listing.proofs.inner.put_field.Tie as tie
+use Rattle.digits.proofs.Laws.{put-more}
+use Rattle.digits.proofs.inner.put_field.Statement.{statement}
+use Rattle.digits.proofs.inner.put_field.Tie as tie
 
 put-decimal-requires : tie.Need-put-decimal-requires
 put-decimal-requires c κs = search needs

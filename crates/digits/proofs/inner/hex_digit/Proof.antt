@@ -1,10 +1,10 @@
--- `listing::inner::hex_digit` meets its contract.
+-- `digits::inner::hex_digit` meets its contract.
 -- Assumes nothing.
 use borrow.Author.Needs.{needs}
 use borrow.Author.Tests.{lt-ltb, le-ltb}
-use Rattle.listing.specs.Text.{hexDigit}
-use Rattle.listing.proofs.inner.hex_digit.Statement.{statement}
-use Rattle.listing.proofs.inner.hex_digit.Tie as tie
+use Rattle.digits.specs.Digits.{hexDigit}
+use Rattle.digits.proofs.inner.hex_digit.Statement.{statement}
+use Rattle.digits.proofs.inner.hex_digit.Tie as tie
 
 cast-d : tie.Need-cast-d
 cast-d c = search needs

@@ -7,14 +7,13 @@ use lib.Ieee.{ofBits, ofInt, div, mul, round, toBits}
 use lib.ListN.{length, replicate}
 use Rattle.attempt.specs.Attempt.{headerFits, typesFrom, bodiesFrom, judged, attemptAt}
 use Rattle.attempt.specs.Hints.{isInteger, isReal, isText, isBlob, suits}
-use Rattle.carving.specs.Calls.{hitsBy, leafHits, sliceAnswer, sliceRows, sliceCols, numberedAnswer, numberedRows, numberedCols, tabledAnswer, tabledRows, tabledCols}
+use Rattle.carving.specs.Calls.{hitsBy, leafHits, sliceAnswer, sliceRows, sliceCols, numberedAnswer, numberedRows, numberedCols}
 use Rattle.carving.specs.declared.inner.Carving.{Carving}
 use Rattle.carving.specs.declared.inner.Carving.the-variants.{Freeblocks, Gaps, Payload}
 use Rattle.freeblock.proofs.Cases.{page, row, pair}
 use Rattle.freeblock.specs.Freeblock.{chainEnds, blocksFrom, freeblocks, firstFrom, firstStart, blockHits, pageHits}
 use Rattle.gap.specs.Gap.{hasGap, gapHits, chainFrom, chain, chainEnds as gapChainEnds, pageHits as gapPageHits}
 use Rattle.page.specs.Page.{sizeFits, hasPage}
-use Rattle.rebuild.specs.declared.rebuilding.Rebuilding.{Rebuilding}
 use Rattle.rebuild.specs.declared.rebuilding.Rebuilding.the-variants.{OneByte, Exact}
 use Rattle.record.specs.Value.{bodyLength, bigEndian}
 use Rattle.record.specs.Varint.{varintFrom, varintAt}
@@ -23,21 +22,18 @@ use Rattle.sheet.specs.Confidence.{share, freedShare}
 use Rattle.sheet.specs.Filled.{filledNumber, filledWritten}
 use Rattle.sheet.specs.Limits.{countFits, hintsKnown}
 use Rattle.sheet.specs.Row.{rowWords}
-use Rattle.walk.specs.Carve.{tablesHits, tablesOverflow, carvedAnswer, carvedRows, carvedCols}
-use Rattle.walk.specs.Collect.{walkedNumber, walkedWritten}
-use Rattle.walk.specs.Walk.{childIn, cellsFrom, kids, pushAll, pageDone, fresh, marked, popped, walkFrom, walk}
 
-record Outcome : Type 0 where
-  number : ℕ
-  written : ℕ
-  rows : List ℕ
-  cols : List ℕ
+pub record Outcome : Type 0 where
+  pub number : ℕ
+  pub written : ℕ
+  pub rows : List ℕ
+  pub cols : List ℕ
 
-out : ℕ → ℕ → List ℕ → List ℕ → Outcome
+unfoldable pub out : ℕ → ℕ → List ℕ → List ℕ → Outcome
 out n k r c = record { number = n; written = k; rows = r; cols = c }
 
 -- so many words, as they were
-kept : ℕ → List ℕ
+unfoldable pub kept : ℕ → List ℕ
 kept words = replicate words 7
 
 -- ---- a slice, with the offset 100 of its first byte: hints, the header's place and the length of both lists
@@ -75,7 +71,7 @@ unfolding cases computed expected kept out page row pair sliceAnswer sliceRows s
 table = refl
 
 -- ---- a database whose second page this is
-db : List ℕ
+unfoldable pub db : List ℕ
 db = replicate 512 0 ++ page ++ replicate 475 0
 
 -- its first page, which is all zeros, by its number
@@ -92,36 +88,3 @@ too-wide = refl
 wide-enough : first (Gaps Exact) 127 ≡ out 0 0 (kept 8) (kept 8)
 unfolding first out kept db page numberedAnswer numberedRows numberedCols leafHits hitsBy gapPageHits gapHits hasGap chain chainFrom gapChainEnds bigEndian sizeFits hasPage roomOf countFits hintsKnown
 wide-enough = refl
-
--- tables; a group is as wide as the widest
-tables : Carving → List ℕ → List ℕ → List ℕ → ℕ → ℕ → ℕ → Outcome
-tables how roots counts hints flags depth words =
-    let answer = tabledAnswer how db 512 roots counts hints flags depth words words in
-    out (walkedNumber answer) (walkedWritten answer) (tabledRows how db 512 roots counts hints flags depth (kept words) (kept words)) (tabledCols how db 512 roots counts hints flags depth (kept words) (kept words))
-
-none : List ℕ
-none = 3 ∷ 0 ∷ 0 ∷ 0 ∷ []
-
--- page 0, and the second page
-two : ℕ → ℕ → ℕ → Outcome
-two flags depth words = tables Freeblocks (0 ∷ 2 ∷ []) (3 ∷ 2 ∷ []) (0 ∷ 0 ∷ 0 ∷ 0 ∷ 2 ∷ []) flags depth words
-
-both : two 2 1 24 ≡ out 0 2 (row 525 4 ++ row 540 4 ++ kept 8) (pair 525 ++ none ++ pair 540 ++ none)
-unfolding two tables out kept db none page row pair tabledAnswer tabledRows tabledCols carvedAnswer carvedRows carvedCols tablesHits tablesOverflow walk walkFrom popped marked fresh pageDone pushAll kids cellsFrom childIn sizeFits hasPage leafHits hitsBy pageHits freeblocks blocksFrom chainEnds blockHits firstStart firstFrom attemptAt judged bodiesFrom typesFrom headerFits suits isInteger isReal isText isBlob varintAt varintFrom bodyLength bigEndian columnWords unusedWords roomOf share freedShare countFits hintsKnown rowWords ofBits ofInt div mul round toBits
-both = refl
-
-few-flags : two 1 1 24 ≡ out 8 0 (kept 24) (kept 24)
-unfolding two tables out kept db page tabledAnswer tabledRows tabledCols carvedAnswer carvedRows carvedCols sizeFits countFits hintsKnown
-few-flags = refl
-
--- page 0, and the first page: one table of the two is wide
-mixed : Rebuilding → Outcome
-mixed how = tables (Gaps how) (0 ∷ 1 ∷ []) (3 ∷ 127 ∷ []) (replicate 130 0) 2 1 8
-
-one-too-wide : mixed OneByte ≡ out 1 0 (kept 8) (kept 8)
-unfolding mixed tables out kept db page tabledAnswer tabledRows tabledCols carvedAnswer carvedRows carvedCols
-one-too-wide = refl
-
-none-too-wide : mixed Exact ≡ out 0 0 (kept 8) (kept 8)
-unfolding mixed tables out kept db page tabledAnswer tabledRows tabledCols carvedAnswer carvedRows carvedCols tablesHits tablesOverflow walk walkFrom popped marked fresh pageDone pushAll kids cellsFrom childIn sizeFits hasPage bigEndian roomOf countFits hintsKnown
-none-too-wide = refl

@@ -2,11 +2,10 @@
 -- Assumes nothing.
 use Prim.Native.Nat.{ℕ, zero, suc, _+_, _-_, _*_, _≤_, min}
 use mathlib.Core.Path.{_≡_, refl, sym, ap, _∙_}
-use mathlib.Core.Bool.{Bool, true, false, cond}
 use mathlib.Core.List.{List, [], _∷_, _++_, map, append-assoc, map-append}
 use native.Mathlib.Nat.{zero-add, zero-mul, suc-add, suc-mul}
 use native.Mathlib.Omega.{arith}
-use lib.Dec.{ltb, lit≤}
+use lib.Dec.{lit≤}
 use lib.ListN.{length, take, drop, replicate, length-append, length-take}
 use Rattle.attempt.proofs.ReadBack.{Reads}
 use Rattle.carving.specs.Values.{groupsValues}
@@ -26,7 +25,6 @@ use Rattle.sheet.specs.declared.columns.Column.{Column}
 use Rattle.sheet.specs.declared.refusal.Checked.{Checked}
 use Rattle.sheet.specs.declared.refusal.Checked.the-variants.{Passed, Refused as Held}
 use Rattle.sheet.specs.Hits.{Hit, groupsWords}
-use Rattle.walk.specs.Collect.{ifFlagged}
 
 -- ---- columns that read as values are as many
 map-length : {A B : Type 0} (f : A → B) (xs : List A) → length (map f xs) ≡ length xs
@@ -116,17 +114,3 @@ module _ (s : List ℕ) where
   written-read width room hs vss cols Passed f =
       rw (sym (length-take room hs)) (groups-read width (take room hs) (take room vss) (drop (length (groupsWords width (take room hs))) cols) (fit-taken room width hs vss (f refl)))
   written-read width room hs vss cols (Held k) f = rw (zero-mul width) (record { reads = refl; within = tt })
-
-  -- THE LAW: and where there must be flags for so many pages, or nothing is written
-  pub flagged-read : (width room pages flags : ℕ) (hs : List Hit) (vss : List (List Value)) (cols : List ℕ) (c : Checked) → (c ≡ Passed → AllFit width hs vss)
-      → ReadBack s (afterOr0 c (ifFlagged pages flags (min room (length hs)) 0) * width)
-      (afterOrKept c (overlay (groupsWords width (ifFlagged pages flags (take room hs) [])) cols) cols)
-      (afterOrKept c (groupsValues width (ifFlagged pages flags (take room vss) [])) [])
-  flagged-read width room pages flags hs vss cols c f = go (ltb flags pages)
-    where
-      go : (few : Bool)
-          → ReadBack s (afterOr0 c (cond few 0 (min room (length hs))) * width)
-          (afterOrKept c (overlay (groupsWords width (cond few [] (take room hs))) cols) cols)
-          (afterOrKept c (groupsValues width (cond few [] (take room vss))) [])
-      go true = written-read width 0 [] [] cols c (λ e. tt)
-      go false = written-read width room hs vss cols c f

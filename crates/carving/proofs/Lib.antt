@@ -1,6 +1,5 @@
-mod Callers
-mod Cases
-mod Entries
+pub mod Callers
+pub mod Cases
+pub mod Entries
 pub mod ReadBack
-pub mod TablesRead
 pub mod Unique

@@ -6,19 +6,15 @@ use mathlib.Core.Path.{_≡_, sym, _∙_}
 use mathlib.Core.List.{List}
 use denote.Ref.{now}
 use Rattle.carving.specs.declared.inner.Carving.the-variants.{Freeblocks, Gaps, Payload}
-use Rattle.carving.proofs.freeblocks.recover_freeblocks.Reads as recover-freeblocks
 use Rattle.carving.proofs.freeblocks.recover_page_freeblocks.Reads as recover-page-freeblocks
 use Rattle.carving.proofs.freeblocks.recover_slice_freeblocks.Reads as recover-slice-freeblocks
 use Rattle.carving.proofs.gaps.parse_cells_from_freeblock.Reads as parse-cells-from-freeblock
 use Rattle.carving.proofs.gaps.scan_page_gap.Reads as scan-page-gap
-use Rattle.carving.proofs.gaps.scan_page_gaps.Reads as scan-page-gaps
 use Rattle.carving.proofs.gaps.scan_single_page_gap.Reads as scan-single-page-gap
 use Rattle.carving.proofs.single.carve_numbered.Reads as carve-numbered
 use Rattle.carving.proofs.single.carve_slice.Reads as carve-slice
-use Rattle.carving.proofs.tables.carve_tables.Reads as carve-tables
 use Rattle.record.proofs.Unique.{FixesSeen}
 use Rattle.sheet.specs.declared.filled.Filled.{Filled}
-use Rattle.walk.specs.declared.walk.Walked.{Walked}
 
 -- ---- one page: the answer, the rows and the column entries at exit
 pub record OnPage : Type 0 where
@@ -38,26 +34,6 @@ carve-slice-fixed k a x y s t p q = same-page _ _ (p .0 ∙ sym (q .0)) (p .1 .0
 pub carve-numbered-fixed : FixesSeen carve-numbered.Post (λ k r s. onPage r (now (s .1 .1 .1 .1 .1 .0)) (now (s .1 .1 .1 .1 .1 .1 .0)))
 carve-numbered-fixed k a x y s t p q = same-page _ _ (p .0 ∙ sym (q .0)) (p .1 .0 ∙ sym (q .1 .0)) (p .1 .1 .0 ∙ sym (q .1 .1 .0))
 
--- ---- tables: the flags and the stack, too
-pub record OnTables : Type 0 where
-  pub answer : Walked
-  pub flags : List ℕ
-  pub stack : List ℕ
-  pub rows : List ℕ
-  pub cols : List ℕ
-
-abbrev pub onTables : Walked → List ℕ → List ℕ → List ℕ → List ℕ → OnTables
-onTables r flags stack rows cols = record { answer = r; flags = flags; stack = stack; rows = rows; cols = cols }
-
-same-tables : (x y : OnTables) → x .answer ≡ y .answer → x .rows ≡ y .rows → x .cols ≡ y .cols → x .flags ≡ y .flags → x .stack ≡ y .stack → x ≡ y
-same-tables x y e f g h i = rw (e, f, g, h, i)
-
-pub carve-tables-fixed : FixesSeen carve-tables.Post
-    (λ k r s. onTables r (now (s .1 .1 .1 .1 .1 .1 .0)) (now (s .1 .1 .1 .1 .1 .1 .1 .0)) (now (s .1 .1 .1 .1 .1 .1 .1 .1 .0)) (now (s .1 .1 .1 .1 .1 .1 .1 .1 .1 .0)))
-carve-tables-fixed k a x y s t p q =
-    same-tables _ _ (p .0 ∙ sym (q .0)) (p .1 .0 ∙ sym (q .1 .0)) (p .1 .1 .0 ∙ sym (q .1 .1 .0)) (p .1 .1 .1 .0 ∙ sym (q .1 .1 .1 .0))
-    (p .1 .1 .1 .1 .0 ∙ sym (q .1 .1 .1 .1 .0))
-
 -- ---- the public calls
 pub recover-slice-freeblocks-fixed : FixesSeen recover-slice-freeblocks.Post (λ k r s. onPage r (now (s .1 .1 .1 .1 .0)) (now (s .1 .1 .1 .1 .1 .0)))
 recover-slice-freeblocks-fixed k a x y s t p q = carve-slice-fixed k (Freeblocks, a) x y (Freeblocks, s) (Freeblocks, t) p q
@@ -65,19 +41,11 @@ recover-slice-freeblocks-fixed k a x y s t p q = carve-slice-fixed k (Freeblocks
 pub recover-page-freeblocks-fixed : FixesSeen recover-page-freeblocks.Post (λ k r s. onPage r (now (s .1 .1 .1 .1 .0)) (now (s .1 .1 .1 .1 .1 .0)))
 recover-page-freeblocks-fixed k a x y s t p q = carve-numbered-fixed k (Freeblocks, a) x y (Freeblocks, s) (Freeblocks, t) p q
 
-pub recover-freeblocks-fixed : FixesSeen recover-freeblocks.Post
-    (λ k r s. onTables r (now (s .1 .1 .1 .1 .1 .0)) (now (s .1 .1 .1 .1 .1 .1 .0)) (now (s .1 .1 .1 .1 .1 .1 .1 .0)) (now (s .1 .1 .1 .1 .1 .1 .1 .1 .0)))
-recover-freeblocks-fixed k a x y s t p q = carve-tables-fixed k (Freeblocks, a) x y (Freeblocks, s) (Freeblocks, t) p q
-
 pub scan-single-page-gap-fixed : FixesSeen scan-single-page-gap.Post (λ k r s. onPage r (now (s .1 .1 .1 .1 .1 .0)) (now (s .1 .1 .1 .1 .1 .1 .0)))
 scan-single-page-gap-fixed k a x y s t p q = carve-slice-fixed k (Gaps (a .0), a .1) x y (Gaps (s .0), s .1) (Gaps (t .0), t .1) p q
 
 pub scan-page-gap-fixed : FixesSeen scan-page-gap.Post (λ k r s. onPage r (now (s .1 .1 .1 .1 .1 .0)) (now (s .1 .1 .1 .1 .1 .1 .0)))
 scan-page-gap-fixed k a x y s t p q = carve-numbered-fixed k (Gaps (a .0), a .1) x y (Gaps (s .0), s .1) (Gaps (t .0), t .1) p q
-
-pub scan-page-gaps-fixed : FixesSeen scan-page-gaps.Post
-    (λ k r s. onTables r (now (s .1 .1 .1 .1 .1 .1 .0)) (now (s .1 .1 .1 .1 .1 .1 .1 .0)) (now (s .1 .1 .1 .1 .1 .1 .1 .1 .0)) (now (s .1 .1 .1 .1 .1 .1 .1 .1 .1 .0)))
-scan-page-gaps-fixed k a x y s t p q = carve-tables-fixed k (Gaps (a .0), a .1) x y (Gaps (s .0), s .1) (Gaps (t .0), t .1) p q
 
 pub parse-cells-from-freeblock-fixed : FixesSeen parse-cells-from-freeblock.Post (λ k r s. onPage r (now (s .1 .1 .1 .1 .0)) (now (s .1 .1 .1 .1 .1 .0)))
 parse-cells-from-freeblock-fixed k a x y s t p q = carve-slice-fixed k (Payload (a .0), (a .1 .0, (0, a .1 .1))) x y (Payload (s .0), (s .1 .0, (0, s .1 .1))) (Payload (t .0), (t .1 .0, (0, t .1 .1))) p q

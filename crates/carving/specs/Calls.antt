@@ -1,4 +1,4 @@
--- The calls that carve pages, by the way in which one page is carved: of a page slice, of a page by its number, and of tables (rules 9.14, 10.5 and 11.8).
+-- The calls that carve one page, by the way in which it is carved: of a page slice, and of a page by its number (rules 9.14, 10.5 and 11.8).
 -- Assumes nothing.
 use Prim.Native.Nat.{ℕ}
 use mathlib.Core.Bool.{not}
@@ -18,10 +18,8 @@ use Rattle.sheet.specs.Refusal.{Check, firstHeld}
 use Rattle.sheet.specs.Slice.{sliceChecks}
 use Rattle.sheet.specs.declared.filled.Filled.{Filled}
 use Rattle.sheet.specs.declared.refusal.Refusal.the-variants.{ColumnCount, Malformed}
-use Rattle.walk.specs.Carve.{Carver, widest, tableChecks, carvedAnswer, carvedRows, carvedCols, carvedNumber, carvedWritten}
 use Rattle.sheet.specs.Hits.{Hit, pageAnswerOf, pageRowsOf, pageColsOf, pageNumberOf, pageWrittenOf}
-use Rattle.walk.specs.Collect.{clearedUnless}
-use Rattle.walk.specs.declared.walk.Walked.{Walked}
+use Rattle.walk.specs.Carve.{Carver}
 
 -- ---- ways of carving
 
@@ -103,31 +101,3 @@ numberedNumber how db size p hints rows cols =
 unfoldable pub numberedWritten : Carving → List ℕ → ℕ → ℕ → List ℕ → ℕ → ℕ → ℕ
 numberedWritten how db size p hints rows cols =
     pageWrittenOf (firstHeld (numberedChecksBy how (length db) size p hints)) (leafHits how db size 0 hints p) (length hints) rows cols
-
--- ---- tables of a database of `len` bytes: any that is too wide refuses all
-abbrev pub tableChecksBy : Carving → ℕ → ℕ → List ℕ → List ℕ → List ℕ → List Check
-tableChecksBy how len size roots counts hints = tooWide how (widest counts) ∷ tableChecks len size roots counts hints
-
-unfoldable pub tabledAnswer : Carving → List ℕ → ℕ → List ℕ → List ℕ → List ℕ → ℕ → ℕ → ℕ → ℕ → Walked
-tabledAnswer how db size roots counts hints flags depth rows cols =
-    carvedAnswer (firstHeld (tableChecksBy how (length db) size roots counts hints)) (leafHits how db size) db size roots counts hints flags depth rows cols
-
-unfoldable pub tabledRows : Carving → List ℕ → ℕ → List ℕ → List ℕ → List ℕ → ℕ → ℕ → List ℕ → List ℕ → List ℕ
-tabledRows how db size roots counts hints flags depth rows cols =
-    carvedRows (firstHeld (tableChecksBy how (length db) size roots counts hints)) (leafHits how db size) db size roots counts hints flags depth rows cols
-
-unfoldable pub tabledCols : Carving → List ℕ → ℕ → List ℕ → List ℕ → List ℕ → ℕ → ℕ → List ℕ → List ℕ → List ℕ
-tabledCols how db size roots counts hints flags depth rows cols =
-    carvedCols (firstHeld (tableChecksBy how (length db) size roots counts hints)) (leafHits how db size) db size roots counts hints flags depth rows cols
-
--- Rule 9.11: flags and stack, each as it was or cleared
-unfoldable pub tabledCleared : Carving → ℕ → ℕ → List ℕ → List ℕ → List ℕ → List ℕ → List ℕ
-tabledCleared how len size roots counts hints old = clearedUnless (firstHeld (tableChecksBy how len size roots counts hints)) old
-
-unfoldable pub tabledNumber : Carving → List ℕ → ℕ → List ℕ → List ℕ → List ℕ → ℕ → ℕ → ℕ → ℕ → ℕ
-tabledNumber how db size roots counts hints flags depth rows cols =
-    carvedNumber (firstHeld (tableChecksBy how (length db) size roots counts hints)) (leafHits how db size) db size roots counts hints flags depth rows cols
-
-unfoldable pub tabledWritten : Carving → List ℕ → ℕ → List ℕ → List ℕ → List ℕ → ℕ → ℕ → ℕ → ℕ → ℕ
-tabledWritten how db size roots counts hints flags depth rows cols =
-    carvedWritten (firstHeld (tableChecksBy how (length db) size roots counts hints)) (leafHits how db size) db size roots counts hints flags depth rows cols

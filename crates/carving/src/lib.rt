@@ -1,6 +1,5 @@
-// The calls that carve pages, said once for any way of carving one: of a page slice, of a page by its number, and of tables.
+// The calls that carve one page, said once for any way of carving it: of a page slice, and of a page by its number.
 pub mod freeblocks;
 pub mod gaps;
 pub mod inner;
 mod single;
-mod tables;

@@ -1,12 +1,13 @@
 // Rows in the freeblocks of pages: of tables, of a page by its number, and of a page slice.
-use carving::freeblocks::recover_freeblocks;
 use carving::freeblocks::recover_page_freeblocks;
 use carving::freeblocks::recover_slice_freeblocks;
+use tables::freeblocks::recover_freeblocks;
 ghost use mathlib.Core.Path.{_≡_};
 ghost use mathlib.Core.List.{[], _∷_};
 ghost use lib.ListN.{length};
-ghost use Rattle.carving.specs.Calls.{sliceRows, sliceCols, sliceNumber, sliceWritten, numberedRows, numberedCols, numberedNumber, numberedWritten, tabledRows, tabledCols, tabledCleared, tabledNumber, tabledWritten};
+ghost use Rattle.carving.specs.Calls.{sliceRows, sliceCols, sliceNumber, sliceWritten, numberedRows, numberedCols, numberedNumber, numberedWritten};
 ghost use Rattle.carving.specs.declared.inner.Carving.the-variants.{Freeblocks};
+ghost use Rattle.tables.specs.Calls.{tabledRows, tabledCols, tabledCleared, tabledNumber, tabledWritten};
 
 #[no_mangle]
 pub extern "C" fn phs_recover_freeblocks(

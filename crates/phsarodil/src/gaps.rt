@@ -2,20 +2,21 @@
 // the way in which lost headers are rebuilt.
 use carving::gaps::parse_cells_from_freeblock;
 use carving::gaps::scan_page_gap;
-use carving::gaps::scan_page_gaps;
 use carving::gaps::scan_single_page_gap;
 use rebuild::ways::Way;
 use rebuild::ways::named;
 use rebuild::ways::unnamed;
 use sheet::refusal::hint_count_fits;
+use tables::gaps::scan_page_gaps;
 use walk::inner::tables::counts_fit;
 ghost use mathlib.Core.Path.{_≡_};
 ghost use mathlib.Core.List.{[], _∷_};
 ghost use lib.ListN.{length};
-ghost use Rattle.carving.specs.Calls.{sliceRows, sliceCols, sliceNumber, sliceWritten, numberedRows, numberedCols, numberedNumber, numberedWritten, tabledRows, tabledCols, tabledCleared, tabledNumber, tabledWritten};
+ghost use Rattle.carving.specs.Calls.{sliceRows, sliceCols, sliceNumber, sliceWritten, numberedRows, numberedCols, numberedNumber, numberedWritten};
 ghost use Rattle.carving.specs.declared.inner.Carving.the-variants.{Gaps, Payload};
 ghost use Rattle.rebuild.specs.Ways.{named as wayNamed, byName, unnamedNumber};
 ghost use Rattle.sheet.specs.Limits.{countFits};
+ghost use Rattle.tables.specs.Calls.{tabledRows, tabledCols, tabledCleared, tabledNumber, tabledWritten};
 ghost use Rattle.walk.specs.Carve.{countsFit};
 
 #[no_mangle]

@@ -1,4 +1,4 @@
--- `carving::tables::carve_leaf` meets its contract: the page is carved where it lies.
+-- `tables::tables::carve_leaf` meets its contract: the page is carved where it lies.
 -- Assumes nothing.
 use Prim.Native.Nat.{_+_, _≤_}
 use mathlib.Core.Path.{refl}
@@ -6,9 +6,9 @@ use native.Mathlib.Omega.{arith}
 use borrow.Author.Needs.{needs}
 use denote.Ref.{now}
 use lib.ListN.{length}
 use Rattle.carving.proofs.Callers.{hits-are, part-long}
-use Rattle.carving.proofs.tables.carve_leaf.Statement.{statement}
-use Rattle.carving.proofs.tables.carve_leaf.Tie as tie
+use Rattle.tables.proofs.tables.carve_leaf.Statement.{statement}
+use Rattle.tables.proofs.tables.carve_leaf.Tie as tie
 use Rattle.page.proofs.Laws.{page-inside}
 use Rattle.page.specs.Page.{startOf}
 

@@ -1,4 +1,4 @@
--- `carving::tables::carve_tables` meets its contract: behind the checks flags and stack are cleared.
+-- `tables::tables::carve_tables` meets its contract: behind the checks flags and stack are cleared.
 -- Assumes nothing.
 use mathlib.Core.Path.{_≡_, sym, _∙_}
 use mathlib.Core.Bool.{false}
@@ -7,10 +7,11 @@ use borrow.Author.Tests.{ltb-false}
 use denote.Ref.{now}
 use lib.Dec.{ltb}
 use lib.ListN.{length}
-use Rattle.carving.specs.Calls.{widthBy, leafHits, tableChecksBy, tabledAnswer, tabledRows, tabledCols, tabledCleared, tabledNumber, tabledWritten}
+use Rattle.carving.specs.Calls.{widthBy, leafHits}
+use Rattle.tables.specs.Calls.{tableChecksBy, tabledAnswer, tabledRows, tabledCols, tabledCleared, tabledNumber, tabledWritten}
 use Rattle.carving.proofs.Callers.{wide-refuses, narrow-on}
-use Rattle.carving.proofs.tables.carve_tables.Statement.{statement}
-use Rattle.carving.proofs.tables.carve_tables.Tie as tie
+use Rattle.tables.proofs.tables.carve_tables.Statement.{statement}
+use Rattle.tables.proofs.tables.carve_tables.Tie as tie
 use Rattle.sheet.specs.Refusal.{firstHeld}
 use Rattle.walk.proofs.Promises.{tables-fit, tables-refused, tables-passed}
 use Rattle.walk.specs.Carve.{widest, tableChecks}

@@ -1,4 +1,4 @@
--- `carving::tables::carve_checked` meets its contract: what the loop has carved are the tables so far (`Tables`).
+-- `tables::tables::carve_checked` meets its contract: what the loop has carved are the tables so far (`Tables`).
 -- Assumes nothing.
 use Prim.Native.Nat.{ℕ, _+_, _-_, _/_, _≤_, _<_}
 use mathlib.Core.Path.{_≡_, refl, sym, _∙_}
@@ -8,11 +8,11 @@ use native.Mathlib.Omega.{arith}
 use borrow.Author.Needs.{needs}
 use denote.Ref.{now}
 use lib.ListN.{length, getD, take, drop}
 use Rattle.carving.specs.Calls.{leafHits}
-use Rattle.carving.specs.Inner.{TableReady}
+use Rattle.tables.specs.Inner.{TableReady}
 use Rattle.carving.proofs.Callers.{part-long}
-use Rattle.carving.proofs.tables.carve_checked.Statement.{statement}
-use Rattle.carving.proofs.tables.carve_checked.Tie as tie
+use Rattle.tables.proofs.tables.carve_checked.Statement.{statement}
+use Rattle.tables.proofs.tables.carve_checked.Tie as tie
 use Rattle.sheet.specs.Columns.{roomOf}
 use Rattle.walk.proofs.Promises.{table-fits}
 use Rattle.walk.proofs.Tables.{Tables, tables-start, tables-inside, tables-on, tables-over, tables-short, tables-done, tables-room, tabled, tabled-few}

@@ -13,19 +13,22 @@ use denote.Triple.Clauses.{AtExit}
 use borrow.Author.Tests.{ltb-false}
 use borrow.Fn.Kinds.{Dens, resT, endedOf}
 use lib.ListN.{length}
-use Rattle.carving.specs.Calls.{widthBy, leafHits, tableChecksBy, tabledCols, tabledWritten}
-use Rattle.carving.specs.Values.{leafValues, valuesFrom, tablesValues, carvedValues}
+use Rattle.carving.specs.Calls.{widthBy, leafHits}
+use Rattle.tables.specs.Calls.{tableChecksBy, tabledCols, tabledWritten}
+use Rattle.carving.specs.Values.{leafValues}
+use Rattle.tables.specs.Values.{valuesFrom, tablesValues, carvedValues}
 use Rattle.carving.specs.declared.inner.Carving.{Carving}
 use Rattle.carving.specs.declared.inner.Carving.the-variants.{Freeblocks, Gaps}
 use Rattle.carving.proofs.Callers.{narrow-on}
-use Rattle.carving.proofs.Entries.{AllFit, all-fit, fit-append, flagged-read}
+use Rattle.carving.proofs.Entries.{AllFit, all-fit, fit-append}
+use Rattle.tables.proofs.Entries.{flagged-read}
 use Rattle.carving.proofs.ReadBack.{leaf-reads}
-use Rattle.carving.proofs.freeblocks.recover_freeblocks.Kinds as freeblocks-kinds
-use Rattle.carving.proofs.freeblocks.recover_freeblocks.Reads as recover-freeblocks
-use Rattle.carving.proofs.gaps.scan_page_gaps.Kinds as gaps-kinds
-use Rattle.carving.proofs.gaps.scan_page_gaps.Reads as scan-page-gaps
-use Rattle.carving.proofs.tables.carve_tables.Kinds as tables-kinds
-use Rattle.carving.proofs.tables.carve_tables.Reads as carve-tables
+use Rattle.tables.proofs.freeblocks.recover_freeblocks.Kinds as freeblocks-kinds
+use Rattle.tables.proofs.freeblocks.recover_freeblocks.Reads as recover-freeblocks
+use Rattle.tables.proofs.gaps.scan_page_gaps.Kinds as gaps-kinds
+use Rattle.tables.proofs.gaps.scan_page_gaps.Reads as scan-page-gaps
+use Rattle.tables.proofs.tables.carve_tables.Kinds as tables-kinds
+use Rattle.tables.proofs.tables.carve_tables.Reads as carve-tables
 use Rattle.page.specs.Page.{wholePages}
 use Rattle.scan.proofs.ReadBack.{ReadBack}
 use Rattle.sheet.proofs.Laws.{none-holds}

@@ -1,6 +1,6 @@
 // The leaves of tables, one table after the other.
-use crate::inner::Carving;
-use crate::inner::carve_page;
+use carving::inner::Carving;
+use carving::inner::carve_page;
 use hit::inner::Lent;
 use hit::inner::Spot;
 use page::inner::head_of;
@@ -22,8 +22,9 @@ ghost use mathlib.Core.Path.{_≡_};
 ghost use mathlib.Core.Bool.{false};
 ghost use Prim.Native.Nat.{_/_, _≤_};
 ghost use lib.ListN.{length};
-ghost use Rattle.carving.specs.Calls.{widthBy, leafHits, tabledAnswer, tabledRows, tabledCols, tabledCleared, tabledNumber, tabledWritten};
-ghost use Rattle.carving.specs.Inner.{TableReady};
+ghost use Rattle.carving.specs.Calls.{widthBy, leafHits};
+ghost use Rattle.tables.specs.Calls.{tabledAnswer, tabledRows, tabledCols, tabledCleared, tabledNumber, tabledWritten};
+ghost use Rattle.tables.specs.Inner.{TableReady};
 ghost use Rattle.walk.specs.Carve.{widest as widestOf};
 ghost use Rattle.walk.specs.Collect.{walkedNumber, walkedWritten};
 ghost use Rattle.walk.specs.Inner.{tableAs, Tabled, TablesFit};

@@ -1,4 +1,4 @@
--- `carving::tables::carve_table` meets its contract: what the loop has carved are the leaves so far (`Leaves`).
+-- `tables::tables::carve_table` meets its contract: what the loop has carved are the leaves so far (`Leaves`).
 -- Assumes nothing.
 use Prim.Native.Nat.{ℕ, _/_, _≤_}
 use mathlib.Core.Path.{_≡_, refl, sym, ap, _∙_}
@@ -6,10 +6,10 @@ use native.Mathlib.Omega.{arith}
 use borrow.Author.Needs.{needs}
 use denote.Ref.{now}
 use lib.ListN.{length, replicate}
 use Rattle.carving.specs.Calls.{leafHits}
-use Rattle.carving.specs.Inner.{TableReady}
-use Rattle.carving.proofs.tables.carve_table.Statement.{statement}
-use Rattle.carving.proofs.tables.carve_table.Tie as tie
+use Rattle.tables.specs.Inner.{TableReady}
+use Rattle.tables.proofs.tables.carve_table.Statement.{statement}
+use Rattle.tables.proofs.tables.carve_table.Tie as tie
 use Rattle.walk.proofs.Tables.{Leaves, leaves-start, leaves-none, leaves-on, leaves-over, leaves-done, leaves-full, leaves-fit}
 use Rattle.walk.specs.Inner.{need, rest, LeafIs}
 use Rattle.walk.specs.Walk.{walk}

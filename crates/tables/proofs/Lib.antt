@@ -1,0 +1,4 @@
+mod Cases
+mod Entries
+pub mod ReadBack
+pub mod Unique

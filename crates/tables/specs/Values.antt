@@ -1,0 +1,33 @@
+-- The values of the rows that the calls write (rule 4.13): what their column entries read as over the database.
+-- Assumes nothing.
+use Prim.Native.Nat.{ℕ}
+use mathlib.Core.Bool.{cond}
+use mathlib.Core.List.{List, [], _∷_, _++_}
+use lib.ListN.{length, take}
+use Rattle.carving.specs.Values.{leafValues, groupsValues}
+use Rattle.carving.specs.declared.inner.Carving.{Carving}
+use Rattle.page.specs.Page.{wholePages}
+use Rattle.record.specs.declared.record.Value.{Value}
+use Rattle.sheet.specs.Columns.{roomOf}
+use Rattle.sheet.specs.Refusal.{firstHeld, afterOrKept}
+use Rattle.tables.specs.Calls.{tableChecksBy}
+use Rattle.walk.specs.Carve.{Table, tablesOf, widest}
+use Rattle.walk.specs.Collect.{ifFlagged}
+use Rattle.walk.specs.Walk.{Walk, walk, hitsOf, overflows}
+
+-- Rule 9.13: tables in the order lent, and leaf by leaf along the walk of each; a full stack ends it all
+abbrev pub valuesFrom : Carving → List ℕ → ℕ → (ℕ → Walk) → List Table → List (List Value)
+valuesFrom how db size walkOf [] = []
+valuesFrom how db size walkOf (b ∷ bs) =
+    hitsOf (leafValues how db size (b .hints)) (walkOf (b .root)) ++ cond (overflows (walkOf (b .root))) [] (valuesFrom how db size walkOf bs)
+
+unfoldable pub tablesValues : Carving → List ℕ → ℕ → List ℕ → List ℕ → List ℕ → ℕ → List (List Value)
+tablesValues how db size roots counts hints depth = valuesFrom how db size (λ root. walk db size depth root) (tablesOf roots counts hints)
+
+-- those of the rows that a call writes into lists of so many words; with fewer flags than whole pages there are none
+unfoldable pub carvedValues : Carving → List ℕ → ℕ → List ℕ → List ℕ → List ℕ → ℕ → ℕ → ℕ → ℕ → List Value
+carvedValues how db size roots counts hints flags depth rows cols =
+    afterOrKept (firstHeld (tableChecksBy how (length db) size roots counts hints))
+    (groupsValues (widest counts)
+    (ifFlagged (wholePages (length db) size) flags (take (roomOf rows cols (widest counts)) (tablesValues how db size roots counts hints depth)) []))
+    []

@@ -59,8 +59,8 @@ pub extern "C" fn phs_decode_serial_type(
     };
     let tag = tag_of(value);
     let bits = bits_of(value, bytes, offset);
-    let from = value.start() as u64;
-    *out = [tag, bits, from, n as u64];
+    let from = value.start();
+    *out = [tag, bits, from as u64, n as u64];
     0
 }
 
@@ -82,16 +82,15 @@ pub extern "C" fn phs_read_entry(
         start,
         len: length,
     };
-    let read = entry.read(bytes);
-    let EntryRead::Of(value) = read else {
+    let EntryRead::Of(value) = entry.read(bytes) else {
         *out = [0, 0, 0, 0];
-        return number_of(read);
+        return number_of(EntryRead::Refused);
     };
     let tag = tag_of(value);
     let bits = bits_of(value, bytes, start as usize);
-    let from = value.start() as u64;
-    let size = value.len() as u64;
-    *out = [tag, bits, from, size];
+    let from = value.start();
+    let size = value.len();
+    *out = [tag, bits, from as u64, size as u64];
     0
 }
 

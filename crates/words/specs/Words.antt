@@ -69,10 +69,11 @@ abbrev pub meets : Keyword → List ℕ → Bool
 meets (starting w) s = startsWith (bytes w) s
 meets (whole w) s = equals (bytes w) s
 
--- whether it meets one of the keywords, or one met before
+-- whether it meets one of the keywords, or did one before them
 abbrev pub meetsMore : Bool → List Keyword → List ℕ → Bool
 meetsMore before [] s = before
 meetsMore before (k ∷ ks) s = meetsMore (before || meets k s) ks s
 
+-- whether it meets one of the keywords
 abbrev pub meetsOne : List Keyword → List ℕ → Bool
 meetsOne keywords s = meetsMore false keywords s

@@ -33,15 +33,15 @@ tag-of-requires c κs = search needs
 bits-of-requires : tie.Need-bits-of-requires
 bits-of-requires c κs = decoded-there _ _ _ _ _ (there (c .before))
 
-start-of-requires : tie.Need-start-of-requires
-start-of-requires c κs = search needs
+start-requires : tie.Need-start-requires
+start-requires c κs = search needs
 
 returns-2 : tie.Need-returns-2
 returns-2 c =
     let e = there (c .before .before .before .before) in
     let t = c .before .before .before .tag-of .ensures in
     let b = c .before .before .bits-of .ensures in
-    (refl, rw (e, t, b, c .before .start-of .ensures))
+    (refl, rw (e, t, b, c .before .start .ensures))
 
 pub phs-decode-serial-type-spec : {M : Type 1} → statement M
 phs-decode-serial-type-spec =
@@ -53,5 +53,5 @@ phs-decode-serial-type-spec =
     returns
     tag-of-requires
     bits-of-requires
-    start-of-requires
+    start-requires
     returns-2)

@@ -25,10 +25,13 @@ enum-known-value c = search needs
 enum-told : tie.Need-enum-told
 enum-told c = search needs
 
+number-of-requires : tie.Need-number-of-requires
+number-of-requires c κs = search needs
+
 returns : tie.Need-returns
 returns c =
-    let e = sym (c .before .before .before .read .ensures .0) ∙ c .before .enum-told .given .1 in
-    (rw e, rw e)
+    let e = sym (c .before .before .before .before .read .ensures .0) ∙ c .before .before .enum-told .given .1 in
+    (c .number-of .ensures ∙ rw e, rw e)
 
 tag-of-requires : tie.Need-tag-of-requires
 tag-of-requires c κs = search needs
@@ -36,19 +39,19 @@ tag-of-requires c κs = search needs
 bits-of-requires : tie.Need-bits-of-requires
 bits-of-requires c κs = read-there _ _ _ (there (c .before))
 
-start-of-requires : tie.Need-start-of-requires
-start-of-requires c κs = search needs
+start-requires : tie.Need-start-requires
+start-requires c κs = search needs
 
-length-of-requires : tie.Need-length-of-requires
-length-of-requires c κs = search needs
+len-requires : tie.Need-len-requires
+len-requires c κs = search needs
 
 returns-2 : tie.Need-returns-2
 returns-2 c =
     let e = there (c .before .before .before .before .before) in
     let t = c .before .before .before .before .tag-of .ensures in
     let b = c .before .before .before .bits-of .ensures in
-    let s = c .before .before .start-of .ensures in
-    (rw e, rw (e, t, b, s, c .before .length-of .ensures))
+    let s = c .before .before .start .ensures in
+    (rw e, rw (e, t, b, s, c .before .len .ensures))
 
 pub phs-read-entry-spec : {M : Type 1} → statement M
 phs-read-entry-spec =
@@ -57,9 +60,10 @@ phs-read-entry-spec =
     read-requires
     enum-known-value
     enum-told
+    number-of-requires
     returns
     tag-of-requires
     bits-of-requires
-    start-of-requires
-    length-of-requires
+    start-requires
+    len-requires
     returns-2)

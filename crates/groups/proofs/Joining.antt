@@ -11,7 +11,7 @@ use lib.Seq.{drop-append-le}
 use Rattle.record.specs.declared.entry.Entry.{Entry}
 use Rattle.sheet.specs.Limits.{wordsPerEntry}
 use Rattle.sheet.specs.Sheet.{entryIn, entriesIn}
-use Rattle.groups.specs.Rows.{rowsIn, rowsOf, columnsOf, longest, badRow, badRows}
+use Rattle.groups.specs.Rows.{rowsIn, rowsOf, longest, badRow, badRows}
 
 -- ---- rows
 pub bad-append : (s : List ℕ) (x y : List (List Entry)) → badRows s (x ++ y) ≡ (badRows s x || badRows s y)

@@ -18,7 +18,6 @@ use Rattle.sheet.specs.Limits.{wordsPerEntry}
 use Rattle.sheet.specs.Sheet.{entryIn, entriesIn}
 use Rattle.groups.specs.Judging.{judgedRow, judgedRows}
 use Rattle.groups.specs.Rows.{rowsIn, rowCount, rowsOf, isUsed, columnsOf, longest, isRefused, anyBad, gapped, badRow, badRows}
-use Rattle.groups.specs.declared.inner.Judged.{Judged}
 use Rattle.groups.specs.declared.inner.Judged.the-variants.{Columns, Bad}
 
 -- ---- rows among the words

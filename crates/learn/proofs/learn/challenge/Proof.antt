@@ -1,6 +1,5 @@
 -- `learn::learn::challenge` meets its contract: each way out is a case of the definition.
 -- Assumes nothing.
-use borrow.Author.Needs.{needs}
 use mathlib.Core.Path.{sym}
 use native.Mathlib.Omega.{arith}
 use Rattle.learn.proofs.Counting.{better-self, better-new, better-old, better-left, better-right}

@@ -44,10 +44,8 @@ heading =
 -- `rows N read M`
 unfoldable pub totalsLine : ℕ → ℕ → List ℕ
 totalsLine rows read =
-    114 ∷ 111 ∷ 119 ∷ 115 ∷ 32 ∷ []
-    ++ decimal rows
-    ++ 32 ∷ 114 ∷ 101 ∷ 97 ∷ 100 ∷ 32 ∷ []
-    ++ decimal read
+    (114 ∷ 111 ∷ 119 ∷ 115 ∷ 32 ∷ [] ++ decimal rows)
+    ++ (32 ∷ 114 ∷ 101 ∷ 97 ∷ 100 ∷ 32 ∷ [] ++ decimal read)
     ++ 10 ∷ []
 
 -- `refused N`

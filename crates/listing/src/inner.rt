@@ -5,6 +5,7 @@ use digits::inner::put_bytes;
 use digits::inner::put_decimal;
 use digits::inner::put_field;
 use digits::inner::put_hex;
+use digits::inner::put_number_after;
 use sheet::MOST_COLUMNS;
 use sheet::WORDS_PER_ENTRY;
 use sheet::WORDS_PER_ROW;
@@ -28,8 +29,7 @@ fn put_type(out: &mut [u8], at: usize, k: usize, kind: u64) -> usize
     if k == 0 {
         return put_decimal(out, at, kind);
     }
-    let next = put_bytes(out, at, b",");
-    put_decimal(out, next, kind)
+    put_number_after(out, at, b",", kind)
 }
 
 // The types of the `width` entries whose words start at `group`.

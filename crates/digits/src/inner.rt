@@ -1,6 +1,7 @@
 // Callers show by proof that there is room. Each writer answers the place behind what it wrote.
 ghost use mathlib.Core.Path.{_≡_};
 ghost use Prim.Native.Nat.{_+_, _≤_};
+ghost use mathlib.Core.List.{_++_};
 ghost use lib.ListN.{length};
 ghost use Rattle.digits.specs.Digits.{mostDigits, hexDigits, decimal, field, hexDigit, hex8};
 ghost use Rattle.digits.specs.Inner.{Put, mostField};
@@ -50,6 +51,16 @@ pub fn put_decimal(out: &mut [u8], at: usize, n: u64) -> usize
         rest = rest / 10;
     }
     end
+}
+
+// A number behind the bytes that lead to it.
+pub fn put_number_after(out: &mut [u8], at: usize, front: &[u8], n: u64) -> usize
+    requires { ⌜ at + length (now front) + mostDigits ≤ length (now out) ⌝ }
+    ensures { λ r. ⌜ Put (now (out .entry)) at (now (front .entry) ++ decimal n) (now (out .exit)) r ⌝ }
+    ensures near { λ r. ⌜ r ≤ at + length (now (front .entry)) + mostDigits ⌝ }
+{
+    let next = put_bytes(out, at, front);
+    put_decimal(out, next, n)
 }
 
 // A number, and the blank that ends its field.

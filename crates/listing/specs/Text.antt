@@ -16,16 +16,17 @@ unfoldable pub typesText : List ℕ → ℕ → ℕ → List ℕ
 typesText cols group zero = []
 typesText cols group (suc k) = typesText cols group k ++ typeText k (getD cols (group + wordsPerEntry * k + 1) 0)
 
--- offset, bytes consumed and confidence bits, each with the blank behind it
-unfoldable pub numbersText : ℕ → ℕ → ℕ → List ℕ
-numbersText offset consumed bits = field offset ++ field consumed ++ hex8 bits ++ 32 ∷ []
+-- offset, bytes consumed and confidence bits of the row n, its words 0, 1 and 6, each with the blank behind it
+unfoldable pub numbersText : List ℕ → ℕ → List ℕ
+numbersText rows n =
+    field (getD rows (n * wordsPerRow) 0)
+    ++ field (getD rows (n * wordsPerRow + 1) 0)
+    ++ hex8 (getD rows (n * wordsPerRow + 6) 0)
+    ++ 32 ∷ []
 
--- the row n of both lists: its words 0, 1 and 6, its types, and a line end
+-- the row n of both lists: its numbers, its types, and a line end
 unfoldable pub lineText : List ℕ → List ℕ → ℕ → ℕ → List ℕ
-lineText rows cols width n =
-    numbersText (getD rows (n * wordsPerRow) 0) (getD rows (n * wordsPerRow + 1) 0) (getD rows (n * wordsPerRow + 6) 0)
-    ++ typesText cols (n * (wordsPerEntry * width)) width
-    ++ 10 ∷ []
+lineText rows cols width n = numbersText rows n ++ typesText cols (n * (wordsPerEntry * width)) width ++ 10 ∷ []
 
 -- the first n rows of both lists
 unfoldable pub rowsText : List ℕ → List ℕ → ℕ → ℕ → List ℕ
@@ -44,10 +45,8 @@ heading =
 -- `rows N read M`
 unfoldable pub totalsLine : ℕ → ℕ → List ℕ
 totalsLine rows read =
-    114 ∷ 111 ∷ 119 ∷ 115 ∷ 32 ∷ []
-    ++ decimal rows
-    ++ 32 ∷ 114 ∷ 101 ∷ 97 ∷ 100 ∷ 32 ∷ []
-    ++ decimal read
+    (114 ∷ 111 ∷ 119 ∷ 115 ∷ 32 ∷ [] ++ decimal rows)
+    ++ (32 ∷ 114 ∷ 101 ∷ 97 ∷ 100 ∷ 32 ∷ [] ++ decimal read)
     ++ 10 ∷ []
 
 -- `refused N`

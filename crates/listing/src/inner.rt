@@ -5,6 +5,7 @@ use digits::inner::put_bytes;
 use digits::inner::put_decimal;
 use digits::inner::put_field;
 use digits::inner::put_hex;
+use digits::inner::put_number_after;
 use sheet::MOST_COLUMNS;
 use sheet::WORDS_PER_ENTRY;
 use sheet::WORDS_PER_ROW;
@@ -28,8 +29,7 @@ fn put_type(out: &mut [u8], at: usize, k: usize, kind: u64) -> usize
     if k == 0 {
         return put_decimal(out, at, kind);
     }
-    let next = put_bytes(out, at, b",");
-    put_decimal(out, next, kind)
+    put_number_after(out, at, b",", kind)
 }
 
 // The types of the `width` entries whose words start at `group`.
@@ -48,15 +48,17 @@ fn put_types(out: &mut [u8], at: usize, cols: &[u64], group: usize, width: usize
     to
 }
 
-// Offset, bytes consumed and confidence.
-fn put_numbers(out: &mut [u8], at: usize, offset: u64, consumed: u64, bits: u64) -> usize
+// Offset, bytes consumed and confidence of the row n.
+fn put_numbers(out: &mut [u8], at: usize, rows: &[u64], n: usize) -> usize
     requires { ⌜ at + mostNumbers ≤ length (now out) ⌝ }
-    ensures { λ r. ⌜ Put (now (out .entry)) at (numbersText offset consumed bits) (now (out .exit)) r ⌝ }
+    requires { ⌜ n * wordsPerRow + wordsPerRow ≤ length (now rows) ⌝ }
+    ensures { λ r. ⌜ Put (now (out .entry)) at (numbersText (now (rows .entry)) n) (now (out .exit)) r ⌝ }
     ensures near { λ r. ⌜ r ≤ at + mostNumbers ⌝ }
 {
-    let at = put_field(out, at, offset);
-    let at = put_field(out, at, consumed);
-    let at = put_hex(out, at, bits);
+    let row = n * WORDS_PER_ROW;
+    let at = put_field(out, at, rows[row]);
+    let at = put_field(out, at, rows[row + 1]);
+    let at = put_hex(out, at, rows[row + 6]);
     put_bytes(out, at, b" ")
 }
 
@@ -68,8 +70,7 @@ fn put_line(out: &mut [u8], at: usize, rows: &[u64], cols: &[u64], width: usize,
     ensures { λ r. ⌜ Put (now (out .entry)) at (lineText (now (rows .entry)) (now (cols .entry)) width n) (now (out .exit)) r ⌝ }
     ensures near { λ r. ⌜ r ≤ at + mostLine width ⌝ }
 {
-    let row = n * WORDS_PER_ROW;
-    let types = put_numbers(out, at, rows[row], rows[row + 1], rows[row + 6]);
+    let types = put_numbers(out, at, rows, n);
     let end = put_types(out, types, cols, n * (WORDS_PER_ENTRY * width), width);
     put_bytes(out, end, b"\n")
 }

@@ -2,7 +2,7 @@
 use crate::part::TEXT_BYTES;
 use crate::part::Totals;
 use digits::inner::put_bytes;
-use digits::inner::put_decimal;
+use digits::inner::put_number_after;
 use sheet::refusal::Refusal;
 use sheet::refusal::number;
 ghost use Rattle.digits.specs.Inner.{Put};
@@ -21,10 +21,8 @@ pub fn put_totals(out: &mut [u8; TEXT_BYTES], total: Totals) -> usize
     ensures { λ r. ⌜ Put (now (out .entry)) 0 (totalsLine (total .rows) (total .read)) (now (out .exit)) r ⌝ }
     ensures { λ r. ⌜ Counts r (now (out .exit)) ⌝ }
 {
-    let at = put_bytes(out, 0, b"rows ");
-    let at = put_decimal(out, at, total.rows);
-    let at = put_bytes(out, at, b" read ");
-    let at = put_decimal(out, at, total.read);
+    let at = put_number_after(out, 0, b"rows ", total.rows);
+    let at = put_number_after(out, at, b" read ", total.read);
     put_bytes(out, at, b"\n")
 }
 
@@ -32,7 +30,6 @@ pub fn put_refusal(out: &mut [u8; TEXT_BYTES], refusal: Refusal) -> usize
     ensures { λ r. ⌜ Put (now (out .entry)) 0 (refusalLine (refusalNumber refusal)) (now (out .exit)) r ⌝ }
     ensures { λ r. ⌜ Counts r (now (out .exit)) ⌝ }
 {
-    let at = put_bytes(out, 0, b"refused ");
-    let at = put_decimal(out, at, number(refusal));
+    let at = put_number_after(out, 0, b"refused ", number(refusal));
     put_bytes(out, at, b"\n")
 }

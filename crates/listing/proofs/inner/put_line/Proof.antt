@@ -6,33 +6,6 @@ use Rattle.listing.specs.Text.{lineText}
 use Rattle.listing.proofs.inner.put_line.Statement.{statement}
 use Rattle.listing.proofs.inner.put_line.Tie as tie
 
-mul-row : tie.Need-mul-row
-mul-row c = search needs
-
-mul-put-numbers : tie.Need-mul-put-numbers
-mul-put-numbers c = search needs
-
-shared-slice-read-put-numbers : tie.Need-shared-slice-read-put-numbers
-shared-slice-read-put-numbers c = search needs
-
-add-put-numbers : tie.Need-add-put-numbers
-add-put-numbers c = search needs
-
-mul-put-numbers-2 : tie.Need-mul-put-numbers-2
-mul-put-numbers-2 c = search needs
-
-shared-slice-read-put-numbers-2 : tie.Need-shared-slice-read-put-numbers-2
-shared-slice-read-put-numbers-2 c = search needs
-
-add-put-numbers-2 : tie.Need-add-put-numbers-2
-add-put-numbers-2 c = search needs
-
-mul-put-numbers-3 : tie.Need-mul-put-numbers-3
-mul-put-numbers-3 c = search needs
-
-shared-slice-read-put-numbers-3 : tie.Need-shared-slice-read-put-numbers-3
-shared-slice-read-put-numbers-3 c = search needs
-
 put-numbers-requires : tie.Need-put-numbers-requires
 put-numbers-requires c κs = search needs
 
@@ -65,15 +38,6 @@ pub put-line-spec : {M : Type 1} → statement M
 put-line-spec =
     tie.close
     (tie.spec
-    mul-row
-    mul-put-numbers
-    shared-slice-read-put-numbers
-    add-put-numbers
-    mul-put-numbers-2
-    shared-slice-read-put-numbers-2
-    add-put-numbers-2
-    mul-put-numbers-3
-    shared-slice-read-put-numbers-3
     put-numbers-requires
     mul-put-types
     mul-put-types-2

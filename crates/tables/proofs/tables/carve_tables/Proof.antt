@@ -7,13 +7,14 @@ use borrow.Author.Tests.{ltb-false}
 use denote.Ref.{now}
 use lib.Dec.{ltb}
 use lib.ListN.{length}
-use Rattle.carving.specs.Calls.{widthBy, leafHits}
-use Rattle.tables.specs.Calls.{tableChecksBy, tabledAnswer, tabledRows, tabledCols, tabledCleared, tabledNumber, tabledWritten}
+use Rattle.carving.specs.Calls.{widthBy}
+use Rattle.tables.specs.Calls.{asked, tableChecksBy}
 use Rattle.carving.proofs.Callers.{wide-refuses, narrow-on}
 use Rattle.tables.proofs.tables.carve_tables.Statement.{statement}
 use Rattle.tables.proofs.tables.carve_tables.Tie as tie
 use Rattle.sheet.specs.Refusal.{firstHeld}
-use Rattle.walk.proofs.Promises.{tables-fit, tables-refused, tables-passed}
+use Rattle.tables.proofs.Callers.{tables-refused, tables-passed}
+use Rattle.walk.proofs.Promises.{tables-fit}
 use Rattle.walk.specs.Carve.{widest, tableChecks}
 
 widest-requires : tie.Need-widest-requires
@@ -23,10 +24,9 @@ refuses-requires : tie.Need-refuses-requires
 refuses-requires c κs = search needs
 
 returns : tie.Need-returns
-unfolding tabledAnswer tabledRows tabledCols tabledCleared tabledNumber tabledWritten
 returns c =
     let a = c .before .before .before .before .before .before .before .before .before .before .before .args in
-    tables-refused _ (leafHits (a .how) (now (a .db)) (a .size)) _ _ _ _ _ _ _ _ _ _
+    tables-refused _ _
     (wide-refuses (a .how) (widest (now (a .counts))) (tableChecks (length (now (a .db))) (a .size) (now (a .roots)) (now (a .counts)) (now (a .hints)))
     (rw (c .before .before .widest .ensures) at (sym (c .before .refuses .ensures) ∙ c .if1 .taken)))
 
@@ -61,8 +61,7 @@ clear-stack-requires : tie.Need-clear-stack-requires
 clear-stack-requires c κs = search needs
 
 returns-2 : tie.Need-returns-2
-unfolding tabledAnswer tabledRows tabledCols tabledCleared tabledNumber tabledWritten
-returns-2 c = let a = c .before .before .before .before .before .before .before .before .before .before .before .before .before .before .before .args in tables-refused _ (leafHits (a .how) (now (a .db)) (a .size)) _ _ _ _ _ _ _ _ _ _ (others (c .before .before .before .before) ∙ sym (c .before .before .before .check .ensures) ∙ c .before .refusal .given .1)
+returns-2 c = tables-refused _ _ (others (c .before .before .before .before) ∙ sym (c .before .before .before .check .ensures) ∙ c .before .refusal .given .1)
 
 same-length : tie.Need-same-length
 same-length c = search needs
@@ -77,12 +76,11 @@ same-length-4 : tie.Need-same-length-4
 same-length-4 c = search needs
 
 returns-3 : tie.Need-returns-3
-unfolding tabledAnswer tabledRows tabledCols tabledCleared tabledNumber tabledWritten
 returns-3 c =
     let a = c .before .before .before .before .before .before .before .before .before .before .before .before .before .before .before .before .before .before .before .before .before .before .before .before .before .before .before .before .before .before .before .before .before .before .before .args in
     let x = c .before .before .before .before .before .before .before .before .before .before .before .before .before .before .before .before .carve-checked in
     rw (c .before .before .before .before .before .before .clear-flags .ensures, c .before .before .clear-stack .ensures, x .kept .1 .1 .1 .1 .1 .1 .0, x .kept .1 .1 .1 .1 .1 .1 .1 .0)
-    (tables-passed _ (leafHits (a .how) (now (a .db)) (a .size)) _ _ _ _ _ (now (a .flags)) (now (a .stack)) _ _ _ _ _ (others (c .before .before .before .before .before .before .before .before .before .before .before .before .before .before .before .before .before .before .before .before .before .before .before .before) ∙ sym (c .before .before .before .before .before .before .before .before .before .before .before .before .before .before .before .before .before .before .before .before .before .before .before .check .ensures) ∙ c .before .before .before .before .before .before .before .before .before .before .before .before .before .before .before .before .before .before .before .before .before .enum-told .given .1) (x .ensures))
+    (tables-passed (asked (a .how) (now (a .db)) (a .size) (now (a .roots)) (now (a .counts)) (now (a .hints)) (now (a .flags)) (now (a .stack)) (now (a .rows)) (now (a .cols))) _ _ _ (others (c .before .before .before .before .before .before .before .before .before .before .before .before .before .before .before .before .before .before .before .before .before .before .before .before) ∙ sym (c .before .before .before .before .before .before .before .before .before .before .before .before .before .before .before .before .before .before .before .before .before .before .before .check .ensures) ∙ c .before .before .before .before .before .before .before .before .before .before .before .before .before .before .before .before .before .before .before .before .before .enum-told .given .1) (x .ensures))
 
 pub carve-tables-spec : {M : Type 1} → statement M
 carve-tables-spec =

@@ -25,20 +25,26 @@ refuses-requires c κs = search needs
 
 returns : tie.Need-returns
 returns c =
-    let a = c .before .before .before .before .before .before .before .before .before .before .before .args in
+    let start = c .before .before .before .before .before .before .before .before .before .before .before in
+    let a = start .args in
     tables-refused _ _
     (wide-refuses (a .how) (widest (now (a .counts))) (tableChecks (length (now (a .db))) (a .size) (now (a .roots)) (now (a .counts)) (now (a .hints)))
     (rw (c .before .before .widest .ensures) at (sym (c .before .refuses .ensures) ∙ c .if1 .taken)))
 
 -- no table is too wide, so the other checks decide
-narrow : (c : tie.Else1) → let a = c .before .before .before .before .before .before .before .before .before .before .before .args in ltb (widthBy (a .how)) (widest (now (a .counts))) ≡ false
+narrow : (c : tie.Else1) →
+    let start = c .before .before .before .before .before .before .before .before .before .before .before in
+    let a = start .args in ltb (widthBy (a .how)) (widest (now (a .counts))) ≡ false
 narrow c = rw (c .before .before .widest .ensures) at (sym (c .before .refuses .ensures) ∙ c .if1 .left)
 
 others : (c : tie.Else1) →
-    let a = c .before .before .before .before .before .before .before .before .before .before .before .args in
+    let start = c .before .before .before .before .before .before .before .before .before .before .before in
+    let a = start .args in
     firstHeld (tableChecksBy (a .how) (length (now (a .db))) (a .size) (now (a .roots)) (now (a .counts)) (now (a .hints)))
     ≡ firstHeld (tableChecks (length (now (a .db))) (a .size) (now (a .roots)) (now (a .counts)) (now (a .hints)))
-others c = let a = c .before .before .before .before .before .before .before .before .before .before .before .args in narrow-on (a .how) (widest (now (a .counts))) (tableChecks (length (now (a .db))) (a .size) (now (a .roots)) (now (a .counts)) (now (a .hints))) (narrow c)
+others c =
+    let start = c .before .before .before .before .before .before .before .before .before .before .before in
+    let a = start .args in narrow-on (a .how) (widest (now (a .counts))) (tableChecks (length (now (a .db))) (a .size) (now (a .roots)) (now (a .counts)) (now (a .hints))) (narrow c)
 
 check-requires : tie.Need-check-requires
 check-requires c κs = search needs
@@ -51,8 +57,10 @@ enum-told c = search needs
 
 carve-checked-requires : tie.Need-carve-checked-requires
 carve-checked-requires c κs =
-    let a = c .before .before .before .before .before .before .before .before .before .before .before .before .before .before .before .before .before .before .args in
-    (ltb-false _ _ (narrow (c .before .before .before .before .before .before .before)), tables-fit (length (now (a .db))) (a .size) (now (a .roots)) (now (a .counts)) (now (a .hints)) (sym (c .before .before .before .before .before .before .check .ensures) ∙ c .before .before .before .before .enum-told .given .1))
+    let narrowed = c .before .before .before .before .before .before .before in
+    let start = narrowed .before .before .before .before .before .before .before .before .before .before .before in
+    let a = start .args in
+    (ltb-false _ _ (narrow narrowed), tables-fit (length (now (a .db))) (a .size) (now (a .roots)) (now (a .counts)) (now (a .hints)) (sym (c .before .before .before .before .before .before .check .ensures) ∙ c .before .before .before .before .enum-told .given .1))
 
 clear-flags-requires : tie.Need-clear-flags-requires
 clear-flags-requires c κs = search needs
@@ -77,10 +85,13 @@ same-length-4 c = search needs
 
 returns-3 : tie.Need-returns-3
 returns-3 c =
-    let a = c .before .before .before .before .before .before .before .before .before .before .before .before .before .before .before .before .before .before .before .before .before .before .before .before .before .before .before .before .before .before .before .before .before .before .before .args in
-    let x = c .before .before .before .before .before .before .before .before .before .before .before .before .before .before .before .before .carve-checked in
+    let carved = c .before .before .before .before .before .before .before .before .before .before .before .before .before .before .before .before in
+    let narrowed = carved .before .before .before .before .before .before .before .before in
+    let start = narrowed .before .before .before .before .before .before .before .before .before .before .before in
+    let a = start .args in
+    let x = carved .carve-checked in
     rw (c .before .before .before .before .before .before .clear-flags .ensures, c .before .before .clear-stack .ensures, x .kept .1 .1 .1 .1 .1 .1 .0, x .kept .1 .1 .1 .1 .1 .1 .1 .0)
-    (tables-passed (asked (a .how) (now (a .db)) (a .size) (now (a .roots)) (now (a .counts)) (now (a .hints)) (now (a .flags)) (now (a .stack)) (now (a .rows)) (now (a .cols))) _ _ _ (others (c .before .before .before .before .before .before .before .before .before .before .before .before .before .before .before .before .before .before .before .before .before .before .before .before) ∙ sym (c .before .before .before .before .before .before .before .before .before .before .before .before .before .before .before .before .before .before .before .before .before .before .before .check .ensures) ∙ c .before .before .before .before .before .before .before .before .before .before .before .before .before .before .before .before .before .before .before .before .before .enum-told .given .1) (x .ensures))
+    (tables-passed (asked (a .how) (now (a .db)) (a .size) (now (a .roots)) (now (a .counts)) (now (a .hints)) (now (a .flags)) (now (a .stack)) (now (a .rows)) (now (a .cols))) _ _ _ (others narrowed ∙ sym (carved .before .before .before .before .before .before .before .check .ensures) ∙ carved .before .before .before .before .before .enum-told .given .1) (x .ensures))
 
 pub carve-tables-spec : {M : Type 1} → statement M
 carve-tables-spec =

@@ -7,7 +7,7 @@ use lib.Ieee.{ofBits, ofInt, div, mul, round, toBits}
 use lib.ListN.{length, replicate}
 use Rattle.attempt.specs.Attempt.{headerFits, typesFrom, bodiesFrom, judged, attemptAt}
 use Rattle.attempt.specs.Hints.{isInteger, isReal, isText, isBlob, suits}
-use Rattle.carving.specs.Calls.{hitsBy, leafHits, sliceAnswer, sliceRows, sliceCols, numberedAnswer, numberedRows, numberedCols}
+use Rattle.carving.specs.Calls.{hitsBy, leafHits, sliceAsked, sliceAnswer, sliceRows, sliceCols, numberedAsked, numberedAnswer, numberedRows, numberedCols}
 use Rattle.carving.specs.declared.inner.Carving.{Carving}
 use Rattle.carving.specs.declared.inner.Carving.the-variants.{Freeblocks, Gaps, Payload}
 use Rattle.freeblock.proofs.Cases.{page, row, pair}
@@ -42,8 +42,9 @@ data Case : Type 0 where
 
 computed : Case → Outcome
 computed (slice how hints head words o) =
-    let answer = sliceAnswer how page head 100 hints words words in
-    out (filledNumber answer) (filledWritten answer) (sliceRows how page head 100 hints (kept words) (kept words)) (sliceCols how page head 100 hints (kept words) (kept words))
+    let a = sliceAsked how page head 100 hints (kept words) (kept words) in
+    let answer = sliceAnswer a in
+    out (filledNumber answer) (filledWritten answer) (sliceRows a) (sliceCols a)
 
 expected : Case → Outcome
 expected (slice how hints head words o) = o
@@ -78,8 +79,9 @@ db = replicate 512 0 ++ page ++ replicate 475 0
 first : Carving → ℕ → Outcome
 first how columns =
     let hints : List ℕ = replicate columns 0 in
-    let answer = numberedAnswer how db 512 1 hints 8 8 in
-    out (filledNumber answer) (filledWritten answer) (numberedRows how db 512 1 hints (kept 8) (kept 8)) (numberedCols how db 512 1 hints (kept 8) (kept 8))
+    let a = numberedAsked how db 512 1 hints (kept 8) (kept 8) in
+    let answer = numberedAnswer a in
+    out (filledNumber answer) (filledWritten answer) (numberedRows a) (numberedCols a)
 
 too-wide : first (Gaps OneByte) 127 ≡ out 1 0 (kept 8) (kept 8)
 unfolding first out kept db page numberedAnswer numberedRows numberedCols

@@ -1,10 +1,9 @@
 -- A contract fixes what a call leaves: any two outcomes that it allows for the same arguments are equal. `Post` is the function's own postcondition.
 -- Said once for each kind of call, whatever the way of carving, and by that of each public call.
 -- Assumes nothing.
-use Prim.Native.Nat.{ℕ}
 use mathlib.Core.Path.{_≡_, sym, _∙_}
-use mathlib.Core.List.{List}
 use denote.Ref.{now}
+use Rattle.carving.specs.Calls.{OnPage, onPage, SliceAsked, SlicePromises, NumberedAsked, NumberedPromises}
 use Rattle.carving.specs.declared.inner.Carving.the-variants.{Freeblocks, Gaps, Payload}
 use Rattle.carving.proofs.freeblocks.recover_page_freeblocks.Reads as recover-page-freeblocks
 use Rattle.carving.proofs.freeblocks.recover_slice_freeblocks.Reads as recover-slice-freeblocks
@@ -14,25 +13,22 @@ use Rattle.carving.proofs.gaps.scan_single_page_gap.Reads as scan-singl
 use Rattle.carving.proofs.single.carve_numbered.Reads as carve-numbered
 use Rattle.carving.proofs.single.carve_slice.Reads as carve-slice
 use Rattle.record.proofs.Unique.{FixesSeen}
-use Rattle.sheet.specs.declared.filled.Filled.{Filled}
 
--- ---- one page: the answer, the rows and the column entries at exit
-pub record OnPage : Type 0 where
-  pub answer : Filled
-  pub rows : List ℕ
-  pub cols : List ℕ
-
-abbrev pub onPage : Filled → List ℕ → List ℕ → OnPage
-onPage r rows cols = record { answer = r; rows = rows; cols = cols }
-
+-- ---- the promises fix what is left on one page: the answer, the rows and the column entries at exit
 same-page : (x y : OnPage) → x .answer ≡ y .answer → x .rows ≡ y .rows → x .cols ≡ y .cols → x ≡ y
 same-page x y e f g = rw (e, f, g)
 
+pub slice-fixed : (a : SliceAsked) (x y : OnPage) → SlicePromises a x → SlicePromises a y → x ≡ y
+slice-fixed a x y p q = same-page x y (p .answer ∙ sym (q .answer)) (p .rows ∙ sym (q .rows)) (p .entries ∙ sym (q .entries))
+
+pub numbered-fixed : (a : NumberedAsked) (x y : OnPage) → NumberedPromises a x → NumberedPromises a y → x ≡ y
+numbered-fixed a x y p q = same-page x y (p .answer ∙ sym (q .answer)) (p .rows ∙ sym (q .rows)) (p .entries ∙ sym (q .entries))
+
 pub carve-slice-fixed : FixesSeen carve-slice.Post (λ k r s. onPage r (now (s .1 .1 .1 .1 .1 .0)) (now (s .1 .1 .1 .1 .1 .1 .0)))
-carve-slice-fixed k a x y s t p q = same-page _ _ (p .0 ∙ sym (q .0)) (p .1 .0 ∙ sym (q .1 .0)) (p .1 .1 .0 ∙ sym (q .1 .1 .0))
+carve-slice-fixed k a x y s t p q = slice-fixed _ _ _ p q
 
 pub carve-numbered-fixed : FixesSeen carve-numbered.Post (λ k r s. onPage r (now (s .1 .1 .1 .1 .1 .0)) (now (s .1 .1 .1 .1 .1 .1 .0)))
-carve-numbered-fixed k a x y s t p q = same-page _ _ (p .0 ∙ sym (q .0)) (p .1 .0 ∙ sym (q .1 .0)) (p .1 .1 .0 ∙ sym (q .1 .1 .0))
+carve-numbered-fixed k a x y s t p q = numbered-fixed _ _ _ p q
 
 -- ---- the public calls
 pub recover-slice-freeblocks-fixed : FixesSeen recover-slice-freeblocks.Post (λ k r s. onPage r (now (s .1 .1 .1 .1 .0)) (now (s .1 .1 .1 .1 .1 .0)))

@@ -1,6 +1,7 @@
--- The calls that carve one page, by the way in which it is carved: of a page slice, and of a page by its number (rules 9.14, 10.5 and 11.8).
+-- The calls that carve one page, by the way in which it is carved: of a page slice, and of a page by its number (rules 9.14, 10.5, 11.8).
 -- Assumes nothing.
 use Prim.Native.Nat.{ℕ}
+use mathlib.Core.Path.{_≡_}
 use mathlib.Core.Bool.{not}
 use mathlib.Core.List.{List, _∷_}
 use lib.Dec.{ltb}
@@ -13,10 +14,12 @@ use Rattle.gap.specs.Gap.{pageHits as gapPageHits}
 use Rattle.hit.specs.declared.inner.Spot.{Spot}
 use Rattle.page.specs.Page.{startOf, pageOf, headOf, pageChecks}
 use Rattle.rebuild.specs.Header.{mostBy}
+use Rattle.sheet.specs.Filled.{filledNumber, filledWritten}
 use Rattle.sheet.specs.Limits.{mostColumns, countFits, hintsKnown}
 use Rattle.sheet.specs.Refusal.{Check, firstHeld}
 use Rattle.sheet.specs.Slice.{sliceChecks}
 use Rattle.sheet.specs.declared.filled.Filled.{Filled}
+use Rattle.sheet.specs.declared.refusal.Checked.{Checked}
 use Rattle.sheet.specs.declared.refusal.Refusal.the-variants.{ColumnCount, Malformed}
 use Rattle.sheet.specs.Hits.{Hit, pageAnswerOf, pageRowsOf, pageColsOf, pageNumberOf, pageWrittenOf}
 use Rattle.walk.specs.Carve.{Carver}
@@ -33,8 +36,8 @@ widthBy (Payload how) = mostBy how
 abbrev pub tooWide : Carving → ℕ → Check
 tooWide how columns = record { refusal = ColumnCount; holds = ltb (widthBy how) columns }
 
--- what stands on a page whose b-tree header is at `head`: rule 10.4 for the freeblocks, 11.8 for the gap and the blocks behind it, 11.5, 11.6
--- and 11.9 for the payload of one block
+-- what stands on a page whose b-tree header is at `head`: rule 10.4 for the freeblocks, 11.8 for the gap and the blocks behind it, and
+-- 11.5, 11.6 and 11.9 for the payload of one block
 unfoldable pub hitsBy : Carving → List ℕ → ℕ → List ℕ → Spot → List Hit
 hitsBy Freeblocks page head hints spot = pageHits page head hints spot
 hitsBy (Gaps how) page head hints spot = gapPageHits how page head hints spot
@@ -45,34 +48,81 @@ unfoldable pub leafHits : Carving → List ℕ → ℕ → Carver
 leafHits how db size table hints p =
     hitsBy how (pageOf db size p) (headOf p) hints (record { base = startOf size p; start = startOf size p; table = table })
 
--- ---- a slice of `len` bytes, with the absolute offset of its first byte
+-- ---- what a call on one page leaves: its answer, and what the lists of rows and of entries hold at exit
+pub record OnPage : Type 0 where
+  pub answer : Filled
+  pub rows : List ℕ
+  pub cols : List ℕ
+
+abbrev pub onPage : Filled → List ℕ → List ℕ → OnPage
+onPage r rows cols = record { answer = r; rows = rows; cols = cols }
+
+-- ---- a slice
+
+-- what a call is asked: how to carve, the slice, where its b-tree header stands, the absolute offset of its first byte, hints, the lists
+pub record SliceAsked : Type 0 where
+  pub how : Carving
+  pub page : List ℕ
+  pub head : ℕ
+  pub base : ℕ
+  pub hints : List ℕ
+  pub rows : List ℕ
+  pub cols : List ℕ
+
+abbrev pub sliceAsked : Carving → List ℕ → ℕ → ℕ → List ℕ → List ℕ → List ℕ → SliceAsked
+sliceAsked how page head base hints rows cols =
+    record { how = how; page = page; head = head; base = base; hints = hints; rows = rows; cols = cols }
+
+-- for a slice of `len` bytes
 abbrev pub sliceChecksBy : Carving → ℕ → List ℕ → ℕ → List Check
 sliceChecksBy how len hints base = tooWide how (length hints) ∷ sliceChecks len hints base
 
-abbrev pub sliceHits : Carving → List ℕ → ℕ → List ℕ → ℕ → List Hit
-sliceHits how page head hints base = hitsBy how page head hints (record { base = base; start = 0; table = 0 })
+abbrev pub sliceChecked : SliceAsked → Checked
+sliceChecked a = firstHeld (sliceChecksBy (a .how) (length (a .page)) (a .hints) (a .base))
 
-unfoldable pub sliceAnswer : Carving → List ℕ → ℕ → ℕ → List ℕ → ℕ → ℕ → Filled
-sliceAnswer how page head base hints rows cols =
-    pageAnswerOf (firstHeld (sliceChecksBy how (length page) hints base)) (sliceHits how page head hints base) (length hints) rows cols
+abbrev pub sliceHits : SliceAsked → List Hit
+sliceHits a = hitsBy (a .how) (a .page) (a .head) (a .hints) (record { base = a .base; start = 0; table = 0 })
 
-unfoldable pub sliceRows : Carving → List ℕ → ℕ → ℕ → List ℕ → List ℕ → List ℕ → List ℕ
-sliceRows how page head base hints rows cols =
-    pageRowsOf (firstHeld (sliceChecksBy how (length page) hints base)) (sliceHits how page head hints base) (length hints) rows cols
+unfoldable pub sliceAnswer : SliceAsked → Filled
+sliceAnswer a = pageAnswerOf (sliceChecked a) (sliceHits a) (length (a .hints)) (length (a .rows)) (length (a .cols))
 
-unfoldable pub sliceCols : Carving → List ℕ → ℕ → ℕ → List ℕ → List ℕ → List ℕ → List ℕ
-sliceCols how page head base hints rows cols =
-    pageColsOf (firstHeld (sliceChecksBy how (length page) hints base)) (sliceHits how page head hints base) (length hints) rows cols
+unfoldable pub sliceNumber : SliceAsked → ℕ
+sliceNumber a = pageNumberOf (sliceChecked a) (sliceHits a) (length (a .hints)) (length (a .rows)) (length (a .cols))
 
-unfoldable pub sliceNumber : Carving → List ℕ → ℕ → ℕ → List ℕ → ℕ → ℕ → ℕ
-sliceNumber how page head base hints rows cols =
-    pageNumberOf (firstHeld (sliceChecksBy how (length page) hints base)) (sliceHits how page head hints base) (length hints) rows cols
+unfoldable pub sliceWritten : SliceAsked → ℕ
+sliceWritten a = pageWrittenOf (sliceChecked a) (sliceHits a) (length (a .hints)) (length (a .rows)) (length (a .cols))
 
-unfoldable pub sliceWritten : Carving → List ℕ → ℕ → ℕ → List ℕ → ℕ → ℕ → ℕ
-sliceWritten how page head base hints rows cols =
-    pageWrittenOf (firstHeld (sliceChecksBy how (length page) hints base)) (sliceHits how page head hints base) (length hints) rows cols
+unfoldable pub sliceRows : SliceAsked → List ℕ
+sliceRows a = pageRowsOf (sliceChecked a) (sliceHits a) (length (a .hints)) (a .rows) (a .cols)
 
--- ---- a page of a database of `len` bytes
+unfoldable pub sliceCols : SliceAsked → List ℕ
+sliceCols a = pageColsOf (sliceChecked a) (sliceHits a) (length (a .hints)) (a .rows) (a .cols)
+
+-- what it promises
+pub record SlicePromises (a : SliceAsked) (x : OnPage) : Type 0 where
+  pub answer : x .answer ≡ sliceAnswer a
+  pub number : filledNumber (x .answer) ≡ sliceNumber a
+  pub written : filledWritten (x .answer) ≡ sliceWritten a
+  pub rows : x .rows ≡ sliceRows a
+  pub entries : x .cols ≡ sliceCols a
+
+-- ---- a page of a database
+
+-- what a call is asked: how to carve, the database, its page size, the page's number, hints, the lists
+pub record NumberedAsked : Type 0 where
+  pub how : Carving
+  pub db : List ℕ
+  pub size : ℕ
+  pub page : ℕ
+  pub hints : List ℕ
+  pub rows : List ℕ
+  pub cols : List ℕ
+
+abbrev pub numberedAsked : Carving → List ℕ → ℕ → ℕ → List ℕ → List ℕ → List ℕ → NumberedAsked
+numberedAsked how db size page hints rows cols =
+    record { how = how; db = db; size = size; page = page; hints = hints; rows = rows; cols = cols }
+
+-- in a database of `len` bytes
 abbrev pub numberedChecks : ℕ → ℕ → ℕ → List ℕ → List Check
 numberedChecks len size p hints =
     record { refusal = ColumnCount; holds = not (countFits (length hints)) }
@@ -82,22 +132,31 @@ numberedChecks len size p hints =
 abbrev pub numberedChecksBy : Carving → ℕ → ℕ → ℕ → List ℕ → List Check
 numberedChecksBy how len size p hints = tooWide how (length hints) ∷ numberedChecks len size p hints
 
-unfoldable pub numberedAnswer : Carving → List ℕ → ℕ → ℕ → List ℕ → ℕ → ℕ → Filled
-numberedAnswer how db size p hints rows cols =
-    pageAnswerOf (firstHeld (numberedChecksBy how (length db) size p hints)) (leafHits how db size 0 hints p) (length hints) rows cols
+abbrev pub numberedChecked : NumberedAsked → Checked
+numberedChecked a = firstHeld (numberedChecksBy (a .how) (length (a .db)) (a .size) (a .page) (a .hints))
 
-unfoldable pub numberedRows : Carving → List ℕ → ℕ → ℕ → List ℕ → List ℕ → List ℕ → List ℕ
-numberedRows how db size p hints rows cols =
-    pageRowsOf (firstHeld (numberedChecksBy how (length db) size p hints)) (leafHits how db size 0 hints p) (length hints) rows cols
+abbrev pub numberedHits : NumberedAsked → List Hit
+numberedHits a = leafHits (a .how) (a .db) (a .size) 0 (a .hints) (a .page)
 
-unfoldable pub numberedCols : Carving → List ℕ → ℕ → ℕ → List ℕ → List ℕ → List ℕ → List ℕ
-numberedCols how db size p hints rows cols =
-    pageColsOf (firstHeld (numberedChecksBy how (length db) size p hints)) (leafHits how db size 0 hints p) (length hints) rows cols
+unfoldable pub numberedAnswer : NumberedAsked → Filled
+numberedAnswer a = pageAnswerOf (numberedChecked a) (numberedHits a) (length (a .hints)) (length (a .rows)) (length (a .cols))
 
-unfoldable pub numberedNumber : Carving → List ℕ → ℕ → ℕ → List ℕ → ℕ → ℕ → ℕ
-numberedNumber how db size p hints rows cols =
-    pageNumberOf (firstHeld (numberedChecksBy how (length db) size p hints)) (leafHits how db size 0 hints p) (length hints) rows cols
+unfoldable pub numberedNumber : NumberedAsked → ℕ
+numberedNumber a = pageNumberOf (numberedChecked a) (numberedHits a) (length (a .hints)) (length (a .rows)) (length (a .cols))
 
-unfoldable pub numberedWritten : Carving → List ℕ → ℕ → ℕ → List ℕ → ℕ → ℕ → ℕ
-numberedWritten how db size p hints rows cols =
-    pageWrittenOf (firstHeld (numberedChecksBy how (length db) size p hints)) (leafHits how db size 0 hints p) (length hints) rows cols
+unfoldable pub numberedWritten : NumberedAsked → ℕ
+numberedWritten a = pageWrittenOf (numberedChecked a) (numberedHits a) (length (a .hints)) (length (a .rows)) (length (a .cols))
+
+unfoldable pub numberedRows : NumberedAsked → List ℕ
+numberedRows a = pageRowsOf (numberedChecked a) (numberedHits a) (length (a .hints)) (a .rows) (a .cols)
+
+unfoldable pub numberedCols : NumberedAsked → List ℕ
+numberedCols a = pageColsOf (numberedChecked a) (numberedHits a) (length (a .hints)) (a .rows) (a .cols)
+
+-- what it promises
+pub record NumberedPromises (a : NumberedAsked) (x : OnPage) : Type 0 where
+  pub answer : x .answer ≡ numberedAnswer a
+  pub number : filledNumber (x .answer) ≡ numberedNumber a
+  pub written : filledWritten (x .answer) ≡ numberedWritten a
+  pub rows : x .rows ≡ numberedRows a
+  pub entries : x .cols ≡ numberedCols a

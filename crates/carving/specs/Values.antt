@@ -3,7 +3,7 @@
 use Prim.Native.Nat.{ℕ, _+_, _-_}
 use mathlib.Core.List.{List, [], _∷_, _++_}
 use lib.ListN.{length, take, replicate}
-use Rattle.carving.specs.Calls.{sliceChecksBy, numberedChecksBy}
+use Rattle.carving.specs.Calls.{SliceAsked, sliceChecked, NumberedAsked, numberedChecked}
 use Rattle.carving.specs.declared.inner.Carving.{Carving}
 use Rattle.carving.specs.declared.inner.Carving.the-variants.{Freeblocks, Gaps, Payload}
 use Rattle.cells.specs.Values.{payloadValues, inSlice}
@@ -13,7 +13,7 @@ use Rattle.page.specs.Page.{startOf, pageOf, headOf}
 use Rattle.record.specs.declared.record.Value.{Value}
 use Rattle.record.specs.declared.record.Value.the-variants.{Null}
 use Rattle.sheet.specs.Columns.{roomOf}
-use Rattle.sheet.specs.Refusal.{firstHeld, afterOrKept}
+use Rattle.sheet.specs.Refusal.{afterOrKept}
 
 -- row by row, as `hitsBy` has them, said of a slice in which the page begins at `start`
 unfoldable pub valuesBy : Carving → ℕ → List ℕ → ℕ → List ℕ → List (List Value)
@@ -30,14 +30,16 @@ abbrev pub groupsValues : ℕ → List (List Value) → List Value
 groupsValues width [] = []
 groupsValues width (vs ∷ vss) = (vs ++ replicate (width - length vs) Null) ++ groupsValues width vss
 
--- those of the rows that a call writes into lists of so many words: on a slice,
-unfoldable pub sliceValues : Carving → List ℕ → ℕ → ℕ → List ℕ → ℕ → ℕ → List Value
-sliceValues how page head base hints rows cols =
-    afterOrKept (firstHeld (sliceChecksBy how (length page) hints base)) (groupsValues (length hints) (take (roomOf rows cols (length hints)) (valuesBy how 0 page head hints))) []
+-- those of the rows that a call writes: on a slice,
+unfoldable pub sliceValues : SliceAsked → List Value
+sliceValues a =
+    let room = roomOf (length (a .rows)) (length (a .cols)) (length (a .hints)) in
+    let values = valuesBy (a .how) 0 (a .page) (a .head) (a .hints) in
+    afterOrKept (sliceChecked a) (groupsValues (length (a .hints)) (take room values)) []
 
 -- and on a page of a database
-unfoldable pub numberedValues : Carving → List ℕ → ℕ → ℕ → List ℕ → ℕ → ℕ → List Value
-numberedValues how db size p hints rows cols =
-    afterOrKept (firstHeld (numberedChecksBy how (length db) size p hints))
-    (groupsValues (length hints) (take (roomOf rows cols (length hints)) (leafValues how db size hints p)))
-    []
+unfoldable pub numberedValues : NumberedAsked → List Value
+numberedValues a =
+    let room = roomOf (length (a .rows)) (length (a .cols)) (length (a .hints)) in
+    let values = leafValues (a .how) (a .db) (a .size) (a .hints) (a .page) in
+    afterOrKept (numberedChecked a) (groupsValues (length (a .hints)) (take room values)) []

@@ -3,11 +3,8 @@ use crate::inner::Carving;
 use crate::single::carve_numbered;
 use crate::single::carve_slice;
 use sheet::filled::Filled;
-ghost use mathlib.Core.Path.{_≡_};
-ghost use lib.ListN.{length};
-ghost use Rattle.carving.specs.Calls.{sliceAnswer, sliceRows, sliceCols, sliceNumber, sliceWritten, numberedAnswer, numberedRows, numberedCols, numberedNumber, numberedWritten};
+ghost use Rattle.carving.specs.Calls.{SlicePromises, sliceAsked, NumberedPromises, numberedAsked, onPage};
 ghost use Rattle.carving.specs.declared.inner.Carving.the-variants.{Freeblocks};
-ghost use Rattle.sheet.specs.Filled.{filledNumber, filledWritten};
 
 pub fn recover_slice_freeblocks(
     page: &[u8],
@@ -17,11 +14,9 @@ pub fn recover_slice_freeblocks(
     rows: &mut [u64],
     cols: &mut [u64],
 ) -> Filled
-    ensures answer { λ r. ⌜ r ≡ sliceAnswer Freeblocks (now (page .entry)) head base (now (hints .entry)) (length (now (rows .entry))) (length (now (cols .entry))) ⌝ }
-    ensures rows { λ _. ⌜ now (rows .exit) ≡ sliceRows Freeblocks (now (page .entry)) head base (now (hints .entry)) (now (rows .entry)) (now (cols .entry)) ⌝ }
-    ensures cols { λ _. ⌜ now (cols .exit) ≡ sliceCols Freeblocks (now (page .entry)) head base (now (hints .entry)) (now (rows .entry)) (now (cols .entry)) ⌝ }
-    ensures number { λ r. ⌜ filledNumber r ≡ sliceNumber Freeblocks (now (page .entry)) head base (now (hints .entry)) (length (now (rows .entry))) (length (now (cols .entry))) ⌝ }
-    ensures written { λ r. ⌜ filledWritten r ≡ sliceWritten Freeblocks (now (page .entry)) head base (now (hints .entry)) (length (now (rows .entry))) (length (now (cols .entry))) ⌝ }
+    ensures { λ r. ⌜ SlicePromises
+        (sliceAsked Freeblocks (now (page .entry)) head base (now (hints .entry)) (now (rows .entry)) (now (cols .entry)))
+        (onPage r (now (rows .exit)) (now (cols .exit))) ⌝ }
 {
     carve_slice(Carving::Freeblocks, page, head, base, hints, rows, cols)
 }
@@ -34,11 +29,9 @@ pub fn recover_page_freeblocks(
     rows: &mut [u64],
     cols: &mut [u64],
 ) -> Filled
-    ensures answer { λ r. ⌜ r ≡ numberedAnswer Freeblocks (now (db .entry)) size page (now (hints .entry)) (length (now (rows .entry))) (length (now (cols .entry))) ⌝ }
-    ensures rows { λ _. ⌜ now (rows .exit) ≡ numberedRows Freeblocks (now (db .entry)) size page (now (hints .entry)) (now (rows .entry)) (now (cols .entry)) ⌝ }
-    ensures cols { λ _. ⌜ now (cols .exit) ≡ numberedCols Freeblocks (now (db .entry)) size page (now (hints .entry)) (now (rows .entry)) (now (cols .entry)) ⌝ }
-    ensures number { λ r. ⌜ filledNumber r ≡ numberedNumber Freeblocks (now (db .entry)) size page (now (hints .entry)) (length (now (rows .entry))) (length (now (cols .entry))) ⌝ }
-    ensures written { λ r. ⌜ filledWritten r ≡ numberedWritten Freeblocks (now (db .entry)) size page (now (hints .entry)) (length (now (rows .entry))) (length (now (cols .entry))) ⌝ }
+    ensures { λ r. ⌜ NumberedPromises
+        (numberedAsked Freeblocks (now (db .entry)) size page (now (hints .entry)) (now (rows .entry)) (now (cols .entry)))
+        (onPage r (now (rows .exit)) (now (cols .exit))) ⌝ }
 {
     carve_numbered(Carving::Freeblocks, db, size, page, hints, rows, cols)
 }

@@ -13,11 +13,9 @@ use sheet::inner::Carved;
 use sheet::refusal::Checked;
 use sheet::refusal::Refusal;
 use sheet::slice::check_slice;
-ghost use mathlib.Core.Path.{_≡_};
 ghost use lib.ListN.{length};
-ghost use Rattle.carving.specs.Calls.{hitsBy, sliceAnswer, sliceRows, sliceCols, sliceNumber, sliceWritten, numberedAnswer, numberedRows, numberedCols, numberedNumber, numberedWritten};
+ghost use Rattle.carving.specs.Calls.{hitsBy, SlicePromises, sliceAsked, NumberedPromises, numberedAsked, onPage};
 ghost use Rattle.carving.specs.Inner.{Filling};
-ghost use Rattle.sheet.specs.Filled.{filledNumber, filledWritten};
 ghost use Rattle.sheet.specs.Inner.{FilledIs};
 
 // Carves one page into lists that hold nothing yet.
@@ -31,7 +29,9 @@ fn fill(
     cols: &mut [u64],
 ) -> Filled
     requires { ⌜ Filling how (length (now page)) (length (now hints)) spot ⌝ }
-    ensures { λ r. ⌜ FilledIs (hitsBy how (now (page .entry)) head (now (hints .entry)) spot) (length (now (hints .entry))) (now (rows .entry)) (now (cols .entry)) r (now (rows .exit)) (now (cols .exit)) ⌝ }
+    ensures { λ r. ⌜ FilledIs (hitsBy how (now (page .entry)) head (now (hints .entry)) spot)
+        (length (now (hints .entry))) (now (rows .entry)) (now (cols .entry))
+        r (now (rows .exit)) (now (cols .exit)) ⌝ }
 {
     let width = hints.len();
     let most = room(rows.len(), cols.len(), width);
@@ -52,11 +52,9 @@ pub fn carve_slice(
     rows: &mut [u64],
     cols: &mut [u64],
 ) -> Filled
-    ensures answer { λ r. ⌜ r ≡ sliceAnswer how (now (page .entry)) head base (now (hints .entry)) (length (now (rows .entry))) (length (now (cols .entry))) ⌝ }
-    ensures rows { λ _. ⌜ now (rows .exit) ≡ sliceRows how (now (page .entry)) head base (now (hints .entry)) (now (rows .entry)) (now (cols .entry)) ⌝ }
-    ensures cols { λ _. ⌜ now (cols .exit) ≡ sliceCols how (now (page .entry)) head base (now (hints .entry)) (now (rows .entry)) (now (cols .entry)) ⌝ }
-    ensures number { λ r. ⌜ filledNumber r ≡ sliceNumber how (now (page .entry)) head base (now (hints .entry)) (length (now (rows .entry))) (length (now (cols .entry))) ⌝ }
-    ensures written { λ r. ⌜ filledWritten r ≡ sliceWritten how (now (page .entry)) head base (now (hints .entry)) (length (now (rows .entry))) (length (now (cols .entry))) ⌝ }
+    ensures { λ r. ⌜ SlicePromises
+        (sliceAsked how (now (page .entry)) head base (now (hints .entry)) (now (rows .entry)) (now (cols .entry)))
+        (onPage r (now (rows .exit)) (now (cols .exit))) ⌝ }
 {
     if how.refuses(hints.len()) {
         return Filled::Refused(Refusal::ColumnCount);
@@ -83,11 +81,9 @@ pub fn carve_numbered(
     rows: &mut [u64],
     cols: &mut [u64],
 ) -> Filled
-    ensures answer { λ r. ⌜ r ≡ numberedAnswer how (now (db .entry)) size page (now (hints .entry)) (length (now (rows .entry))) (length (now (cols .entry))) ⌝ }
-    ensures rows { λ _. ⌜ now (rows .exit) ≡ numberedRows how (now (db .entry)) size page (now (hints .entry)) (now (rows .entry)) (now (cols .entry)) ⌝ }
-    ensures cols { λ _. ⌜ now (cols .exit) ≡ numberedCols how (now (db .entry)) size page (now (hints .entry)) (now (rows .entry)) (now (cols .entry)) ⌝ }
-    ensures number { λ r. ⌜ filledNumber r ≡ numberedNumber how (now (db .entry)) size page (now (hints .entry)) (length (now (rows .entry))) (length (now (cols .entry))) ⌝ }
-    ensures written { λ r. ⌜ filledWritten r ≡ numberedWritten how (now (db .entry)) size page (now (hints .entry)) (length (now (rows .entry))) (length (now (cols .entry))) ⌝ }
+    ensures { λ r. ⌜ NumberedPromises
+        (numberedAsked how (now (db .entry)) size page (now (hints .entry)) (now (rows .entry)) (now (cols .entry)))
+        (onPage r (now (rows .exit)) (now (cols .exit))) ⌝ }
 {
     if how.refuses(hints.len()) {
         return Filled::Refused(Refusal::ColumnCount);

@@ -12,11 +12,11 @@ use walk::inner::tables::counts_fit;
 ghost use mathlib.Core.Path.{_≡_};
 ghost use mathlib.Core.List.{[], _∷_};
 ghost use lib.ListN.{length};
-ghost use Rattle.carving.specs.Calls.{sliceRows, sliceCols, sliceNumber, sliceWritten, numberedRows, numberedCols, numberedNumber, numberedWritten};
+ghost use Rattle.carving.specs.Calls.{sliceAsked, sliceRows, sliceCols, sliceNumber, sliceWritten, numberedAsked, numberedRows, numberedCols, numberedNumber, numberedWritten};
 ghost use Rattle.carving.specs.declared.inner.Carving.the-variants.{Gaps, Payload};
 ghost use Rattle.rebuild.specs.Ways.{named as wayNamed, byName, unnamedNumber};
 ghost use Rattle.sheet.specs.Limits.{countFits};
-ghost use Rattle.tables.specs.Calls.{tabledRows, tabledCols, tabledCleared, tabledNumber, tabledWritten};
+ghost use Rattle.tables.specs.Calls.{asked, tabledRows, tabledCols, tabledCleared, tabledNumber, tabledWritten};
 ghost use Rattle.walk.specs.Carve.{countsFit};
 
 #[no_mangle]
@@ -33,12 +33,24 @@ pub extern "C" fn phs_scan_page_gaps(
     cols: &mut [u64],
     out: &mut [u64; 1],
 ) -> u64
-    ensures number { λ r. ⌜ r ≡ byName (wayNamed rebuilding) (λ how. tabledNumber (Gaps how) (now (db .entry)) size (now (roots .entry)) (now (counts .entry)) (now (hints .entry)) (length (now (flags .entry))) (length (now (stack .entry))) (length (now (rows .entry))) (length (now (cols .entry)))) (unnamedNumber (countsFit (now (counts .entry)))) ⌝ }
-    ensures out { λ _. ⌜ now (out .exit) ≡ byName (wayNamed rebuilding) (λ how. tabledWritten (Gaps how) (now (db .entry)) size (now (roots .entry)) (now (counts .entry)) (now (hints .entry)) (length (now (flags .entry))) (length (now (stack .entry))) (length (now (rows .entry))) (length (now (cols .entry)))) 0 ∷ [] ⌝ }
-    ensures rows { λ _. ⌜ now (rows .exit) ≡ byName (wayNamed rebuilding) (λ how. tabledRows (Gaps how) (now (db .entry)) size (now (roots .entry)) (now (counts .entry)) (now (hints .entry)) (length (now (flags .entry))) (length (now (stack .entry))) (now (rows .entry)) (now (cols .entry))) (now (rows .entry)) ⌝ }
-    ensures cols { λ _. ⌜ now (cols .exit) ≡ byName (wayNamed rebuilding) (λ how. tabledCols (Gaps how) (now (db .entry)) size (now (roots .entry)) (now (counts .entry)) (now (hints .entry)) (length (now (flags .entry))) (length (now (stack .entry))) (now (rows .entry)) (now (cols .entry))) (now (cols .entry)) ⌝ }
-    ensures flags { λ _. ⌜ now (flags .exit) ≡ byName (wayNamed rebuilding) (λ how. tabledCleared (Gaps how) (length (now (db .entry))) size (now (roots .entry)) (now (counts .entry)) (now (hints .entry)) (now (flags .entry))) (now (flags .entry)) ⌝ }
-    ensures stack { λ _. ⌜ now (stack .exit) ≡ byName (wayNamed rebuilding) (λ how. tabledCleared (Gaps how) (length (now (db .entry))) size (now (roots .entry)) (now (counts .entry)) (now (hints .entry)) (now (stack .entry))) (now (stack .entry)) ⌝ }
+    ensures number { λ r. ⌜ r ≡ byName (wayNamed rebuilding) (λ how. tabledNumber
+        (asked (Gaps how) (now (db .entry)) size (now (roots .entry)) (now (counts .entry)) (now (hints .entry))
+        (now (flags .entry)) (now (stack .entry)) (now (rows .entry)) (now (cols .entry)))) (unnamedNumber (countsFit (now (counts .entry)))) ⌝ }
+    ensures out { λ _. ⌜ now (out .exit) ≡ byName (wayNamed rebuilding) (λ how. tabledWritten
+        (asked (Gaps how) (now (db .entry)) size (now (roots .entry)) (now (counts .entry)) (now (hints .entry))
+        (now (flags .entry)) (now (stack .entry)) (now (rows .entry)) (now (cols .entry)))) 0 ∷ [] ⌝ }
+    ensures rows { λ _. ⌜ now (rows .exit) ≡ byName (wayNamed rebuilding) (λ how. tabledRows
+        (asked (Gaps how) (now (db .entry)) size (now (roots .entry)) (now (counts .entry)) (now (hints .entry))
+        (now (flags .entry)) (now (stack .entry)) (now (rows .entry)) (now (cols .entry)))) (now (rows .entry)) ⌝ }
+    ensures cols { λ _. ⌜ now (cols .exit) ≡ byName (wayNamed rebuilding) (λ how. tabledCols
+        (asked (Gaps how) (now (db .entry)) size (now (roots .entry)) (now (counts .entry)) (now (hints .entry))
+        (now (flags .entry)) (now (stack .entry)) (now (rows .entry)) (now (cols .entry)))) (now (cols .entry)) ⌝ }
+    ensures flags { λ _. ⌜ now (flags .exit) ≡ byName (wayNamed rebuilding) (λ how. tabledCleared
+        (asked (Gaps how) (now (db .entry)) size (now (roots .entry)) (now (counts .entry)) (now (hints .entry))
+        (now (flags .entry)) (now (stack .entry)) (now (rows .entry)) (now (cols .entry))) (now (flags .entry))) (now (flags .entry)) ⌝ }
+    ensures stack { λ _. ⌜ now (stack .exit) ≡ byName (wayNamed rebuilding) (λ how. tabledCleared
+        (asked (Gaps how) (now (db .entry)) size (now (roots .entry)) (now (counts .entry)) (now (hints .entry))
+        (now (flags .entry)) (now (stack .entry)) (now (rows .entry)) (now (cols .entry))) (now (stack .entry))) (now (stack .entry)) ⌝ }
 {
     let Way::By(how) = named(rebuilding) else {
         *out = [0];
@@ -71,10 +83,10 @@ pub extern "C" fn phs_scan_page_gap(
     cols: &mut [u64],
     out: &mut [u64; 1],
 ) -> u64
-    ensures number { λ r. ⌜ r ≡ byName (wayNamed rebuilding) (λ how. numberedNumber (Gaps how) (now (db .entry)) size page (now (hints .entry)) (length (now (rows .entry))) (length (now (cols .entry)))) (unnamedNumber (countFits (length (now (hints .entry))))) ⌝ }
-    ensures out { λ _. ⌜ now (out .exit) ≡ byName (wayNamed rebuilding) (λ how. numberedWritten (Gaps how) (now (db .entry)) size page (now (hints .entry)) (length (now (rows .entry))) (length (now (cols .entry)))) 0 ∷ [] ⌝ }
-    ensures rows { λ _. ⌜ now (rows .exit) ≡ byName (wayNamed rebuilding) (λ how. numberedRows (Gaps how) (now (db .entry)) size page (now (hints .entry)) (now (rows .entry)) (now (cols .entry))) (now (rows .entry)) ⌝ }
-    ensures cols { λ _. ⌜ now (cols .exit) ≡ byName (wayNamed rebuilding) (λ how. numberedCols (Gaps how) (now (db .entry)) size page (now (hints .entry)) (now (rows .entry)) (now (cols .entry))) (now (cols .entry)) ⌝ }
+    ensures number { λ r. ⌜ r ≡ byName (wayNamed rebuilding) (λ how. numberedNumber (numberedAsked (Gaps how) (now (db .entry)) size page (now (hints .entry)) (now (rows .entry)) (now (cols .entry)))) (unnamedNumber (countFits (length (now (hints .entry))))) ⌝ }
+    ensures out { λ _. ⌜ now (out .exit) ≡ byName (wayNamed rebuilding) (λ how. numberedWritten (numberedAsked (Gaps how) (now (db .entry)) size page (now (hints .entry)) (now (rows .entry)) (now (cols .entry)))) 0 ∷ [] ⌝ }
+    ensures rows { λ _. ⌜ now (rows .exit) ≡ byName (wayNamed rebuilding) (λ how. numberedRows (numberedAsked (Gaps how) (now (db .entry)) size page (now (hints .entry)) (now (rows .entry)) (now (cols .entry)))) (now (rows .entry)) ⌝ }
+    ensures cols { λ _. ⌜ now (cols .exit) ≡ byName (wayNamed rebuilding) (λ how. numberedCols (numberedAsked (Gaps how) (now (db .entry)) size page (now (hints .entry)) (now (rows .entry)) (now (cols .entry)))) (now (cols .entry)) ⌝ }
 {
     let Way::By(how) = named(rebuilding) else {
         *out = [0];
@@ -96,10 +108,10 @@ pub extern "C" fn phs_scan_single_page_gap(
     cols: &mut [u64],
     out: &mut [u64; 1],
 ) -> u64
-    ensures number { λ r. ⌜ r ≡ byName (wayNamed rebuilding) (λ how. sliceNumber (Gaps how) (now (page .entry)) head base (now (hints .entry)) (length (now (rows .entry))) (length (now (cols .entry)))) (unnamedNumber (countFits (length (now (hints .entry))))) ⌝ }
-    ensures out { λ _. ⌜ now (out .exit) ≡ byName (wayNamed rebuilding) (λ how. sliceWritten (Gaps how) (now (page .entry)) head base (now (hints .entry)) (length (now (rows .entry))) (length (now (cols .entry)))) 0 ∷ [] ⌝ }
-    ensures rows { λ _. ⌜ now (rows .exit) ≡ byName (wayNamed rebuilding) (λ how. sliceRows (Gaps how) (now (page .entry)) head base (now (hints .entry)) (now (rows .entry)) (now (cols .entry))) (now (rows .entry)) ⌝ }
-    ensures cols { λ _. ⌜ now (cols .exit) ≡ byName (wayNamed rebuilding) (λ how. sliceCols (Gaps how) (now (page .entry)) head base (now (hints .entry)) (now (rows .entry)) (now (cols .entry))) (now (cols .entry)) ⌝ }
+    ensures number { λ r. ⌜ r ≡ byName (wayNamed rebuilding) (λ how. sliceNumber (sliceAsked (Gaps how) (now (page .entry)) head base (now (hints .entry)) (now (rows .entry)) (now (cols .entry)))) (unnamedNumber (countFits (length (now (hints .entry))))) ⌝ }
+    ensures out { λ _. ⌜ now (out .exit) ≡ byName (wayNamed rebuilding) (λ how. sliceWritten (sliceAsked (Gaps how) (now (page .entry)) head base (now (hints .entry)) (now (rows .entry)) (now (cols .entry)))) 0 ∷ [] ⌝ }
+    ensures rows { λ _. ⌜ now (rows .exit) ≡ byName (wayNamed rebuilding) (λ how. sliceRows (sliceAsked (Gaps how) (now (page .entry)) head base (now (hints .entry)) (now (rows .entry)) (now (cols .entry)))) (now (rows .entry)) ⌝ }
+    ensures cols { λ _. ⌜ now (cols .exit) ≡ byName (wayNamed rebuilding) (λ how. sliceCols (sliceAsked (Gaps how) (now (page .entry)) head base (now (hints .entry)) (now (rows .entry)) (now (cols .entry)))) (now (cols .entry)) ⌝ }
 {
     let Way::By(how) = named(rebuilding) else {
         *out = [0];
@@ -120,10 +132,10 @@ pub extern "C" fn phs_parse_cells_from_freeblock(
     cols: &mut [u64],
     out: &mut [u64; 1],
 ) -> u64
-    ensures number { λ r. ⌜ r ≡ byName (wayNamed rebuilding) (λ how. sliceNumber (Payload how) (now (payload .entry)) 0 base (now (hints .entry)) (length (now (rows .entry))) (length (now (cols .entry)))) (unnamedNumber (countFits (length (now (hints .entry))))) ⌝ }
-    ensures out { λ _. ⌜ now (out .exit) ≡ byName (wayNamed rebuilding) (λ how. sliceWritten (Payload how) (now (payload .entry)) 0 base (now (hints .entry)) (length (now (rows .entry))) (length (now (cols .entry)))) 0 ∷ [] ⌝ }
-    ensures rows { λ _. ⌜ now (rows .exit) ≡ byName (wayNamed rebuilding) (λ how. sliceRows (Payload how) (now (payload .entry)) 0 base (now (hints .entry)) (now (rows .entry)) (now (cols .entry))) (now (rows .entry)) ⌝ }
-    ensures cols { λ _. ⌜ now (cols .exit) ≡ byName (wayNamed rebuilding) (λ how. sliceCols (Payload how) (now (payload .entry)) 0 base (now (hints .entry)) (now (rows .entry)) (now (cols .entry))) (now (cols .entry)) ⌝ }
+    ensures number { λ r. ⌜ r ≡ byName (wayNamed rebuilding) (λ how. sliceNumber (sliceAsked (Payload how) (now (payload .entry)) 0 base (now (hints .entry)) (now (rows .entry)) (now (cols .entry)))) (unnamedNumber (countFits (length (now (hints .entry))))) ⌝ }
+    ensures out { λ _. ⌜ now (out .exit) ≡ byName (wayNamed rebuilding) (λ how. sliceWritten (sliceAsked (Payload how) (now (payload .entry)) 0 base (now (hints .entry)) (now (rows .entry)) (now (cols .entry)))) 0 ∷ [] ⌝ }
+    ensures rows { λ _. ⌜ now (rows .exit) ≡ byName (wayNamed rebuilding) (λ how. sliceRows (sliceAsked (Payload how) (now (payload .entry)) 0 base (now (hints .entry)) (now (rows .entry)) (now (cols .entry)))) (now (rows .entry)) ⌝ }
+    ensures cols { λ _. ⌜ now (cols .exit) ≡ byName (wayNamed rebuilding) (λ how. sliceCols (sliceAsked (Payload how) (now (payload .entry)) 0 base (now (hints .entry)) (now (rows .entry)) (now (cols .entry)))) (now (cols .entry)) ⌝ }
 {
     let Way::By(how) = named(rebuilding) else {
         *out = [0];

@@ -22,7 +22,7 @@ use Rattle.sheet.specs.Columns.{columnWords, unusedWords, roomOf}
 use Rattle.sheet.specs.Confidence.{share, freedShare}
 use Rattle.sheet.specs.Limits.{countFits, hintsKnown}
 use Rattle.sheet.specs.Row.{rowWords}
-use Rattle.tables.specs.Calls.{tabledAnswer, tabledRows, tabledCols}
+use Rattle.tables.specs.Calls.{asked, tabledAnswer, tabledRows, tabledCols}
 use Rattle.walk.specs.Carve.{tablesHits, tablesOverflow, carvedAnswer, carvedRows, carvedCols}
 use Rattle.walk.specs.Collect.{walkedNumber, walkedWritten}
 use Rattle.walk.specs.Walk.{childIn, cellsFrom, kids, pushAll, pageDone, fresh, marked, popped, walkFrom, walk}
@@ -30,8 +30,9 @@ use Rattle.walk.specs.Walk.{childIn, cellsFrom, kids, pushAll, pageDone, fresh,
 -- tables; a group is as wide as the widest
 tables : Carving → List ℕ → List ℕ → List ℕ → ℕ → ℕ → ℕ → Outcome
 tables how roots counts hints flags depth words =
-    let answer = tabledAnswer how db 512 roots counts hints flags depth words words in
-    out (walkedNumber answer) (walkedWritten answer) (tabledRows how db 512 roots counts hints flags depth (kept words) (kept words)) (tabledCols how db 512 roots counts hints flags depth (kept words) (kept words))
+    let a = asked how db 512 roots counts hints (kept flags) (kept depth) (kept words) (kept words) in
+    let answer = tabledAnswer a in
+    out (walkedNumber answer) (walkedWritten answer) (tabledRows a) (tabledCols a)
 
 none : List ℕ
 none = 3 ∷ 0 ∷ 0 ∷ 0 ∷ []

@@ -1,3 +1,4 @@
+mod Callers
 mod Cases
 mod Entries
 pub mod ReadBack

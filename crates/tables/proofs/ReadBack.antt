@@ -14,7 +14,7 @@ use borrow.Author.Tests.{ltb-false}
 use borrow.Fn.Kinds.{Dens, resT, endedOf}
 use lib.ListN.{length}
 use Rattle.carving.specs.Calls.{widthBy, leafHits}
-use Rattle.tables.specs.Calls.{tableChecksBy, tabledCols, tabledWritten}
+use Rattle.tables.specs.Calls.{Asked, asked, tableChecksBy, tabledChecked, tabledCarver, tabledCols, tabledWritten, OnTables, TablesPromises}
 use Rattle.carving.specs.Values.{leafValues}
 use Rattle.tables.specs.Values.{valuesFrom, tablesValues, carvedValues}
 use Rattle.carving.specs.declared.inner.Carving.{Carving}
@@ -27,13 +27,10 @@ use Rattle.tables.proofs.freeblocks.recover_freeblocks.Kinds as freeblo
 use Rattle.tables.proofs.freeblocks.recover_freeblocks.Reads as recover-freeblocks
 use Rattle.tables.proofs.gaps.scan_page_gaps.Kinds as gaps-kinds
 use Rattle.tables.proofs.gaps.scan_page_gaps.Reads as scan-page-gaps
-use Rattle.tables.proofs.tables.carve_tables.Kinds as tables-kinds
-use Rattle.tables.proofs.tables.carve_tables.Reads as carve-tables
 use Rattle.page.specs.Page.{wholePages}
 use Rattle.scan.proofs.ReadBack.{ReadBack}
 use Rattle.sheet.proofs.Laws.{none-holds}
 use Rattle.sheet.specs.Columns.{roomOf}
-use Rattle.sheet.specs.Refusal.{firstHeld}
 use Rattle.sheet.specs.declared.refusal.Checked.the-variants.{Passed}
 use Rattle.walk.proofs.Leaves.{AllThere, walk-there, AllNarrow, tables-narrow, hits-in-turn, cols-behind, written-behind}
 use Rattle.walk.proofs.Promises.{tables-fit}
@@ -71,56 +68,49 @@ module _ (how : Carving) (db : List ℕ) (size width : ℕ) (sized : 0 < size) (
         later false r = r
 
 -- THE LAW: the rows of tables that have passed the checks, over the database
-pub tables-read : (how : Carving) (db : List ℕ) (size : ℕ) (roots counts hints : List ℕ) (depth : ℕ) → firstHeld (tableChecksBy how (length db) size roots counts hints) ≡ Passed
-    → AllFit db (widest counts) (tablesHits (leafHits how db size) db size roots counts hints depth) (tablesValues how db size roots counts hints depth)
+pub tables-read : (a : Asked) → tabledChecked a ≡ Passed
+    → AllFit (a .db) (widest (a .counts)) (tablesHits (tabledCarver a) (a .db) (a .size) (a .roots) (a .counts) (a .hints) (length (a .stack)))
+    (tablesValues (a .how) (a .db) (a .size) (a .roots) (a .counts) (a .hints) (length (a .stack)))
 unfolding tablesValues
-tables-read how db size roots counts hints depth e =
-    let n = none-holds (tableChecksBy how (length db) size roots counts hints) e in
+tables-read a e =
+    let n = none-holds (tableChecksBy (a .how) (length (a .db)) (a .size) (a .roots) (a .counts) (a .hints)) e in
     let able = ltb-false _ _ (n .0) in
-    let f = tables-fit (length db) size roots counts hints (sym (narrow-on how (widest counts) (tableChecks (length db) size roots counts hints) (n .0)) ∙ e) in
-    rw (hits-in-turn (leafHits how db size) db size roots counts hints depth)
-    (turns-fit how db size (widest counts) (omega (arith, f .low)) able (λ root. walk db size depth root) (λ root. walk-there db size depth root) (tablesOf roots counts hints)
-    (tables-narrow roots counts hints (widest counts) (f .fit) (omega (arith, f .sums)) (omega arith)) 0)
+    let others = tableChecks (length (a .db)) (a .size) (a .roots) (a .counts) (a .hints) in
+    let f = tables-fit (length (a .db)) (a .size) (a .roots) (a .counts) (a .hints) (sym (narrow-on (a .how) (widest (a .counts)) others (n .0)) ∙ e) in
+    rw (hits-in-turn (tabledCarver a) (a .db) (a .size) (a .roots) (a .counts) (a .hints) (length (a .stack)))
+    (turns-fit (a .how) (a .db) (a .size) (widest (a .counts)) (omega (arith, f .low)) able (λ root. walk (a .db) (a .size) (length (a .stack)) root)
+    (λ root. walk-there (a .db) (a .size) (length (a .stack)) root) (tablesOf (a .roots) (a .counts) (a .hints))
+    (tables-narrow (a .roots) (a .counts) (a .hints) (widest (a .counts)) (f .fit) (omega (arith, f .sums)) (omega arith)) 0)
 
-pub carve-tables-reads-back : (k : Lfts 8) (a : Dens k tables-kinds.ps) (x : resT tables-kinds.r k .Denot) (s : AtExit (endedOf 8 tables-kinds.ps tables-kinds.r) k)
-    → carve-tables.Post k a x s
-    → ReadBack (now (a .1 .0)) (walkedWritten x * widest (now (a .1 .1 .1 .1 .0))) (now (s .1 .1 .1 .1 .1 .1 .1 .1 .1 .0))
-    (carvedValues (a .0) (now (a .1 .0)) (a .1 .1 .0) (now (a .1 .1 .1 .0)) (now (a .1 .1 .1 .1 .0)) (now (a .1 .1 .1 .1 .1 .0)) (length (now (a .1 .1 .1 .1 .1 .1 .0)))
-    (length (now (a .1 .1 .1 .1 .1 .1 .1 .0))) (length (now (a .1 .1 .1 .1 .1 .1 .1 .1 .0))) (length (now (a .1 .1 .1 .1 .1 .1 .1 .1 .1 .0))))
+-- THE LAW: what the promises leave reads back
+pub tables-read-back : (a : Asked) (x : OnTables) → TablesPromises a x
+    → ReadBack (a .db) (walkedWritten (x .answer) * widest (a .counts)) (x .cols) (carvedValues a)
 unfolding tabledCols tabledWritten carvedValues
-carve-tables-reads-back k a x s p =
-    let db = now (a .1 .0) in
-    let size = a .1 .1 .0 in
-    let roots = now (a .1 .1 .1 .0) in
-    let counts = now (a .1 .1 .1 .1 .0) in
-    let hints = now (a .1 .1 .1 .1 .1 .0) in
-    let flags = length (now (a .1 .1 .1 .1 .1 .1 .0)) in
-    let depth = length (now (a .1 .1 .1 .1 .1 .1 .1 .0)) in
-    let rows = now (a .1 .1 .1 .1 .1 .1 .1 .1 .0) in
-    let cols = now (a .1 .1 .1 .1 .1 .1 .1 .1 .1 .0) in
-    let carve = leafHits (a .0) db size in
-    let c = firstHeld (tableChecksBy (a .0) (length db) size roots counts hints) in
+tables-read-back a x p =
     rw (
-      p .1 .1 .1 .1 .1 .1,
-      p .1 .1 .0,
-      written-behind carve db size roots counts hints c flags depth (length rows) (length cols),
-      cols-behind carve db size roots counts hints c flags depth rows cols,
+      p .written,
+      p .entries,
+      written-behind (tabledCarver a) (a .db) (a .size) (a .roots) (a .counts) (a .hints) (tabledChecked a) (length (a .flags)) (length (a .stack))
+          (length (a .rows)) (length (a .cols)),
+      cols-behind (tabledCarver a) (a .db) (a .size) (a .roots) (a .counts) (a .hints) (tabledChecked a) (length (a .flags)) (length (a .stack)) (a .rows) (a .cols),
     )
-    (flagged-read db (widest counts) (roomOf (length rows) (length cols) (widest counts)) (wholePages (length db) size) flags
-    (tablesHits carve db size roots counts hints depth) (tablesValues (a .0) db size roots counts hints depth) cols
-    c (tables-read (a .0) db size roots counts hints depth))
+    (flagged-read (a .db) (widest (a .counts)) (roomOf (length (a .rows)) (length (a .cols)) (widest (a .counts))) (wholePages (length (a .db)) (a .size))
+    (length (a .flags)) (tablesHits (tabledCarver a) (a .db) (a .size) (a .roots) (a .counts) (a .hints) (length (a .stack)))
+    (tablesValues (a .how) (a .db) (a .size) (a .roots) (a .counts) (a .hints) (length (a .stack))) (a .cols) (tabledChecked a) (tables-read a))
 
 -- ---- the public calls
 pub recover-freeblocks-reads-back : (k : Lfts 8) (a : Dens k freeblocks-kinds.ps) (x : resT freeblocks-kinds.r k .Denot)
     (s : AtExit (endedOf 8 freeblocks-kinds.ps freeblocks-kinds.r) k) → recover-freeblocks.Post k a x s
     → ReadBack (now (a .0)) (walkedWritten x * widest (now (a .1 .1 .1 .0))) (now (s .1 .1 .1 .1 .1 .1 .1 .1 .0))
-    (carvedValues Freeblocks (now (a .0)) (a .1 .0) (now (a .1 .1 .0)) (now (a .1 .1 .1 .0)) (now (a .1 .1 .1 .1 .0)) (length (now (a .1 .1 .1 .1 .1 .0)))
-    (length (now (a .1 .1 .1 .1 .1 .1 .0))) (length (now (a .1 .1 .1 .1 .1 .1 .1 .0))) (length (now (a .1 .1 .1 .1 .1 .1 .1 .1 .0))))
-recover-freeblocks-reads-back k a x s p = carve-tables-reads-back k (Freeblocks, a) x (Freeblocks, s) p
+    (carvedValues
+    (asked Freeblocks (now (a .0)) (a .1 .0) (now (a .1 .1 .0)) (now (a .1 .1 .1 .0)) (now (a .1 .1 .1 .1 .0)) (now (a .1 .1 .1 .1 .1 .0))
+    (now (a .1 .1 .1 .1 .1 .1 .0)) (now (a .1 .1 .1 .1 .1 .1 .1 .0)) (now (a .1 .1 .1 .1 .1 .1 .1 .1 .0))))
+recover-freeblocks-reads-back k a x s p = tables-read-back _ _ p
 
 pub scan-page-gaps-reads-back : (k : Lfts 8) (a : Dens k gaps-kinds.ps) (x : resT gaps-kinds.r k .Denot) (s : AtExit (endedOf 8 gaps-kinds.ps gaps-kinds.r) k)
     → scan-page-gaps.Post k a x s
     → ReadBack (now (a .1 .0)) (walkedWritten x * widest (now (a .1 .1 .1 .1 .0))) (now (s .1 .1 .1 .1 .1 .1 .1 .1 .1 .0))
-    (carvedValues (Gaps (a .0)) (now (a .1 .0)) (a .1 .1 .0) (now (a .1 .1 .1 .0)) (now (a .1 .1 .1 .1 .0)) (now (a .1 .1 .1 .1 .1 .0)) (length (now (a .1 .1 .1 .1 .1 .1 .0)))
-    (length (now (a .1 .1 .1 .1 .1 .1 .1 .0))) (length (now (a .1 .1 .1 .1 .1 .1 .1 .1 .0))) (length (now (a .1 .1 .1 .1 .1 .1 .1 .1 .1 .0))))
-scan-page-gaps-reads-back k a x s p = carve-tables-reads-back k (Gaps (a .0), a .1) x (Gaps (s .0), s .1) p
+    (carvedValues
+    (asked (Gaps (a .0)) (now (a .1 .0)) (a .1 .1 .0) (now (a .1 .1 .1 .0)) (now (a .1 .1 .1 .1 .0)) (now (a .1 .1 .1 .1 .1 .0)) (now (a .1 .1 .1 .1 .1 .1 .0))
+    (now (a .1 .1 .1 .1 .1 .1 .1 .0)) (now (a .1 .1 .1 .1 .1 .1 .1 .1 .0)) (now (a .1 .1 .1 .1 .1 .1 .1 .1 .1 .0))))
+scan-page-gaps-reads-back k a x s p = tables-read-back _ _ p

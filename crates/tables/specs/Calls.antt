@@ -1,39 +1,102 @@
 -- The calls that carve the leaves of tables, by the way in which one page is carved (rules 9.14, 10.5 and 11.8).
 -- Assumes nothing.
 use Prim.Native.Nat.{ℕ}
+use mathlib.Core.Path.{_≡_}
 use mathlib.Core.List.{List, _∷_}
 use lib.ListN.{length}
 use Rattle.carving.specs.Calls.{tooWide, leafHits}
 use Rattle.carving.specs.declared.inner.Carving.{Carving}
 use Rattle.sheet.specs.Refusal.{Check, firstHeld}
-use Rattle.walk.specs.Carve.{widest, tableChecks, carvedAnswer, carvedRows, carvedCols, carvedNumber, carvedWritten}
-use Rattle.walk.specs.Collect.{clearedUnless}
+use Rattle.sheet.specs.declared.refusal.Checked.{Checked}
+use Rattle.walk.specs.Carve.{Carver, widest, tableChecks, carvedAnswer, carvedRows, carvedCols, carvedNumber, carvedWritten}
+use Rattle.walk.specs.Collect.{clearedUnless, walkedNumber, walkedWritten}
 use Rattle.walk.specs.declared.walk.Walked.{Walked}
 
--- ---- tables of a database of `len` bytes: any that is too wide refuses all
+-- what a call is asked: how to carve, a database and its page size, tables as their roots, their counts of columns and all their hints,
+-- and the lists that it is lent
+pub record Asked : Type 0 where
+  pub how : Carving
+  pub db : List ℕ
+  pub size : ℕ
+  pub roots : List ℕ
+  pub counts : List ℕ
+  pub hints : List ℕ
+  pub flags : List ℕ
+  pub stack : List ℕ
+  pub rows : List ℕ
+  pub cols : List ℕ
+
+abbrev pub asked : Carving → List ℕ → ℕ → List ℕ → List ℕ → List ℕ → List ℕ → List ℕ → List ℕ → List ℕ → Asked
+asked how db size roots counts hints flags stack rows cols =
+    record {
+      how = how;
+      db = db;
+      size = size;
+      roots = roots;
+      counts = counts;
+      hints = hints;
+      flags = flags;
+      stack = stack;
+      rows = rows;
+      cols = cols;
+    }
+
+-- in a database of `len` bytes: any table that is too wide refuses all
 abbrev pub tableChecksBy : Carving → ℕ → ℕ → List ℕ → List ℕ → List ℕ → List Check
 tableChecksBy how len size roots counts hints = tooWide how (widest counts) ∷ tableChecks len size roots counts hints
 
-unfoldable pub tabledAnswer : Carving → List ℕ → ℕ → List ℕ → List ℕ → List ℕ → ℕ → ℕ → ℕ → ℕ → Walked
-tabledAnswer how db size roots counts hints flags depth rows cols =
-    carvedAnswer (firstHeld (tableChecksBy how (length db) size roots counts hints)) (leafHits how db size) db size roots counts hints flags depth rows cols
+abbrev pub tabledChecked : Asked → Checked
+tabledChecked a = firstHeld (tableChecksBy (a .how) (length (a .db)) (a .size) (a .roots) (a .counts) (a .hints))
 
-unfoldable pub tabledRows : Carving → List ℕ → ℕ → List ℕ → List ℕ → List ℕ → ℕ → ℕ → List ℕ → List ℕ → List ℕ
-tabledRows how db size roots counts hints flags depth rows cols =
-    carvedRows (firstHeld (tableChecksBy how (length db) size roots counts hints)) (leafHits how db size) db size roots counts hints flags depth rows cols
+abbrev pub tabledCarver : Asked → Carver
+tabledCarver a = leafHits (a .how) (a .db) (a .size)
 
-unfoldable pub tabledCols : Carving → List ℕ → ℕ → List ℕ → List ℕ → List ℕ → ℕ → ℕ → List ℕ → List ℕ → List ℕ
-tabledCols how db size roots counts hints flags depth rows cols =
-    carvedCols (firstHeld (tableChecksBy how (length db) size roots counts hints)) (leafHits how db size) db size roots counts hints flags depth rows cols
+unfoldable pub tabledAnswer : Asked → Walked
+tabledAnswer a =
+    carvedAnswer (tabledChecked a) (tabledCarver a) (a .db) (a .size) (a .roots) (a .counts) (a .hints)
+    (length (a .flags)) (length (a .stack)) (length (a .rows)) (length (a .cols))
+
+unfoldable pub tabledNumber : Asked → ℕ
+tabledNumber a =
+    carvedNumber (tabledChecked a) (tabledCarver a) (a .db) (a .size) (a .roots) (a .counts) (a .hints)
+    (length (a .flags)) (length (a .stack)) (length (a .rows)) (length (a .cols))
+
+unfoldable pub tabledWritten : Asked → ℕ
+tabledWritten a =
+    carvedWritten (tabledChecked a) (tabledCarver a) (a .db) (a .size) (a .roots) (a .counts) (a .hints)
+    (length (a .flags)) (length (a .stack)) (length (a .rows)) (length (a .cols))
+
+unfoldable pub tabledRows : Asked → List ℕ
+tabledRows a =
+    carvedRows (tabledChecked a) (tabledCarver a) (a .db) (a .size) (a .roots) (a .counts) (a .hints)
+    (length (a .flags)) (length (a .stack)) (a .rows) (a .cols)
+
+unfoldable pub tabledCols : Asked → List ℕ
+tabledCols a =
+    carvedCols (tabledChecked a) (tabledCarver a) (a .db) (a .size) (a .roots) (a .counts) (a .hints)
+    (length (a .flags)) (length (a .stack)) (a .rows) (a .cols)
 
 -- Rule 9.11: flags and stack, each as it was or cleared
-unfoldable pub tabledCleared : Carving → ℕ → ℕ → List ℕ → List ℕ → List ℕ → List ℕ → List ℕ
-tabledCleared how len size roots counts hints old = clearedUnless (firstHeld (tableChecksBy how len size roots counts hints)) old
+unfoldable pub tabledCleared : Asked → List ℕ → List ℕ
+tabledCleared a old = clearedUnless (tabledChecked a) old
 
-unfoldable pub tabledNumber : Carving → List ℕ → ℕ → List ℕ → List ℕ → List ℕ → ℕ → ℕ → ℕ → ℕ → ℕ
-tabledNumber how db size roots counts hints flags depth rows cols =
-    carvedNumber (firstHeld (tableChecksBy how (length db) size roots counts hints)) (leafHits how db size) db size roots counts hints flags depth rows cols
+-- what a call leaves: its answer, and what the lists hold at exit
+pub record OnTables : Type 0 where
+  pub answer : Walked
+  pub flags : List ℕ
+  pub stack : List ℕ
+  pub rows : List ℕ
+  pub cols : List ℕ
 
-unfoldable pub tabledWritten : Carving → List ℕ → ℕ → List ℕ → List ℕ → List ℕ → ℕ → ℕ → ℕ → ℕ → ℕ
-tabledWritten how db size roots counts hints flags depth rows cols =
-    carvedWritten (firstHeld (tableChecksBy how (length db) size roots counts hints)) (leafHits how db size) db size roots counts hints flags depth rows cols
+abbrev pub onTables : Walked → List ℕ → List ℕ → List ℕ → List ℕ → OnTables
+onTables r flags stack rows cols = record { answer = r; flags = flags; stack = stack; rows = rows; cols = cols }
+
+-- what it promises
+pub record TablesPromises (a : Asked) (x : OnTables) : Type 0 where
+  pub answer : x .answer ≡ tabledAnswer a
+  pub number : walkedNumber (x .answer) ≡ tabledNumber a
+  pub written : walkedWritten (x .answer) ≡ tabledWritten a
+  pub rows : x .rows ≡ tabledRows a
+  pub entries : x .cols ≡ tabledCols a
+  pub flags : x .flags ≡ tabledCleared a (a .flags)
+  pub stack : x .stack ≡ tabledCleared a (a .stack)

@@ -1,11 +1,18 @@
 -- What the code carries between its own functions; nothing that a caller has to believe.
 -- Assumes nothing.
 use Prim.Native.Nat.{ℕ, _≤_}
-use Rattle.carving.specs.Calls.{widthBy}
+use mathlib.Core.List.{List}
+use lib.ListN.{length}
+use Rattle.carving.specs.Calls.{widthBy, leafHits}
 use Rattle.carving.specs.declared.inner.Carving.{Carving}
 use Rattle.hit.specs.Inner.{Space}
 use Rattle.hit.specs.declared.inner.Lent.{Lent}
 use Rattle.sheet.specs.Limits.{mostColumns, largestRegion}
+use Rattle.tables.specs.Calls.{Asked, tabledCarver}
+use Rattle.walk.specs.Inner.{Tabled}
+use Rattle.sheet.specs.Inner.{Told, Carves}
+use Rattle.walk.specs.Walk.{Walk, walk, hitsOf, overflows}
+use Rattle.walk.specs.declared.walk.Walked.{Walked}
 
 -- a database of so many bytes, and a table of it with so many columns, which is carved in some way
 pub record TableReady (how : Carving) (len size columns : ℕ) (lent : Lent) (n rows cols : ℕ) : Type 0 where
@@ -16,3 +23,32 @@ pub record TableReady (how : Carving) (len size columns : ℕ) (lent : Lent) (n 
   pub few : columns ≤ mostColumns
   pub narrow : columns ≤ widthBy how
   pub space : Space columns lent n rows cols
+
+-- what carving one table is asked: which of the tables it is, with its root and its hints, and how deep the stack is
+pub record TableAsked : Type 0 where
+  pub how : Carving
+  pub db : List ℕ
+  pub size : ℕ
+  pub root : ℕ
+  pub hints : List ℕ
+  pub table : ℕ
+  pub depth : ℕ
+
+abbrev pub tableAsked : Carving → List ℕ → ℕ → ℕ → List ℕ → ℕ → ℕ → TableAsked
+tableAsked how db size root hints table depth =
+    record { how = how; db = db; size = size; root = root; hints = hints; table = table; depth = depth }
+
+abbrev pub walkAsked : TableAsked → Walk
+walkAsked a = walk (a .db) (a .size) (a .depth) (a .root)
+
+-- what it leaves behind n rows: those of the leaves along its walk
+abbrev pub TableCarved : TableAsked → Lent → ℕ → List ℕ → List ℕ → Told → List ℕ → List ℕ → Type 0
+TableCarved a lent n rows cols r rows′ cols′ =
+    Carves (lent .width) (lent .room) n (hitsOf (leafHits (a .how) (a .db) (a .size) (a .table) (a .hints)) (walkAsked a))
+    (overflows (walkAsked a)) rows cols r rows′ cols′
+
+-- what carving tables leaves that have passed the checks
+abbrev pub TablesCarved : Asked → Walked → List ℕ → List ℕ → Type 0
+TablesCarved a r rows cols =
+    Tabled (tabledCarver a) (a .db) (a .size) (a .roots) (a .counts) (a .hints)
+    (length (a .flags)) (length (a .stack)) (a .rows) (a .cols) r rows cols

@@ -9,8 +9,8 @@ use Rattle.carving.specs.declared.inner.Carving.{Carving}
 use Rattle.page.specs.Page.{wholePages}
 use Rattle.record.specs.declared.record.Value.{Value}
 use Rattle.sheet.specs.Columns.{roomOf}
-use Rattle.sheet.specs.Refusal.{firstHeld, afterOrKept}
-use Rattle.tables.specs.Calls.{tableChecksBy}
+use Rattle.sheet.specs.Refusal.{afterOrKept}
+use Rattle.tables.specs.Calls.{Asked, tabledChecked}
 use Rattle.walk.specs.Carve.{Table, tablesOf, widest}
 use Rattle.walk.specs.Collect.{ifFlagged}
 use Rattle.walk.specs.Walk.{Walk, walk, hitsOf, overflows}
@@ -19,15 +19,17 @@ use Rattle.walk.specs.Walk.{Walk, walk, hitsOf, overflows}
 abbrev pub valuesFrom : Carving → List ℕ → ℕ → (ℕ → Walk) → List Table → List (List Value)
 valuesFrom how db size walkOf [] = []
 valuesFrom how db size walkOf (b ∷ bs) =
-    hitsOf (leafValues how db size (b .hints)) (walkOf (b .root)) ++ cond (overflows (walkOf (b .root))) [] (valuesFrom how db size walkOf bs)
+    hitsOf (leafValues how db size (b .hints)) (walkOf (b .root))
+    ++ cond (overflows (walkOf (b .root))) [] (valuesFrom how db size walkOf bs)
 
 unfoldable pub tablesValues : Carving → List ℕ → ℕ → List ℕ → List ℕ → List ℕ → ℕ → List (List Value)
-tablesValues how db size roots counts hints depth = valuesFrom how db size (λ root. walk db size depth root) (tablesOf roots counts hints)
+tablesValues how db size roots counts hints depth =
+    valuesFrom how db size (λ root. walk db size depth root) (tablesOf roots counts hints)
 
--- those of the rows that a call writes into lists of so many words; with fewer flags than whole pages there are none
-unfoldable pub carvedValues : Carving → List ℕ → ℕ → List ℕ → List ℕ → List ℕ → ℕ → ℕ → ℕ → ℕ → List Value
-carvedValues how db size roots counts hints flags depth rows cols =
-    afterOrKept (firstHeld (tableChecksBy how (length db) size roots counts hints))
-    (groupsValues (widest counts)
-    (ifFlagged (wholePages (length db) size) flags (take (roomOf rows cols (widest counts)) (tablesValues how db size roots counts hints depth)) []))
-    []
+-- those of the rows that a call writes; with fewer flags than whole pages there are none
+unfoldable pub carvedValues : Asked → List Value
+carvedValues a =
+    let room = roomOf (length (a .rows)) (length (a .cols)) (widest (a .counts)) in
+    let values = tablesValues (a .how) (a .db) (a .size) (a .roots) (a .counts) (a .hints) (length (a .stack)) in
+    let told = ifFlagged (wholePages (length (a .db)) (a .size)) (length (a .flags)) (take room values) [] in
+    afterOrKept (tabledChecked a) (groupsValues (widest (a .counts)) told) []

@@ -3,11 +3,8 @@ use crate::tables::carve_tables;
 use carving::inner::Carving;
 use rebuild::rebuilding::Rebuilding;
 use walk::walk::Walked;
-ghost use mathlib.Core.Path.{_≡_};
-ghost use lib.ListN.{length};
-ghost use Rattle.tables.specs.Calls.{tabledAnswer, tabledRows, tabledCols, tabledCleared, tabledNumber, tabledWritten};
+ghost use Rattle.tables.specs.Calls.{TablesPromises, asked, onTables};
 ghost use Rattle.carving.specs.declared.inner.Carving.the-variants.{Gaps};
-ghost use Rattle.walk.specs.Collect.{walkedNumber, walkedWritten};
 
 pub fn scan_page_gaps(
     rebuilding: Rebuilding,
@@ -21,13 +18,10 @@ pub fn scan_page_gaps(
     rows: &mut [u64],
     cols: &mut [u64],
 ) -> Walked
-    ensures answer { λ r. ⌜ r ≡ tabledAnswer (Gaps rebuilding) (now (db .entry)) size (now (roots .entry)) (now (counts .entry)) (now (hints .entry)) (length (now (flags .entry))) (length (now (stack .entry))) (length (now (rows .entry))) (length (now (cols .entry))) ⌝ }
-    ensures rows { λ _. ⌜ now (rows .exit) ≡ tabledRows (Gaps rebuilding) (now (db .entry)) size (now (roots .entry)) (now (counts .entry)) (now (hints .entry)) (length (now (flags .entry))) (length (now (stack .entry))) (now (rows .entry)) (now (cols .entry)) ⌝ }
-    ensures cols { λ _. ⌜ now (cols .exit) ≡ tabledCols (Gaps rebuilding) (now (db .entry)) size (now (roots .entry)) (now (counts .entry)) (now (hints .entry)) (length (now (flags .entry))) (length (now (stack .entry))) (now (rows .entry)) (now (cols .entry)) ⌝ }
-    ensures flags { λ _. ⌜ now (flags .exit) ≡ tabledCleared (Gaps rebuilding) (length (now (db .entry))) size (now (roots .entry)) (now (counts .entry)) (now (hints .entry)) (now (flags .entry)) ⌝ }
-    ensures stack { λ _. ⌜ now (stack .exit) ≡ tabledCleared (Gaps rebuilding) (length (now (db .entry))) size (now (roots .entry)) (now (counts .entry)) (now (hints .entry)) (now (stack .entry)) ⌝ }
-    ensures number { λ r. ⌜ walkedNumber r ≡ tabledNumber (Gaps rebuilding) (now (db .entry)) size (now (roots .entry)) (now (counts .entry)) (now (hints .entry)) (length (now (flags .entry))) (length (now (stack .entry))) (length (now (rows .entry))) (length (now (cols .entry))) ⌝ }
-    ensures written { λ r. ⌜ walkedWritten r ≡ tabledWritten (Gaps rebuilding) (now (db .entry)) size (now (roots .entry)) (now (counts .entry)) (now (hints .entry)) (length (now (flags .entry))) (length (now (stack .entry))) (length (now (rows .entry))) (length (now (cols .entry))) ⌝ }
+    ensures { λ r. ⌜ TablesPromises
+        (asked (Gaps rebuilding) (now (db .entry)) size (now (roots .entry)) (now (counts .entry)) (now (hints .entry))
+        (now (flags .entry)) (now (stack .entry)) (now (rows .entry)) (now (cols .entry)))
+        (onTables r (now (flags .exit)) (now (stack .exit)) (now (rows .exit)) (now (cols .exit))) ⌝ }
 {
     carve_tables(
         Carving::Gaps(rebuilding),

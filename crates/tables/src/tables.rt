@@ -18,18 +18,15 @@ use walk::inner::next_leaf;
 use walk::inner::tables::check;
 use walk::inner::tables::widest;
 use walk::walk::Walked;
-ghost use mathlib.Core.Path.{_≡_};
 ghost use mathlib.Core.Bool.{false};
 ghost use Prim.Native.Nat.{_/_, _≤_};
 ghost use lib.ListN.{length};
 ghost use Rattle.carving.specs.Calls.{widthBy, leafHits};
-ghost use Rattle.tables.specs.Calls.{tabledAnswer, tabledRows, tabledCols, tabledCleared, tabledNumber, tabledWritten};
-ghost use Rattle.tables.specs.Inner.{TableReady};
+ghost use Rattle.tables.specs.Calls.{TablesPromises, asked, onTables};
+ghost use Rattle.tables.specs.Inner.{TableReady, TableCarved, tableAsked, TablesCarved};
 ghost use Rattle.walk.specs.Carve.{widest as widestOf};
-ghost use Rattle.walk.specs.Collect.{walkedNumber, walkedWritten};
-ghost use Rattle.walk.specs.Inner.{tableAs, Tabled, TablesFit};
+ghost use Rattle.walk.specs.Inner.{tableAs, TablesFit};
 ghost use Rattle.sheet.specs.Inner.{carvedAs, Carves};
-ghost use Rattle.walk.specs.Walk.{walk as walkOf, hitsOf, overflows};
 
 // Carves the leaf p of a database.
 fn carve_leaf(
@@ -46,7 +43,8 @@ fn carve_leaf(
 ) -> Carved
     requires { ⌜ (1 ≤ p) × (p ≤ length (now db) / size) ⌝ }
     requires { ⌜ TableReady how (length (now db)) size (length (now hints)) lent n (length (now rows)) (length (now cols)) ⌝ }
-    ensures { λ r. ⌜ Carves (lent .width) (lent .room) n (leafHits how (now (db .entry)) size table (now (hints .entry)) p) false (now (rows .entry)) (now (cols .entry)) (carvedAs r) (now (rows .exit)) (now (cols .exit)) ⌝ }
+    ensures { λ r. ⌜ Carves (lent .width) (lent .room) n (leafHits how (now (db .entry)) size table (now (hints .entry)) p) false
+        (now (rows .entry)) (now (cols .entry)) (carvedAs r) (now (rows .exit)) (now (cols .exit)) ⌝ }
 {
     let start = (p as usize - 1) * size;
     let end = start + size;
@@ -76,7 +74,9 @@ fn carve_table(
 ) -> CarvedTable
     requires { ⌜ length (now db) / size ≤ length (now flags) ⌝ }
     requires { ⌜ TableReady how (length (now db)) size (length (now hints)) lent n (length (now rows)) (length (now cols)) ⌝ }
-    ensures { λ r. ⌜ Carves (lent .width) (lent .room) n (hitsOf (leafHits how (now (db .entry)) size table (now (hints .entry))) (walkOf (now (db .entry)) size (length (now (stack .entry))) root)) (overflows (walkOf (now (db .entry)) size (length (now (stack .entry))) root)) (now (rows .entry)) (now (cols .entry)) (tableAs r) (now (rows .exit)) (now (cols .exit)) ⌝ }
+    ensures { λ r. ⌜ TableCarved
+        (tableAsked how (now (db .entry)) size root (now (hints .entry)) table (length (now (stack .entry)))) lent n
+        (now (rows .entry)) (now (cols .entry)) (tableAs r) (now (rows .exit)) (now (cols .exit)) ⌝ }
 {
     let Pushed::On(height) = begin(root, flags, stack) else {
         return CarvedTable::Short(n);
@@ -128,7 +128,10 @@ fn carve_checked(
 ) -> Walked
     requires { ⌜ widestOf (now counts) ≤ widthBy how ⌝ }
     requires { ⌜ TablesFit (length (now db)) size (now roots) (now counts) (now hints) ⌝ }
-    ensures { λ r. ⌜ Tabled (leafHits how (now (db .entry)) size) (now (db .entry)) size (now (roots .entry)) (now (counts .entry)) (now (hints .entry)) (length (now (flags .entry))) (length (now (stack .entry))) (now (rows .entry)) (now (cols .entry)) r (now (rows .exit)) (now (cols .exit)) ⌝ }
+    ensures { λ r. ⌜ TablesCarved
+        (asked how (now (db .entry)) size (now (roots .entry)) (now (counts .entry)) (now (hints .entry))
+        (now (flags .entry)) (now (stack .entry)) (now (rows .entry)) (now (cols .entry)))
+        r (now (rows .exit)) (now (cols .exit)) ⌝ }
 {
     if flags.len() < db.len() / size {
         return Walked::Short(0);
@@ -184,13 +187,10 @@ pub fn carve_tables(
     rows: &mut [u64],
     cols: &mut [u64],
 ) -> Walked
-    ensures answer { λ r. ⌜ r ≡ tabledAnswer how (now (db .entry)) size (now (roots .entry)) (now (counts .entry)) (now (hints .entry)) (length (now (flags .entry))) (length (now (stack .entry))) (length (now (rows .entry))) (length (now (cols .entry))) ⌝ }
-    ensures rows { λ _. ⌜ now (rows .exit) ≡ tabledRows how (now (db .entry)) size (now (roots .entry)) (now (counts .entry)) (now (hints .entry)) (length (now (flags .entry))) (length (now (stack .entry))) (now (rows .entry)) (now (cols .entry)) ⌝ }
-    ensures cols { λ _. ⌜ now (cols .exit) ≡ tabledCols how (now (db .entry)) size (now (roots .entry)) (now (counts .entry)) (now (hints .entry)) (length (now (flags .entry))) (length (now (stack .entry))) (now (rows .entry)) (now (cols .entry)) ⌝ }
-    ensures flags { λ _. ⌜ now (flags .exit) ≡ tabledCleared how (length (now (db .entry))) size (now (roots .entry)) (now (counts .entry)) (now (hints .entry)) (now (flags .entry)) ⌝ }
-    ensures stack { λ _. ⌜ now (stack .exit) ≡ tabledCleared how (length (now (db .entry))) size (now (roots .entry)) (now (counts .entry)) (now (hints .entry)) (now (stack .entry)) ⌝ }
-    ensures number { λ r. ⌜ walkedNumber r ≡ tabledNumber how (now (db .entry)) size (now (roots .entry)) (now (counts .entry)) (now (hints .entry)) (length (now (flags .entry))) (length (now (stack .entry))) (length (now (rows .entry))) (length (now (cols .entry))) ⌝ }
-    ensures written { λ r. ⌜ walkedWritten r ≡ tabledWritten how (now (db .entry)) size (now (roots .entry)) (now (counts .entry)) (now (hints .entry)) (length (now (flags .entry))) (length (now (stack .entry))) (length (now (rows .entry))) (length (now (cols .entry))) ⌝ }
+    ensures { λ r. ⌜ TablesPromises
+        (asked how (now (db .entry)) size (now (roots .entry)) (now (counts .entry)) (now (hints .entry))
+        (now (flags .entry)) (now (stack .entry)) (now (rows .entry)) (now (cols .entry)))
+        (onTables r (now (flags .exit)) (now (stack .exit)) (now (rows .exit)) (now (cols .exit))) ⌝ }
 {
     if how.refuses(widest(counts)) {
         return Walked::Refused(Refusal::ColumnCount);

@@ -8,25 +8,23 @@ use borrow.Author.Tests.{not-true, not-false, ltb-false}
 use denote.Ref.{now}
 use lib.Dec.{ltb}
 use lib.ListN.{length}
-use Rattle.carving.specs.Calls.{widthBy, leafHits, numberedChecks, numberedChecksBy, numberedAnswer, numberedRows, numberedCols, numberedNumber, numberedWritten}
-use Rattle.carving.proofs.Callers.{wide-refuses, narrow-on, bad-count, bad-hints, page-decides, page-filling, hits-are, part-long}
+use Rattle.carving.specs.Calls.{widthBy, numberedChecks, numberedChecksBy}
+use Rattle.carving.proofs.Callers.{wide-refuses, narrow-on, bad-count, bad-hints, page-decides, page-filling, hits-are, part-long, numbered-refused, numbered-passed}
 use Rattle.carving.proofs.single.carve_numbered.Statement.{statement}
 use Rattle.carving.proofs.single.carve_numbered.Tie as tie
 use Rattle.page.proofs.Laws.{paged-refused, paged-at, PagedAt}
 use Rattle.page.specs.Page.{pageChecks}
 use Rattle.sheet.specs.Limits.{countFits}
 use Rattle.sheet.specs.Refusal.{firstHeld}
-use Rattle.sheet.proofs.Filling.{page-refused, page-passed}
 
 refuses-requires : tie.Need-refuses-requires
 refuses-requires c κs = search needs
 
 returns : tie.Need-returns
-unfolding numberedAnswer numberedRows numberedCols numberedNumber numberedWritten
 returns c =
     let a = c .before .before .before .before .before .before .args in
     let hints = now (a .hints) in
-    page-refused _ (leafHits (a .how) (now (a .db)) (a .size) 0 hints (a .page)) (length hints) _ _ _
+    numbered-refused _ _
     (wide-refuses (a .how) (length hints) (numberedChecks (length (now (a .db))) (a .size) (a .page) hints) (sym (c .before .refuses .ensures) ∙ c .if1 .taken))
 
 -- the table is not too wide, so the other checks decide
@@ -42,10 +40,9 @@ hint-count-fits-requires : tie.Need-hint-count-fits-requires
 hint-count-fits-requires c κs = search needs
 
 returns-2 : tie.Need-returns-2
-unfolding numberedAnswer numberedRows numberedCols numberedNumber numberedWritten
 returns-2 c =
     let a = c .before .before .before .before .before .before .before .before .args in
-    page-refused _ (leafHits (a .how) (now (a .db)) (a .size) 0 (now (a .hints)) (a .page)) (length (now (a .hints))) _ _ _
+    numbered-refused _ _
     (others (c .before .before) ∙ bad-count (length (now (a .db))) (a .size) (a .page) (now (a .hints)) (sym (c .before .hint-count-fits .ensures) ∙ not-true _ (c .if2 .taken)))
 
 hints-known-requires : tie.Need-hints-known-requires
@@ -56,10 +53,9 @@ fit : (c : tie.Else2) → countFits (length (now (c .before .before .before .bef
 fit c = sym (c .before .hint-count-fits .ensures) ∙ not-false _ (c .if2 .left)
 
 returns-3 : tie.Need-returns-3
-unfolding numberedAnswer numberedRows numberedCols numberedNumber numberedWritten
 returns-3 c =
     let a = c .before .before .before .before .before .before .before .before .before .before .args in
-    page-refused _ (leafHits (a .how) (now (a .db)) (a .size) 0 (now (a .hints)) (a .page)) (length (now (a .hints))) _ _ _
+    numbered-refused _ _
     (others (c .before .before .before .before) ∙ bad-hints (length (now (a .db))) (a .size) (a .page) (now (a .hints)) (fit (c .before .before)) (sym (c .before .hints-known .ensures) ∙ not-true _ (c .if3 .taken)))
 
 get-page-data-requires : tie.Need-get-page-data-requires
@@ -101,8 +97,7 @@ fill-requires c κs =
     rw (part-long (now (c .before .before .before .before .before .before .before .before .before .before .before .before .before .before .before .before .before .args .db)) _ _ (l .inside)) (page-filling _ _ _ (now (c .before .before .before .before .before .before .before .before .before .before .before .before .before .before .before .before .before .args .hints)) (fit (c .before .before .before .before .before .before .before .before .before)) _ (ltb-false _ _ (narrow (c .before .before .before .before .before .before .before .before .before .before .before))) _ _ _ l)
 
 returns-4 : tie.Need-returns-4
-unfolding numberedAnswer numberedRows numberedCols numberedNumber numberedWritten
-returns-4 c = page-refused _ _ _ _ _ _ (decides (c .before .before .before .before) ∙ paged-refused _ _ _ _ (sym (c .before .before .before .get-page-data .ensures .0) ∙ c .before .refusal .given .1))
+returns-4 c = numbered-refused _ _ (decides (c .before .before .before .before) ∙ paged-refused _ _ _ _ (sym (c .before .before .before .get-page-data .ensures .0) ∙ c .before .refusal .given .1))
 
 same-length : tie.Need-same-length
 same-length c = search needs
@@ -111,12 +106,11 @@ same-length-2 : tie.Need-same-length-2
 same-length-2 c = search needs
 
 returns-5 : tie.Need-returns-5
-unfolding numberedAnswer numberedRows numberedCols numberedNumber numberedWritten
 returns-5 c =
     let a = c .before .before .before .before .before .before .before .before .before .before .before .before .before .before .before .before .before .before .before .before .before .before .args in
     let l = lies (c .before .before .before .before .before .before .before .before) in
     let h = hits-are (a .how) (now (a .db)) (a .size) (a .page) (now (a .hints)) 0 _ _ _ (l .starts) (l .long) (l .heads) in
-    page-passed _ _ _ _ _ _ _ _ (decides (c .before .before .before .before .before .before .before .before .before .before .before .before) ∙ l .passed) (rw h at (c .before .before .before .before .fill .ensures))
+    numbered-passed _ _ (decides (c .before .before .before .before .before .before .before .before .before .before .before .before) ∙ l .passed) (rw h at (c .before .before .before .before .fill .ensures))
 
 pub carve-numbered-spec : {M : Type 1} → statement M
 carve-numbered-spec =

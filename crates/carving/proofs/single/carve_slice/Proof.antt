@@ -7,23 +7,21 @@ use borrow.Author.Tests.{ltb-false}
 use denote.Ref.{now}
 use lib.Dec.{ltb}
 use lib.ListN.{length}
-use Rattle.carving.specs.Calls.{widthBy, sliceChecksBy, sliceHits, sliceAnswer, sliceRows, sliceCols, sliceNumber, sliceWritten}
-use Rattle.carving.proofs.Callers.{wide-refuses, narrow-on, slice-filling}
+use Rattle.carving.specs.Calls.{widthBy, sliceChecksBy}
+use Rattle.carving.proofs.Callers.{wide-refuses, narrow-on, slice-filling, slice-refused, slice-passed}
 use Rattle.carving.proofs.single.carve_slice.Statement.{statement}
 use Rattle.carving.proofs.single.carve_slice.Tie as tie
 use Rattle.sheet.specs.Refusal.{firstHeld}
 use Rattle.sheet.specs.Slice.{sliceChecks}
-use Rattle.sheet.proofs.Filling.{page-refused, page-passed}
 
 refuses-requires : tie.Need-refuses-requires
 refuses-requires c κs = search needs
 
 returns : tie.Need-returns
-unfolding sliceAnswer sliceRows sliceCols sliceNumber sliceWritten
 returns c =
     let a = c .before .before .before .before .before .before .args in
     let hints = now (a .hints) in
-    page-refused _ (sliceHits (a .how) (now (a .page)) (a .head) hints (a .base)) (length hints) _ _ _
+    slice-refused _ _
     (wide-refuses (a .how) (length hints) (sliceChecks (length (now (a .page))) hints (a .base)) (sym (c .before .refuses .ensures) ∙ c .if1 .taken))
 
 -- the table is not too wide, so the other checks decide
@@ -50,8 +48,7 @@ fill-requires c κs =
     slice-filling (a .how) (length (now (a .page))) (now (a .hints)) (a .base) (ltb-false _ _ (narrow (c .before .before .before .before .before))) (sym (c .before .before .before .before .check-slice .ensures) ∙ c .before .before .enum-told .given .1)
 
 returns-2 : tie.Need-returns-2
-unfolding sliceAnswer sliceRows sliceCols sliceNumber sliceWritten
-returns-2 c = page-refused _ _ _ _ _ _ (others (c .before .before .before .before) ∙ sym (c .before .before .before .check-slice .ensures) ∙ c .before .refusal .given .1)
+returns-2 c = slice-refused _ _ (others (c .before .before .before .before) ∙ sym (c .before .before .before .check-slice .ensures) ∙ c .before .refusal .given .1)
 
 same-length : tie.Need-same-length
 same-length c = search needs
@@ -60,8 +57,7 @@ same-length-2 : tie.Need-same-length-2
 same-length-2 c = search needs
 
 returns-3 : tie.Need-returns-3
-unfolding sliceAnswer sliceRows sliceCols sliceNumber sliceWritten
-returns-3 c = page-passed _ _ _ _ _ _ _ _ (others (c .before .before .before .before .before .before .before .before .before .before) ∙ sym (c .before .before .before .before .before .before .before .before .before .check-slice .ensures) ∙ c .before .before .before .before .before .before .before .enum-told .given .1) (c .before .before .before .before .fill .ensures)
+returns-3 c = slice-passed _ _ (others (c .before .before .before .before .before .before .before .before .before .before) ∙ sym (c .before .before .before .before .before .before .before .before .before .check-slice .ensures) ∙ c .before .before .before .before .before .before .before .enum-told .given .1) (c .before .before .before .before .fill .ensures)
 
 pub carve-slice-spec : {M : Type 1} → statement M
 carve-slice-spec =

@@ -51,12 +51,20 @@ loop-holds : tie.Need-loop-holds Inv-loop μ-loop
 loop-holds c = (tables-start _ _ _ _ _ _ _ _ _ _ _, record { flags-long = refl; stack-long = refl; rows-long = refl; cols-long = refl })
 
 -- a table is left
-under : (c : tie.In-loop Inv-loop μ-loop) → c .before .loop .t < length (now (c .before .before .before .before .before .before .before .before .before .before .before .before .before .args .counts))
-under c = omega (arith, c .loop-test .taken, c .before .before .before .before .before .before .before .before .before .before .before .before .before .pre .1 .alike)
+under : (c : tie.In-loop Inv-loop μ-loop) →
+    let start = c .before .before .before .before .before .before .before .before .before .before .before .before .before in
+    c .before .loop .t < length (now (start .args .counts))
+under c =
+    let start = c .before .before .before .before .before .before .before .before .before .before .before .before .before in
+    omega (arith, c .loop-test .taken, start .pre .1 .alike)
 
 -- and its hints are there
-inside : (c : tie.In-loop Inv-loop μ-loop) → let a = c .before .before .before .before .before .before .before .before .before .before .before .before .before .args in let l = c .before .loop in l .from + getD (now (a .counts)) (l .t) 0 ≤ length (now (a .hints))
-inside c = rw (c .before .before .before .before .before .before .before .before .before .before .before .before .before .pre .1 .sums) at (tables-inside _ _ _ _ _ _ _ _ _ _ _ _ _ _ _ _ (c .before .loop .inv .0) (c .loop-test .taken) (under c))
+inside : (c : tie.In-loop Inv-loop μ-loop) →
+    let start = c .before .before .before .before .before .before .before .before .before .before .before .before .before in
+    let a = start .args in let l = c .before .loop in l .from + getD (now (a .counts)) (l .t) 0 ≤ length (now (a .hints))
+inside c =
+    let start = c .before .before .before .before .before .before .before .before .before .before .before .before .before in
+    rw (start .pre .1 .sums) at (tables-inside _ _ _ _ _ _ _ _ _ _ _ _ _ _ _ _ (c .before .loop .inv .0) (c .loop-test .taken) (under c))
 
 mul-end : tie.Need-mul-end Inv-loop μ-loop
 mul-end c = omega (arith, under c)
@@ -83,17 +91,23 @@ part-carve-table-end : tie.Need-part-carve-table-end Inv-loop μ-loop
 part-carve-table-end c = inside (c .before .before)
 
 cast-carve-table : tie.Need-cast-carve-table Inv-loop μ-loop
-cast-carve-table c = omega (arith, c .before .before .before .loop-test .taken, c .before .before .before .before .before .before .before .before .before .before .before .before .before .before .before .before .pre .1 .few)
+cast-carve-table c =
+    let turn = c .before .before .before in
+    let start = turn .before .before .before .before .before .before .before .before .before .before .before .before .before in
+    omega (arith, turn .loop-test .taken, start .pre .1 .few)
 
 carve-table-requires : tie.Need-carve-table-requires Inv-loop μ-loop
 carve-table-requires c κs =
-    let p = c .before .before .before .before .before .before .before .before .before .before .before .before .before .before .before .before .before .before .before .before .pre in
-    let i = c .before .before .before .before .before .before .before .before .loop .inv in
+    let turn = c .before .before .before .before .before .before .before in
+    let flagged = turn .before .before .before .before in
+    let start = flagged .before .before .before .before .before .before .before .before .before in
+    let p = start .pre in
+    let i = turn .before .loop .inv in
     let l = i .1 in
-    let k = table-fits _ _ _ _ _ _ (p .1) (c .before .before .before .before .before .before .before .loop-test .taken) in
-    let w = c .before .before .before .before .before .before .before .before .before .before .widest .ensures in
-    rw (part-long (now (c .before .before .before .before .before .before .before .before .before .before .before .before .before .before .before .before .before .before .before .before .args .hints)) _ _ (inside (c .before .before .before .before .before .before .before))) (
-      omega (arith, c .before .before .before .before .before .before .before .before .before .before .before .if1 .left, l .flags-long),
+    let k = table-fits _ _ _ _ _ _ (p .1) (turn .loop-test .taken) in
+    let w = turn .before .before .before .widest .ensures in
+    rw (part-long (now (start .args .hints)) _ _ (inside turn)) (
+      omega (arith, flagged .if1 .left, l .flags-long),
       rw (l .rows-long, l .cols-long)
           (record {
             low = p .1 .low;
@@ -105,7 +119,7 @@ carve-table-requires c κs =
             space =
                 record {
                   narrow = rw w (k .2);
-                  room-is = c .before .before .before .before .before .before .before .before .before .room .ensures;
+                  room-is = turn .before .before .room .ensures;
                   fits = tables-room _ _ _ _ _ _ _ _ _ _ _ _ _ _ _ _ (i .0);
                 };
           }),
@@ -119,28 +133,34 @@ enum-told c = search needs
 
 -- what carving the table left
 carved : (c : tie.After-carve-table Inv-loop μ-loop) →
-    let a = c .before .before .before .before .before .before .before .before .before .before .before .before .before .before .before .before .before .before .before .before .before .args in
-    let l = c .before .before .before .before .before .before .before .before .before .loop in
+    let turn = c .before .before .before .before .before .before .before .before in
+    let start = turn .before .before .before .before .before .before .before .before .before .before .before .before .before in
+    let a = start .args in
+    let l = turn .before .loop in
     let w = walk (now (a .db)) (a .size) (length (now (a .stack))) (getD (now (a .roots)) (l .t) 0) in
     let q = c .carve-table in
-    Carves (c .before .before .before .before .before .before .before .before .before .before .before .widest .result) (c .before .before .before .before .before .before .before .before .before .before .room .result) (l .n) (hitsOf (leafHits (a .how) (now (a .db)) (a .size) (l .t) (take (getD (now (a .counts)) (l .t) 0) (drop (l .from) (now (a .hints))))) w) (overflows w)
+    Carves (turn .before .before .before .widest .result) (turn .before .before .room .result) (l .n) (hitsOf (leafHits (a .how) (now (a .db)) (a .size) (l .t) (take (getD (now (a .counts)) (l .t) 0) (drop (l .from) (now (a .hints))))) w) (overflows w)
     (l .rows) (l .cols) (tableAs (q .result)) (q .last .1 .1 .1 .1 .1 .1 .1 .1 .1 .1 .0) (q .last .1 .1 .1 .1 .1 .1 .1 .1 .1 .1 .1 .0)
 carved c =
-    let a = c .before .before .before .before .before .before .before .before .before .before .before .before .before .before .before .before .before .before .before .before .before .args in
-    let l = c .before .before .before .before .before .before .before .before .before .loop in
+    let turn = c .before .before .before .before .before .before .before .before in
+    let start = turn .before .before .before .before .before .before .before .before .before .before .before .before .before in
+    let a = start .args in
+    let l = turn .before .loop in
     let k = getD (now (a .counts)) (l .t) 0 in
     let e : l .from + k - l .from ≡ k = omega arith in
     rw (e, l .inv .1 .stack-long) at (c .carve-table .ensures)
 
 -- and the lists are still as long
 long : (c : tie.After-carve-table Inv-loop μ-loop) →
-    let a = c .before .before .before .before .before .before .before .before .before .before .before .before .before .before .before .before .before .before .before .before .before .args in
+    let start = c .before .before .before .before .before .before .before .before .before .before .before .before .before .before .before .before .before .before .before .before .before in
+    let a = start .args in
     let q = c .carve-table in
     Long (now (a .flags)) (now (a .stack)) (now (a .rows)) (now (a .cols))
     (q .last .1 .1 .1 .1 .1 .1 .1 .1 .0) (q .last .1 .1 .1 .1 .1 .1 .1 .1 .1 .0) (q .last .1 .1 .1 .1 .1 .1 .1 .1 .1 .1 .0) (q .last .1 .1 .1 .1 .1 .1 .1 .1 .1 .1 .1 .0)
 long c =
+    let turn = c .before .before .before .before .before .before .before .before in
     let q = c .carve-table in
-    let l = c .before .before .before .before .before .before .before .before .before .loop .inv .1 in
+    let l = turn .before .loop .inv .1 in
     record {
       flags-long = q .kept .1 .1 .1 .1 .1 .1 .1 .1 .0 ∙ l .flags-long;
       stack-long = q .kept .1 .1 .1 .1 .1 .1 .1 .1 .1 .0 ∙ l .stack-long;
@@ -148,56 +168,79 @@ long c =
       cols-long = q .kept .1 .1 .1 .1 .1 .1 .1 .1 .1 .1 .1 .0 ∙ l .cols-long;
     }
 
+-- where there was no room: the table that was carved before
+abbrev over : tie.After-enum-told Inv-loop μ-loop → tie.After-carve-table Inv-loop μ-loop
+over c = c .before .before .before .before .before .before .before .before .before .before
+
+-- where the stack was full: the table that was carved before
+abbrev short : tie.After-known-told2 Inv-loop μ-loop → tie.After-carve-table Inv-loop μ-loop
+short c = c .before .before .before .before .before .before .before .before .before .before .before
+
 same-length : tie.Need-same-length Inv-loop μ-loop
-same-length c = long (c .before .before .before .before .before .before .before .before .before .before) .flags-long
+same-length c = long (over c) .flags-long
 
 same-length-2 : tie.Need-same-length-2 Inv-loop μ-loop
-same-length-2 c = long (c .before .before .before .before .before .before .before .before .before .before) .stack-long
+same-length-2 c = long (over c) .stack-long
 
 same-length-3 : tie.Need-same-length-3 Inv-loop μ-loop
-same-length-3 c = long (c .before .before .before .before .before .before .before .before .before .before) .rows-long
+same-length-3 c = long (over c) .rows-long
 
 same-length-4 : tie.Need-same-length-4 Inv-loop μ-loop
-same-length-4 c = long (c .before .before .before .before .before .before .before .before .before .before) .cols-long
+same-length-4 c = long (over c) .cols-long
 
 -- the room is that of the widest table
-room-is : (c : tie.After-room Inv-loop μ-loop) → let a = c .before .before .before .before .before .before .before .before .before .before .before .args in c .room .result ≡ roomOf (length (now (a .rows))) (length (now (a .cols))) (widest (now (a .counts)))
+room-is : (c : tie.After-room Inv-loop μ-loop) →
+    let start = c .before .before .before .before .before .before .before .before .before .before .before in
+    let a = start .args in c .room .result ≡ roomOf (length (now (a .rows))) (length (now (a .cols))) (widest (now (a .counts)))
 room-is c = rw (c .before .widest .ensures) at (c .room .ensures)
 
 returns-2 : tie.Need-returns-2 Inv-loop μ-loop
 returns-2 c =
-    let x = tables-over _ _ _ _ _ _ _ _ _ _ _ _ _ _ _ _ (c .before .before .before .before .before .before .before .before .before .before .before .before .before .before .before .before .before .before .before .loop .inv .0) (c .before .before .before .before .before .before .before .before .before .before .before .before .before .before .before .before .before .before .loop-test .taken) (under (c .before .before .before .before .before .before .before .before .before .before .before .before .before .before .before .before .before .before)) _ _ (rw (c .enum-told .given .1) at (carved (c .before .before .before .before .before .before .before .before .before .before))) in
-    tabled _ _ _ _ _ _ _ _ _ _ _ _ _ _ (c .before .before .before .before .before .before .before .before .before .before .before .before .before .before .before .before .before .before .before .before .before .before .if1 .left) (room-is (c .before .before .before .before .before .before .before .before .before .before .before .before .before .before .before .before .before .before .before .before)) (rw (c .before .before .before .before .before .before .before .before .before .before .before .before .before .before .before .before .before .before .before .before .before .widest .ensures) at x)
+    let table = c .before .before .before .before .before .before .before .before .before .before in
+    let turn = table .before .before .before .before .before .before .before .before in
+    let flagged = turn .before .before .before .before in
+    let x = tables-over _ _ _ _ _ _ _ _ _ _ _ _ _ _ _ _ (turn .before .loop .inv .0) (turn .loop-test .taken) (under turn) _ _ (rw (c .enum-told .given .1) at (carved table)) in
+    tabled _ _ _ _ _ _ _ _ _ _ _ _ _ _ (flagged .if1 .left) (room-is (turn .before .before)) (rw (turn .before .before .before .widest .ensures) at x)
 
 enum-known-written : tie.Need-enum-known-written Inv-loop μ-loop
 enum-known-written c = search needs
 
 same-length-5 : tie.Need-same-length-5 Inv-loop μ-loop
-same-length-5 c = long (c .before .before .before .before .before .before .before .before .before .before .before) .flags-long
+same-length-5 c = long (short c) .flags-long
 
 same-length-6 : tie.Need-same-length-6 Inv-loop μ-loop
-same-length-6 c = long (c .before .before .before .before .before .before .before .before .before .before .before) .stack-long
+same-length-6 c = long (short c) .stack-long
 
 same-length-7 : tie.Need-same-length-7 Inv-loop μ-loop
-same-length-7 c = long (c .before .before .before .before .before .before .before .before .before .before .before) .rows-long
+same-length-7 c = long (short c) .rows-long
 
 same-length-8 : tie.Need-same-length-8 Inv-loop μ-loop
-same-length-8 c = long (c .before .before .before .before .before .before .before .before .before .before .before) .cols-long
+same-length-8 c = long (short c) .cols-long
 
 returns-3 : tie.Need-returns-3 Inv-loop μ-loop
 returns-3 c =
-    let x = tables-short _ _ _ _ _ _ _ _ _ _ _ _ _ _ _ _ (c .before .before .before .before .before .before .before .before .before .before .before .before .before .before .before .before .before .before .before .before .loop .inv .0) (c .before .before .before .before .before .before .before .before .before .before .before .before .before .before .before .before .before .before .before .loop-test .taken) (under (c .before .before .before .before .before .before .before .before .before .before .before .before .before .before .before .before .before .before .before)) _ _ _ (rw (c .before .written .given .1) at (carved (c .before .before .before .before .before .before .before .before .before .before .before))) in
-    tabled _ _ _ _ _ _ _ _ _ _ _ _ _ _ (c .before .before .before .before .before .before .before .before .before .before .before .before .before .before .before .before .before .before .before .before .before .before .before .if1 .left) (room-is (c .before .before .before .before .before .before .before .before .before .before .before .before .before .before .before .before .before .before .before .before .before)) (rw (c .before .before .before .before .before .before .before .before .before .before .before .before .before .before .before .before .before .before .before .before .before .before .widest .ensures) at x)
+    let table = c .before .before .before .before .before .before .before .before .before .before .before in
+    let turn = table .before .before .before .before .before .before .before .before in
+    let flagged = turn .before .before .before .before in
+    let x = tables-short _ _ _ _ _ _ _ _ _ _ _ _ _ _ _ _ (turn .before .loop .inv .0) (turn .loop-test .taken) (under turn) _ _ _ (rw (c .before .written .given .1) at (carved table)) in
+    tabled _ _ _ _ _ _ _ _ _ _ _ _ _ _ (flagged .if1 .left) (room-is (turn .before .before)) (rw (turn .before .before .before .widest .ensures) at x)
 
 add-t : tie.Need-add-t Inv-loop μ-loop
-add-t c = omega (arith, c .before .before .before .before .before .before .before .before .before .before .before .before .before .before .before .before .before .before .before .loop-test .taken, c .before .before .before .before .before .before .before .before .before .before .before .before .before .before .before .before .before .before .before .before .before .before .before .before .before .before .before .before .before .before .before .before .pre .1 .few)
+add-t c =
+    let turn = c .before .before .before .before .before .before .before .before .before .before .before .before .before .before .before .before .before .before .before in
+    let start = turn .before .before .before .before .before .before .before .before .before .before .before .before .before in
+    omega (arith, turn .loop-test .taken, start .pre .1 .few)
 
 loop-less : tie.Need-loop-less Inv-loop μ-loop
-loop-less c = omega (arith, c .before .before .before .before .before .before .before .before .before .before .before .before .before .before .before .before .before .before .before .loop-test .taken)
+loop-less c =
+    let turn = c .before .before .before .before .before .before .before .before .before .before .before .before .before .before .before .before .before .before .before in
+    omega (arith, turn .loop-test .taken)
 
 loop-again : tie.Need-loop-again Inv-loop μ-loop
 loop-again c =
-    (tables-on _ _ _ _ _ _ _ _ _ _ _ _ _ _ _ _ (c .before .before .before .before .before .before .before .before .before .before .before .before .before .before .before .before .before .before .before .before .loop .inv .0) (c .before .before .before .before .before .before .before .before .before .before .before .before .before .before .before .before .before .before .before .loop-test .taken) (under (c .before .before .before .before .before .before .before .before .before .before .before .before .before .before .before .before .before .before .before)) _ _ _ (rw (c .before .next .given .1) at (carved (c .before .before .before .before .before .before .before .before .before .before .before))), long (c .before .before .before .before .before .before .before .before .before .before .before))
+    let table = c .before .before .before .before .before .before .before .before .before .before .before in
+    let turn = table .before .before .before .before .before .before .before .before in
+    (tables-on _ _ _ _ _ _ _ _ _ _ _ _ _ _ _ _ (turn .before .loop .inv .0) (turn .loop-test .taken) (under turn) _ _ _ (rw (c .before .next .given .1) at (carved table)), long table)
 
 same-length-9 : tie.Need-same-length-9 Inv-loop μ-loop
 same-length-9 c = c .before .loop .inv .1 .flags-long

@@ -38,12 +38,17 @@ same-length-2 : tie.Need-same-length-2 Inv-loop μ-loop
 same-length-2 c = search needs
 
 returns : tie.Need-returns Inv-loop μ-loop
-returns c = leaves-none _ _ _ _ _ _ _ _ _ _ (rw (c .enum-told .given .1) at (c .before .before .before .before .before .before .begin .ensures .0)) (c .before .before .before .before .before .before .before .before .before .before .before .before .before .before .before .pre .1 .space .fits)
+returns c =
+    let begun = c .before .before .before .before .before .before in
+    let start = begun .before .before .before .before .before .before .before .before .before in
+    leaves-none _ _ _ _ _ _ _ _ _ _ (rw (c .enum-told .given .1) at (begun .begin .ensures .0)) (start .pre .1 .space .fits)
 
 loop-holds : tie.Need-loop-holds Inv-loop μ-loop
 loop-holds c =
-    let b = c .before .before .before .before .before .before .before .begin in
-    let p = c .before .before .before .before .before .before .before .before .before .before .before .before .before .before .before .before .pre in
+    let begun = c .before .before .before .before .before .before .before in
+    let start = begun .before .before .before .before .before .before .before .before .before in
+    let b = begun .begin in
+    let p = start .pre in
     let e = rw (c .before .height .given .1, ← b .kept .1 .1 .0) at (b .ensures .0) in
     let clear = b .ensures .1 .0 ∙ ap (λ (k : ℕ). replicate k 0) (sym (b .kept .1 .0)) in
     let top = rw (c .before .height .given .1) at (b .ensures .1 .1) in
@@ -51,8 +56,10 @@ loop-holds c =
 
 next-leaf-requires : tie.Need-next-leaf-requires Inv-loop μ-loop
 next-leaf-requires c κs =
-    let p = c .before .before .before .before .before .before .before .before .before .before .before .before .before .before .before .before .before .before .before .pre .1 in
-    let w = c .before .before .loop .inv .0 .along in
+    let turn = c .before .before in
+    let start = turn .before .before .before .before .before .before .before .before .before .before .before .before .before .before .before .before .before in
+    let p = start .pre .1 in
+    let w = turn .loop .inv .0 .along in
     (p .low, (p .high, (omega (arith, w .flagged, w .flags-long), w .fits)))
 
 enum-known-page : tie.Need-enum-known-page Inv-loop μ-loop
@@ -60,20 +67,28 @@ enum-known-page c = search needs
 
 -- a leaf was popped
 found : (c : tie.After-known-told2 Inv-loop μ-loop) →
-    let a = c .before .before .before .before .before .before .before .before .before .before .before .before .before .before .before .before .before .before .before .before .before .before .before .before .before .before .before .args in
-    let l = c .before .before .before .before .before .before .before .before .before .before .loop in
-    let q = c .before .before .before .before .before .before .before .next-leaf in
+    let asked = c .before .before .before .before .before .before .before in
+    let turn = asked .before .before .before in
+    let start = turn .before .before .before .before .before .before .before .before .before .before .before .before .before .before .before .before .before in
+    let a = start .args in
+    let l = turn .loop in
+    let q = asked .next-leaf in
     LeafIs (now (a .db)) (a .size) (rest (l .inv .0 .along .fuel) (now (a .db)) (a .size) (l .flags) (l .stack) (l .top)) (need (length (now (a .db)) / a .size) (length (l .stack)) (l .flags) (l .top))
     (q .last .1 .1 .0) (q .last .1 .1 .1 .0) (c .before .page .given .0 .0) (c .before .page .given .0 .1 .0)
-found c = let w = c .before .before .before .before .before .before .before .before .before .before .loop .inv .0 .along in rw (c .before .page .given .1) at (c .before .before .before .before .before .before .before .next-leaf .ensures) (w .fuel) (w .enough)
+found c =
+    let asked = c .before .before .before .before .before .before .before in
+    let turn = asked .before .before .before in
+    let w = turn .loop .inv .0 .along in rw (c .before .page .given .1) at (asked .next-leaf .ensures) (w .fuel) (w .enough)
 
 -- the lists are as long as they were
 ready : (c : tie.At-loop Inv-loop μ-loop) →
-    let a = c .before .before .before .before .before .before .before .before .before .before .before .before .before .before .before .before .before .args in
+    let start = c .before .before .before .before .before .before .before .before .before .before .before .before .before .before .before .before .before in
+    let a = start .args in
     let l = c .loop in
     TableReady (a .how) (length (now (a .db))) (a .size) (length (now (a .hints))) (a .lent) (l .m) (length (l .rows)) (length (l .cols))
 ready c =
-    let p = c .before .before .before .before .before .before .before .before .before .before .before .before .before .before .before .before .before .pre .1 in
+    let start = c .before .before .before .before .before .before .before .before .before .before .before .before .before .before .before .before .before in
+    let p = start .pre .1 in
     let i = c .loop .inv in
     rw (i .1, i .2)
     (record {
@@ -87,7 +102,10 @@ ready c =
     })
 
 carve-leaf-requires : tie.Need-carve-leaf-requires Inv-loop μ-loop
-carve-leaf-requires c κs = let x = found (c .before .before) in ((x .some, x .there), ready (c .before .before .before .before .before .before .before .before .before .before .before .before))
+carve-leaf-requires c κs =
+    let popped = c .before .before in
+    let turn = popped .before .before .before .before .before .before .before .before .before .before in
+    let x = found popped in ((x .some, x .there), ready turn)
 
 enum-known-next : tie.Need-enum-known-next Inv-loop μ-loop
 enum-known-next c = search needs
@@ -95,33 +113,70 @@ enum-known-next c = search needs
 enum-told-2 : tie.Need-enum-told-2 Inv-loop μ-loop
 enum-told-2 c = search needs
 
+-- where the next leaf was asked for, flags and stack are as long as they were
+flags-long : (c : tie.After-next-leaf Inv-loop μ-loop) →
+    let turn = c .before .before .before in
+    let begun = turn .before .before .before .before .before .before .before .before in
+    let start = begun .before .before .before .before .before .before .before .before .before in
+    length (c .next-leaf .last .1 .1 .0) ≡ length (now (start .args .flags))
+flags-long c =
+    let turn = c .before .before .before in
+    let begun = turn .before .before .before .before .before .before .before .before in
+    c .next-leaf .kept .1 .1 .0 ∙ turn .loop .inv .0 .along .flags-long ∙ begun .begin .kept .1 .0
+
+stack-long : (c : tie.After-next-leaf Inv-loop μ-loop) →
+    let turn = c .before .before .before in
+    let begun = turn .before .before .before .before .before .before .before .before in
+    let start = begun .before .before .before .before .before .before .before .before .before in
+    length (c .next-leaf .last .1 .1 .1 .0) ≡ length (now (start .args .stack))
+stack-long c =
+    let turn = c .before .before .before in
+    let begun = turn .before .before .before .before .before .before .before .before in
+    c .next-leaf .kept .1 .1 .1 .0 ∙ turn .loop .inv .0 .along .stack-long ∙ begun .begin .kept .1 .1 .0
+
+-- where a leaf was popped: the next was asked for
+abbrev asked : tie.After-known-told2 Inv-loop μ-loop → tie.After-next-leaf Inv-loop μ-loop
+asked c = c .before .before .before .before .before .before .before
+
+-- where there was no room: the leaf that was popped before
+abbrev over : tie.After-enum-told2 Inv-loop μ-loop → tie.After-known-told2 Inv-loop μ-loop
+over c = c .before .before .before .before .before .before .before .before .before
+
 same-length-3 : tie.Need-same-length-3 Inv-loop μ-loop
-same-length-3 c = c .before .before .before .before .before .before .before .before .before .before .before .before .before .before .before .before .next-leaf .kept .1 .1 .0 ∙ c .before .before .before .before .before .before .before .before .before .before .before .before .before .before .before .before .before .before .before .loop .inv .0 .along .flags-long ∙ c .before .before .before .before .before .before .before .before .before .before .before .before .before .before .before .before .before .before .before .before .before .before .before .before .before .before .before .begin .kept .1 .0
+same-length-3 c = flags-long (asked (over c))
 
 same-length-4 : tie.Need-same-length-4 Inv-loop μ-loop
-same-length-4 c = c .before .before .before .before .before .before .before .before .before .before .before .before .before .before .before .before .next-leaf .kept .1 .1 .1 .0 ∙ c .before .before .before .before .before .before .before .before .before .before .before .before .before .before .before .before .before .before .before .loop .inv .0 .along .stack-long ∙ c .before .before .before .before .before .before .before .before .before .before .before .before .before .before .before .before .before .before .before .before .before .before .before .before .before .before .before .begin .kept .1 .1 .0
+same-length-4 c = stack-long (asked (over c))
 
 same-length-5 : tie.Need-same-length-5 Inv-loop μ-loop
-same-length-5 c = c .before .before .before .before .before .before .carve-leaf .kept .1 .1 .1 .1 .1 .1 .1 .1 .0 ∙ c .before .before .before .before .before .before .before .before .before .before .before .before .before .before .before .before .before .before .before .loop .inv .1
+same-length-5 c = c .before .before .before .before .before .before .carve-leaf .kept .1 .1 .1 .1 .1 .1 .1 .1 .0 ∙ asked (over c) .before .before .before .loop .inv .1
 
 same-length-6 : tie.Need-same-length-6 Inv-loop μ-loop
-same-length-6 c = c .before .before .before .before .before .before .carve-leaf .kept .1 .1 .1 .1 .1 .1 .1 .1 .1 .0 ∙ c .before .before .before .before .before .before .before .before .before .before .before .before .before .before .before .before .before .before .before .loop .inv .2
+same-length-6 c = c .before .before .before .before .before .before .carve-leaf .kept .1 .1 .1 .1 .1 .1 .1 .1 .1 .0 ∙ asked (over c) .before .before .before .loop .inv .2
 
 returns-2 : tie.Need-returns-2 Inv-loop μ-loop
 returns-2 c =
-    rw (c .before .before .before .before .before .before .before .before .before .before .before .before .before .before .before .before .before .before .before .before .before .before .before .before .before .before .before .begin .kept .1 .1 .0) at
-    (leaves-over _ _ _ _ _ _ _ _ _ _ _ _ _ _ _ _ _ (c .before .before .before .before .before .before .before .before .before .before .before .before .before .before .before .before .before .before .before .loop .inv .0) _ _ _ _ _ (found (c .before .before .before .before .before .before .before .before .before)) _ _ (rw (c .enum-told2 .given .1) at (c .before .before .before .before .before .before .carve-leaf .ensures)))
+    let popped = c .before .before .before .before .before .before .before .before .before in
+    let turn = popped .before .before .before .before .before .before .before .before .before .before in
+    let begun = turn .before .before .before .before .before .before .before .before in
+    rw (begun .begin .kept .1 .1 .0) at
+    (leaves-over _ _ _ _ _ _ _ _ _ _ _ _ _ _ _ _ _ (turn .loop .inv .0) _ _ _ _ _ (found popped) _ _ (rw (c .enum-told2 .given .1) at (c .before .before .before .before .before .before .carve-leaf .ensures)))
 
 loop-less : tie.Need-loop-less Inv-loop μ-loop
-loop-less c = found (c .before .before .before .before .before .before .before .before .before .before) .less
+loop-less c =
+    let popped = c .before .before .before .before .before .before .before .before .before .before in
+    found popped .less
 
 loop-again : tie.Need-loop-again Inv-loop μ-loop
 loop-again c =
-    let i = c .before .before .before .before .before .before .before .before .before .before .before .before .before .before .before .before .before .before .before .before .loop .inv in
-    let q = c .before .before .before .before .before .before .before .before .before .before .before .before .before .before .before .before .before .next-leaf in
+    let popped = c .before .before .before .before .before .before .before .before .before .before in
+    let asked = popped .before .before .before .before .before .before .before in
+    let turn = asked .before .before .before in
+    let i = turn .loop .inv in
+    let q = asked .next-leaf in
     let b = c .before .before .before .before .before .before .before .carve-leaf in
     let x = rw (c .before .next .given .1) at (b .ensures) in (
-      leaves-on _ _ _ _ _ _ _ _ _ _ _ _ _ _ _ _ _ (i .0) _ _ _ _ _ (found (c .before .before .before .before .before .before .before .before .before .before)) _ _ _ x (q .kept .1 .1 .1 .0) (q .kept .1 .1 .0),
+      leaves-on _ _ _ _ _ _ _ _ _ _ _ _ _ _ _ _ _ (i .0) _ _ _ _ _ (found popped) _ _ _ x (q .kept .1 .1 .1 .0) (q .kept .1 .1 .0),
       b .kept .1 .1 .1 .1 .1 .1 .1 .1 .0 ∙ i .1,
       b .kept .1 .1 .1 .1 .1 .1 .1 .1 .1 .0 ∙ i .2,
     )
@@ -130,10 +185,10 @@ enum-told-3 : tie.Need-enum-told-3 Inv-loop μ-loop
 enum-told-3 c = search needs
 
 same-length-7 : tie.Need-same-length-7 Inv-loop μ-loop
-same-length-7 c = c .before .before .before .before .before .before .next-leaf .kept .1 .1 .0 ∙ c .before .before .before .before .before .before .before .before .before .loop .inv .0 .along .flags-long ∙ c .before .before .before .before .before .before .before .before .before .before .before .before .before .before .before .before .before .begin .kept .1 .0
+same-length-7 c = flags-long (c .before .before .before .before .before .before)
 
 same-length-8 : tie.Need-same-length-8 Inv-loop μ-loop
-same-length-8 c = c .before .before .before .before .before .before .next-leaf .kept .1 .1 .1 .0 ∙ c .before .before .before .before .before .before .before .before .before .loop .inv .0 .along .stack-long ∙ c .before .before .before .before .before .before .before .before .before .before .before .before .before .before .before .before .before .begin .kept .1 .1 .0
+same-length-8 c = stack-long (c .before .before .before .before .before .before)
 
 same-length-9 : tie.Need-same-length-9 Inv-loop μ-loop
 same-length-9 c = c .before .before .before .before .before .before .before .before .before .loop .inv .1
@@ -143,18 +198,21 @@ same-length-10 c = c .before .before .before .before .before .before .before .be
 
 returns-3 : tie.Need-returns-3 Inv-loop μ-loop
 returns-3 c =
-    let w = c .before .before .before .before .before .before .before .before .before .loop .inv .0 in
-    rw (c .before .before .before .before .before .before .before .before .before .before .before .before .before .before .before .before .before .begin .kept .1 .1 .0) at
-    (leaves-done _ _ _ _ _ _ _ _ _ _ _ _ _ _ _ _ _ w (rw (c .enum-told3 .given .1) at (c .before .before .before .before .before .before .next-leaf .ensures) (w .along .fuel) (w .along .enough)))
+    let asked = c .before .before .before .before .before .before in
+    let turn = asked .before .before .before in
+    let begun = turn .before .before .before .before .before .before .before .before in
+    let w = turn .loop .inv .0 in
+    rw (begun .begin .kept .1 .1 .0) at
+    (leaves-done _ _ _ _ _ _ _ _ _ _ _ _ _ _ _ _ _ w (rw (c .enum-told3 .given .1) at (asked .next-leaf .ensures) (w .along .fuel) (w .along .enough)))
 
 enum-told-4 : tie.Need-enum-told-4 Inv-loop μ-loop
 enum-told-4 c = search needs
 
 same-length-11 : tie.Need-same-length-11 Inv-loop μ-loop
-same-length-11 c = c .before .before .before .before .before .before .next-leaf .kept .1 .1 .0 ∙ c .before .before .before .before .before .before .before .before .before .loop .inv .0 .along .flags-long ∙ c .before .before .before .before .before .before .before .before .before .before .before .before .before .before .before .before .before .begin .kept .1 .0
+same-length-11 c = flags-long (c .before .before .before .before .before .before)
 
 same-length-12 : tie.Need-same-length-12 Inv-loop μ-loop
-same-length-12 c = c .before .before .before .before .before .before .next-leaf .kept .1 .1 .1 .0 ∙ c .before .before .before .before .before .before .before .before .before .loop .inv .0 .along .stack-long ∙ c .before .before .before .before .before .before .before .before .before .before .before .before .before .before .before .before .before .begin .kept .1 .1 .0
+same-length-12 c = stack-long (c .before .before .before .before .before .before)
 
 same-length-13 : tie.Need-same-length-13 Inv-loop μ-loop
 same-length-13 c = c .before .before .before .before .before .before .before .before .before .loop .inv .1
@@ -164,9 +222,12 @@ same-length-14 c = c .before .before .before .before .before .before .before .be
 
 returns-4 : tie.Need-returns-4 Inv-loop μ-loop
 returns-4 c =
-    let w = c .before .before .before .before .before .before .before .before .before .loop .inv .0 in
-    rw (c .before .before .before .before .before .before .before .before .before .before .before .before .before .before .before .before .before .begin .kept .1 .1 .0) at
-    (leaves-full _ _ _ _ _ _ _ _ _ _ _ _ _ _ _ _ _ w (rw (c .enum-told4 .given .1) at (c .before .before .before .before .before .before .next-leaf .ensures) (w .along .fuel) (w .along .enough)))
+    let asked = c .before .before .before .before .before .before in
+    let turn = asked .before .before .before in
+    let begun = turn .before .before .before .before .before .before .before .before in
+    let w = turn .loop .inv .0 in
+    rw (begun .begin .kept .1 .1 .0) at
+    (leaves-full _ _ _ _ _ _ _ _ _ _ _ _ _ _ _ _ _ w (rw (c .enum-told4 .given .1) at (asked .next-leaf .ensures) (w .along .fuel) (w .along .enough)))
 
 pub carve-table-spec : {M : Type 1} → statement M
 carve-table-spec =

@@ -7,13 +7,14 @@ use borrow.Author.Tests.{ltb-false}
 use denote.Ref.{now}
 use lib.Dec.{ltb}
 use lib.ListN.{length}
-use Rattle.carving.specs.Calls.{widthBy, leafHits}
-use Rattle.tables.specs.Calls.{tableChecksBy, tabledAnswer, tabledRows, tabledCols, tabledCleared, tabledNumber, tabledWritten}
+use Rattle.carving.specs.Calls.{widthBy}
+use Rattle.tables.specs.Calls.{asked, tableChecksBy}
 use Rattle.carving.proofs.Callers.{wide-refuses, narrow-on}
 use Rattle.tables.proofs.tables.carve_tables.Statement.{statement}
 use Rattle.tables.proofs.tables.carve_tables.Tie as tie
 use Rattle.sheet.specs.Refusal.{firstHeld}
-use Rattle.walk.proofs.Promises.{tables-fit, tables-refused, tables-passed}
+use Rattle.tables.proofs.Callers.{tables-refused, tables-passed}
+use Rattle.walk.proofs.Promises.{tables-fit}
 use Rattle.walk.specs.Carve.{widest, tableChecks}
 
 widest-requires : tie.Need-widest-requires
@@ -23,22 +24,27 @@ refuses-requires : tie.Need-refuses-requires
 refuses-requires c κs = search needs
 
 returns : tie.Need-returns
-unfolding tabledAnswer tabledRows tabledCols tabledCleared tabledNumber tabledWritten
 returns c =
-    let a = c .before .before .before .before .before .before .before .before .before .before .before .args in
-    tables-refused _ (leafHits (a .how) (now (a .db)) (a .size)) _ _ _ _ _ _ _ _ _ _
+    let start = c .before .before .before .before .before .before .before .before .before .before .before in
+    let a = start .args in
+    tables-refused _ _
     (wide-refuses (a .how) (widest (now (a .counts))) (tableChecks (length (now (a .db))) (a .size) (now (a .roots)) (now (a .counts)) (now (a .hints)))
     (rw (c .before .before .widest .ensures) at (sym (c .before .refuses .ensures) ∙ c .if1 .taken)))
 
 -- no table is too wide, so the other checks decide
-narrow : (c : tie.Else1) → let a = c .before .before .before .before .before .before .before .before .before .before .before .args in ltb (widthBy (a .how)) (widest (now (a .counts))) ≡ false
+narrow : (c : tie.Else1) →
+    let start = c .before .before .before .before .before .before .before .before .before .before .before in
+    let a = start .args in ltb (widthBy (a .how)) (widest (now (a .counts))) ≡ false
 narrow c = rw (c .before .before .widest .ensures) at (sym (c .before .refuses .ensures) ∙ c .if1 .left)
 
 others : (c : tie.Else1) →
-    let a = c .before .before .before .before .before .before .before .before .before .before .before .args in
+    let start = c .before .before .before .before .before .before .before .before .before .before .before in
+    let a = start .args in
     firstHeld (tableChecksBy (a .how) (length (now (a .db))) (a .size) (now (a .roots)) (now (a .counts)) (now (a .hints)))
     ≡ firstHeld (tableChecks (length (now (a .db))) (a .size) (now (a .roots)) (now (a .counts)) (now (a .hints)))
-others c = let a = c .before .before .before .before .before .before .before .before .before .before .before .args in narrow-on (a .how) (widest (now (a .counts))) (tableChecks (length (now (a .db))) (a .size) (now (a .roots)) (now (a .counts)) (now (a .hints))) (narrow c)
+others c =
+    let start = c .before .before .before .before .before .before .before .before .before .before .before in
+    let a = start .args in narrow-on (a .how) (widest (now (a .counts))) (tableChecks (length (now (a .db))) (a .size) (now (a .roots)) (now (a .counts)) (now (a .hints))) (narrow c)
 
 check-requires : tie.Need-check-requires
 check-requires c κs = search needs
@@ -51,8 +57,10 @@ enum-told c = search needs
 
 carve-checked-requires : tie.Need-carve-checked-requires
 carve-checked-requires c κs =
-    let a = c .before .before .before .before .before .before .before .before .before .before .before .before .before .before .before .before .before .before .args in
-    (ltb-false _ _ (narrow (c .before .before .before .before .before .before .before)), tables-fit (length (now (a .db))) (a .size) (now (a .roots)) (now (a .counts)) (now (a .hints)) (sym (c .before .before .before .before .before .before .check .ensures) ∙ c .before .before .before .before .enum-told .given .1))
+    let narrowed = c .before .before .before .before .before .before .before in
+    let start = narrowed .before .before .before .before .before .before .before .before .before .before .before in
+    let a = start .args in
+    (ltb-false _ _ (narrow narrowed), tables-fit (length (now (a .db))) (a .size) (now (a .roots)) (now (a .counts)) (now (a .hints)) (sym (c .before .before .before .before .before .before .check .ensures) ∙ c .before .before .before .before .enum-told .given .1))
 
 clear-flags-requires : tie.Need-clear-flags-requires
 clear-flags-requires c κs = search needs
@@ -61,8 +69,7 @@ clear-stack-requires : tie.Need-clear-stack-requires
 clear-stack-requires c κs = search needs
 
 returns-2 : tie.Need-returns-2
-unfolding tabledAnswer tabledRows tabledCols tabledCleared tabledNumber tabledWritten
-returns-2 c = let a = c .before .before .before .before .before .before .before .before .before .before .before .before .before .before .before .args in tables-refused _ (leafHits (a .how) (now (a .db)) (a .size)) _ _ _ _ _ _ _ _ _ _ (others (c .before .before .before .before) ∙ sym (c .before .before .before .check .ensures) ∙ c .before .refusal .given .1)
+returns-2 c = tables-refused _ _ (others (c .before .before .before .before) ∙ sym (c .before .before .before .check .ensures) ∙ c .before .refusal .given .1)
 
 same-length : tie.Need-same-length
 same-length c = search needs
@@ -77,12 +84,14 @@ same-length-4 : tie.Need-same-length-4
 same-length-4 c = search needs
 
 returns-3 : tie.Need-returns-3
-unfolding tabledAnswer tabledRows tabledCols tabledCleared tabledNumber tabledWritten
 returns-3 c =
-    let a = c .before .before .before .before .before .before .before .before .before .before .before .before .before .before .before .before .before .before .before .before .before .before .before .before .before .before .before .before .before .before .before .before .before .before .before .args in
-    let x = c .before .before .before .before .before .before .before .before .before .before .before .before .before .before .before .before .carve-checked in
+    let carved = c .before .before .before .before .before .before .before .before .before .before .before .before .before .before .before .before in
+    let narrowed = carved .before .before .before .before .before .before .before .before in
+    let start = narrowed .before .before .before .before .before .before .before .before .before .before .before in
+    let a = start .args in
+    let x = carved .carve-checked in
     rw (c .before .before .before .before .before .before .clear-flags .ensures, c .before .before .clear-stack .ensures, x .kept .1 .1 .1 .1 .1 .1 .0, x .kept .1 .1 .1 .1 .1 .1 .1 .0)
-    (tables-passed _ (leafHits (a .how) (now (a .db)) (a .size)) _ _ _ _ _ (now (a .flags)) (now (a .stack)) _ _ _ _ _ (others (c .before .before .before .before .before .before .before .before .before .before .before .before .before .before .before .before .before .before .before .before .before .before .before .before) ∙ sym (c .before .before .before .before .before .before .before .before .before .before .before .before .before .before .before .before .before .before .before .before .before .before .before .check .ensures) ∙ c .before .before .before .before .before .before .before .before .before .before .before .before .before .before .before .before .before .before .before .before .before .enum-told .given .1) (x .ensures))
+    (tables-passed (asked (a .how) (now (a .db)) (a .size) (now (a .roots)) (now (a .counts)) (now (a .hints)) (now (a .flags)) (now (a .stack)) (now (a .rows)) (now (a .cols))) _ _ _ (others narrowed ∙ sym (carved .before .before .before .before .before .before .before .check .ensures) ∙ carved .before .before .before .before .before .enum-told .given .1) (x .ensures))
 
 pub carve-tables-spec : {M : Type 1} → statement M
 carve-tables-spec =

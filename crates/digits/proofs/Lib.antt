@@ -1,2 +1,3 @@
 mod Cases
+mod Decimals
 pub mod Laws

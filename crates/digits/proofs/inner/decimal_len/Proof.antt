@@ -2,7 +2,7 @@
 -- Assumes nothing.
 use native.Mathlib.Omega.{arith}
 use borrow.Author.Needs.{needs}
-use Rattle.digits.proofs.Laws.{Counted, counted-start, counted-more, counted-few, counted-end}
+use Rattle.digits.proofs.Decimals.{Counted, counted-start, counted-more, counted-few, counted-end}
 use Rattle.digits.proofs.inner.decimal_len.Statement.{statement}
 use Rattle.digits.proofs.inner.decimal_len.Tie as tie
 

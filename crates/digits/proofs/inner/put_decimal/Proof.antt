@@ -1,12 +1,12 @@
 -- `digits::inner::put_decimal` meets its contract. The loop's invariant: the digits of the rest, written before `to`, give what all of them give.
 -- Assumes nothing.
 use Prim.Native.Nat.{_≤_}
-use mathlib.Core.Path.{_≡_, refl, _∙_}
+use mathlib.Core.Path.{_≡_, refl}
 use native.Mathlib.Omega.{arith}
 use lib.ListN.{length, length-set}
 use borrow.Author.Needs.{needs}
 use Rattle.digits.specs.Digits.{mostDigits}
-use Rattle.digits.proofs.Laws.{decimal-few, Left, left-start, left-more, left-end}
+use Rattle.digits.proofs.Decimals.{decimal-few, Left, left-start, left-more, left-end}
 use Rattle.digits.proofs.inner.put_decimal.Statement.{statement}
 use Rattle.digits.proofs.inner.put_decimal.Tie as tie
 

@@ -48,7 +48,7 @@ runHits spot columns from (noRoom o) = []
 runHits spot columns from (missed o t) = runHits spot columns from t
 runHits spot columns from (found o x t) = regionHit spot columns from o x ∷ runHits spot columns from t
 
--- Rule 11.2: a region is scanned by the scan's rule (4.8), with room for as many rows as it has bytes: each finds it (`proofs/Room.antt`)
+-- Rule 11.2: a region is scanned by the scan's rule (4.8), with room for as many rows as it has bytes: each finds it (`roomy` of `scanlaws`)
 unfoldable pub regionHits : Spot → ℕ → List ℕ → List ℕ → List Hit
 regionHits spot from s hints = runHits spot (length hints) from (scanFrom (length s) s hints (length s) 0 0)
 

@@ -1,10 +1,9 @@
 -- A contract fixes what a call leaves: any two outcomes that it allows for the same arguments are equal. `Post` is the function's own postcondition.
--- Said once for each kind of call, whatever the way of carving, and by that of each public call.
+-- Said once of the promises of each kind of call, whatever the way of carving, and by that of each call.
 -- Assumes nothing.
 use mathlib.Core.Path.{_≡_, sym, _∙_}
 use denote.Ref.{now}
 use Rattle.carving.specs.Calls.{OnPage, onPage, SliceAsked, SlicePromises, NumberedAsked, NumberedPromises}
-use Rattle.carving.specs.declared.inner.Carving.the-variants.{Freeblocks, Gaps, Payload}
 use Rattle.carving.proofs.freeblocks.recover_page_freeblocks.Reads as recover-page-freeblocks
 use Rattle.carving.proofs.freeblocks.recover_slice_freeblocks.Reads as recover-slice-freeblocks
 use Rattle.carving.proofs.gaps.parse_cells_from_freeblock.Reads as parse-cells-from-freeblock
@@ -32,16 +31,16 @@ carve-numbered-fixed k a x y s t p q = numbered-fixed _ _ _ p q
 
 -- ---- the public calls
 pub recover-slice-freeblocks-fixed : FixesSeen recover-slice-freeblocks.Post (λ k r s. onPage r (now (s .1 .1 .1 .1 .0)) (now (s .1 .1 .1 .1 .1 .0)))
-recover-slice-freeblocks-fixed k a x y s t p q = carve-slice-fixed k (Freeblocks, a) x y (Freeblocks, s) (Freeblocks, t) p q
+recover-slice-freeblocks-fixed k a x y s t p q = slice-fixed _ _ _ p q
 
 pub recover-page-freeblocks-fixed : FixesSeen recover-page-freeblocks.Post (λ k r s. onPage r (now (s .1 .1 .1 .1 .0)) (now (s .1 .1 .1 .1 .1 .0)))
-recover-page-freeblocks-fixed k a x y s t p q = carve-numbered-fixed k (Freeblocks, a) x y (Freeblocks, s) (Freeblocks, t) p q
+recover-page-freeblocks-fixed k a x y s t p q = numbered-fixed _ _ _ p q
 
 pub scan-single-page-gap-fixed : FixesSeen scan-single-page-gap.Post (λ k r s. onPage r (now (s .1 .1 .1 .1 .1 .0)) (now (s .1 .1 .1 .1 .1 .1 .0)))
-scan-single-page-gap-fixed k a x y s t p q = carve-slice-fixed k (Gaps (a .0), a .1) x y (Gaps (s .0), s .1) (Gaps (t .0), t .1) p q
+scan-single-page-gap-fixed k a x y s t p q = slice-fixed _ _ _ p q
 
 pub scan-page-gap-fixed : FixesSeen scan-page-gap.Post (λ k r s. onPage r (now (s .1 .1 .1 .1 .1 .0)) (now (s .1 .1 .1 .1 .1 .1 .0)))
-scan-page-gap-fixed k a x y s t p q = carve-numbered-fixed k (Gaps (a .0), a .1) x y (Gaps (s .0), s .1) (Gaps (t .0), t .1) p q
+scan-page-gap-fixed k a x y s t p q = numbered-fixed _ _ _ p q
 
 pub parse-cells-from-freeblock-fixed : FixesSeen parse-cells-from-freeblock.Post (λ k r s. onPage r (now (s .1 .1 .1 .1 .0)) (now (s .1 .1 .1 .1 .1 .0)))
-parse-cells-from-freeblock-fixed k a x y s t p q = carve-slice-fixed k (Payload (a .0), (a .1 .0, (0, a .1 .1))) x y (Payload (s .0), (s .1 .0, (0, s .1 .1))) (Payload (t .0), (t .1 .0, (0, t .1 .1))) p q
+parse-cells-from-freeblock-fixed k a x y s t p q = slice-fixed _ _ _ p q

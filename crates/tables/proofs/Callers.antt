@@ -9,8 +9,8 @@ use Rattle.sheet.specs.declared.refusal.Refusal.{Refusal}
 use Rattle.tables.specs.Calls.{Asked, tabledChecked, tabledCarver, tabledAnswer, tabledNumber, tabledWritten, tabledRows, tabledCols, tabledCleared, onTables, TablesPromises}
 use Rattle.tables.specs.Inner.{TablesCarved}
 use Rattle.walk.proofs.Promises.{tables-refused as refused, tables-passed as passed}
-use Rattle.walk.specs.declared.walk.Walked.{Walked}
 use Rattle.walk.specs.declared.walk.Walked.the-variants.{Refused}
+use Rattle.walk.specs.declared.walk.Walked.{Walked}
 
 module _ (a : Asked) where
   pub tables-refused : (r : Refusal) → tabledChecked a ≡ Held r → TablesPromises a (onTables (Refused r) (a .flags) (a .stack) (a .rows) (a .cols))

@@ -9,13 +9,13 @@ use Rattle.attempt.specs.Attempt.{headerFits, typesFrom, bodiesFrom, judged, at
 use Rattle.attempt.specs.Hints.{isInteger, isReal, isText, isBlob, suits}
 use Rattle.carving.proofs.Cases.{Outcome, out, kept, db}
 use Rattle.carving.specs.Calls.{hitsBy, leafHits}
-use Rattle.carving.specs.declared.inner.Carving.{Carving}
 use Rattle.carving.specs.declared.inner.Carving.the-variants.{Freeblocks, Gaps}
+use Rattle.carving.specs.declared.inner.Carving.{Carving}
 use Rattle.freeblock.proofs.Cases.{page, row, pair}
 use Rattle.freeblock.specs.Freeblock.{chainEnds, blocksFrom, freeblocks, firstFrom, firstStart, blockHits, pageHits}
 use Rattle.page.specs.Page.{sizeFits, hasPage}
-use Rattle.rebuild.specs.declared.rebuilding.Rebuilding.{Rebuilding}
 use Rattle.rebuild.specs.declared.rebuilding.Rebuilding.the-variants.{OneByte, Exact}
+use Rattle.rebuild.specs.declared.rebuilding.Rebuilding.{Rebuilding}
 use Rattle.record.specs.Value.{bodyLength, bigEndian}
 use Rattle.record.specs.Varint.{varintFrom, varintAt}
 use Rattle.sheet.specs.Columns.{columnWords, unusedWords, roomOf}

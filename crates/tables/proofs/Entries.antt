@@ -12,8 +12,8 @@ use Rattle.record.specs.declared.record.Value.{Value}
 use Rattle.scan.proofs.ReadBack.{ReadBack}
 use Rattle.sheet.specs.Refusal.{afterOr0, afterOrKept}
 use Rattle.sheet.specs.Sheet.{overlay}
-use Rattle.sheet.specs.declared.refusal.Checked.{Checked}
 use Rattle.sheet.specs.declared.refusal.Checked.the-variants.{Passed}
+use Rattle.sheet.specs.declared.refusal.Checked.{Checked}
 use Rattle.sheet.specs.Hits.{Hit, groupsWords}
 use Rattle.walk.specs.Collect.{ifFlagged}
 

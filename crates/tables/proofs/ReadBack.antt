@@ -13,25 +13,25 @@ use denote.Triple.Clauses.{AtExit}
 use borrow.Author.Tests.{ltb-false}
 use borrow.Fn.Kinds.{Dens, resT, endedOf}
 use lib.ListN.{length}
-use Rattle.carving.specs.Calls.{widthBy, leafHits}
-use Rattle.tables.specs.Calls.{Asked, asked, tableChecksBy, tabledChecked, tabledCarver, tabledCols, tabledWritten, OnTables, TablesPromises}
-use Rattle.carving.specs.Values.{leafValues}
-use Rattle.tables.specs.Values.{valuesFrom, tablesValues, carvedValues}
-use Rattle.carving.specs.declared.inner.Carving.{Carving}
-use Rattle.carving.specs.declared.inner.Carving.the-variants.{Freeblocks, Gaps}
 use Rattle.carving.proofs.Callers.{narrow-on}
 use Rattle.carving.proofs.Entries.{AllFit, all-fit, fit-append}
-use Rattle.tables.proofs.Entries.{flagged-read}
 use Rattle.carving.proofs.ReadBack.{leaf-reads}
-use Rattle.tables.proofs.freeblocks.recover_freeblocks.Kinds as freeblocks-kinds
-use Rattle.tables.proofs.freeblocks.recover_freeblocks.Reads as recover-freeblocks
-use Rattle.tables.proofs.gaps.scan_page_gaps.Kinds as gaps-kinds
-use Rattle.tables.proofs.gaps.scan_page_gaps.Reads as scan-page-gaps
+use Rattle.carving.specs.Calls.{widthBy, leafHits}
+use Rattle.carving.specs.Values.{leafValues}
+use Rattle.carving.specs.declared.inner.Carving.the-variants.{Freeblocks, Gaps}
+use Rattle.carving.specs.declared.inner.Carving.{Carving}
 use Rattle.page.specs.Page.{wholePages}
 use Rattle.scan.proofs.ReadBack.{ReadBack}
 use Rattle.sheet.proofs.Laws.{none-holds}
 use Rattle.sheet.specs.Columns.{roomOf}
 use Rattle.sheet.specs.declared.refusal.Checked.the-variants.{Passed}
+use Rattle.tables.specs.Calls.{Asked, asked, tableChecksBy, tabledChecked, tabledCarver, tabledCols, tabledWritten, OnTables, TablesPromises}
+use Rattle.tables.specs.Values.{valuesFrom, tablesValues, carvedValues}
+use Rattle.tables.proofs.Entries.{flagged-read}
+use Rattle.tables.proofs.freeblocks.recover_freeblocks.Kinds as freeblocks-kinds
+use Rattle.tables.proofs.freeblocks.recover_freeblocks.Reads as recover-freeblocks
+use Rattle.tables.proofs.gaps.scan_page_gaps.Kinds as gaps-kinds
+use Rattle.tables.proofs.gaps.scan_page_gaps.Reads as scan-page-gaps
 use Rattle.walk.proofs.Leaves.{AllThere, walk-there, AllNarrow, tables-narrow, hits-in-turn, cols-behind, written-behind}
 use Rattle.walk.proofs.Promises.{tables-fit}
 use Rattle.walk.specs.Carve.{Table, tablesOf, widest, tableChecks, hitsFrom, tablesHits}

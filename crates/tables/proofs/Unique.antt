@@ -1,13 +1,13 @@
 -- A contract fixes what a call leaves: any two outcomes that it allows for the same arguments are equal. `Post` is the function's own postcondition.
--- Said once, whatever the way of carving, and by that of each public call.
+-- Said once of the promises, whatever the way of carving, and by that of each call.
 -- Assumes nothing.
 use mathlib.Core.Path.{_≡_, sym, _∙_}
 use denote.Ref.{now}
 use Rattle.record.proofs.Unique.{FixesSeen}
+use Rattle.tables.specs.Calls.{Asked, OnTables, onTables, TablesPromises}
 use Rattle.tables.proofs.freeblocks.recover_freeblocks.Reads as recover-freeblocks
 use Rattle.tables.proofs.gaps.scan_page_gaps.Reads as scan-page-gaps
 use Rattle.tables.proofs.tables.carve_tables.Reads as carve-tables
-use Rattle.tables.specs.Calls.{Asked, OnTables, onTables, TablesPromises}
 
 -- ---- the promises fix what is left: the answer, the flags, the stack, the rows and the column entries at exit
 same-tables : (x y : OnTables) → x .answer ≡ y .answer → x .rows ≡ y .rows → x .cols ≡ y .cols → x .flags ≡ y .flags → x .stack ≡ y .stack → x ≡ y

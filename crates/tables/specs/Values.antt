@@ -31,5 +31,5 @@ unfoldable pub carvedValues : Asked → List Value
 carvedValues a =
     let room = roomOf (length (a .rows)) (length (a .cols)) (widest (a .counts)) in
     let values = tablesValues (a .how) (a .db) (a .size) (a .roots) (a .counts) (a .hints) (length (a .stack)) in
-    let told = ifFlagged (wholePages (length (a .db)) (a .size)) (length (a .flags)) (take room values) [] in
-    afterOrKept (tabledChecked a) (groupsValues (widest (a .counts)) told) []
+    let written = ifFlagged (wholePages (length (a .db)) (a .size)) (length (a .flags)) (take room values) [] in
+    afterOrKept (tabledChecked a) (groupsValues (widest (a .counts)) written) []

@@ -2,8 +2,8 @@
 use crate::tables::carve_tables;
 use carving::inner::Carving;
 use walk::walk::Walked;
-ghost use Rattle.tables.specs.Calls.{TablesPromises, asked, onTables};
 ghost use Rattle.carving.specs.declared.inner.Carving.the-variants.{Freeblocks};
+ghost use Rattle.tables.specs.Calls.{TablesPromises, asked, onTables};
 
 pub fn recover_freeblocks(
     db: &[u8],

@@ -3,8 +3,8 @@ use crate::tables::carve_tables;
 use carving::inner::Carving;
 use rebuild::rebuilding::Rebuilding;
 use walk::walk::Walked;
-ghost use Rattle.tables.specs.Calls.{TablesPromises, asked, onTables};
 ghost use Rattle.carving.specs.declared.inner.Carving.the-variants.{Gaps};
+ghost use Rattle.tables.specs.Calls.{TablesPromises, asked, onTables};
 
 pub fn scan_page_gaps(
     rebuilding: Rebuilding,

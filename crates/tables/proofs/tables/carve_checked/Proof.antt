@@ -8,12 +8,12 @@ use native.Mathlib.Omega.{arith}
 use borrow.Author.Needs.{needs}
 use denote.Ref.{now}
 use lib.ListN.{length, getD, take, drop}
-use Rattle.carving.specs.Calls.{leafHits}
-use Rattle.tables.specs.Inner.{TableReady}
 use Rattle.carving.proofs.Callers.{part-long}
+use Rattle.carving.specs.Calls.{leafHits}
+use Rattle.sheet.specs.Columns.{roomOf}
+use Rattle.tables.specs.Inner.{TableReady}
 use Rattle.tables.proofs.tables.carve_checked.Statement.{statement}
 use Rattle.tables.proofs.tables.carve_checked.Tie as tie
-use Rattle.sheet.specs.Columns.{roomOf}
 use Rattle.walk.proofs.Promises.{table-fits}
 use Rattle.walk.proofs.Tables.{Tables, tables-start, tables-inside, tables-on, tables-over, tables-short, tables-done, tables-room, tabled, tabled-few}
 use Rattle.walk.specs.Carve.{widest}

@@ -7,10 +7,10 @@ use borrow.Author.Needs.{needs}
 use denote.Ref.{now}
 use lib.ListN.{length}
 use Rattle.carving.proofs.Callers.{hits-are, part-long}
-use Rattle.tables.proofs.tables.carve_leaf.Statement.{statement}
-use Rattle.tables.proofs.tables.carve_leaf.Tie as tie
 use Rattle.page.proofs.Laws.{page-inside}
 use Rattle.page.specs.Page.{startOf}
+use Rattle.tables.proofs.tables.carve_leaf.Statement.{statement}
+use Rattle.tables.proofs.tables.carve_leaf.Tie as tie
 
 -- the page lies in the database
 inside : (c : tie.Start) → let a = c .args in startOf (a .size) (a .p) + a .size ≤ length (now (a .db))

@@ -7,13 +7,13 @@ use borrow.Author.Tests.{ltb-false}
 use denote.Ref.{now}
 use lib.Dec.{ltb}
 use lib.ListN.{length}
-use Rattle.carving.specs.Calls.{widthBy}
-use Rattle.tables.specs.Calls.{asked, tableChecksBy}
 use Rattle.carving.proofs.Callers.{wide-refuses, narrow-on}
+use Rattle.carving.specs.Calls.{widthBy}
+use Rattle.sheet.specs.Refusal.{firstHeld}
+use Rattle.tables.specs.Calls.{asked, tableChecksBy}
+use Rattle.tables.proofs.Callers.{tables-refused, tables-passed}
 use Rattle.tables.proofs.tables.carve_tables.Statement.{statement}
 use Rattle.tables.proofs.tables.carve_tables.Tie as tie
-use Rattle.sheet.specs.Refusal.{firstHeld}
-use Rattle.tables.proofs.Callers.{tables-refused, tables-passed}
 use Rattle.walk.proofs.Promises.{tables-fit}
 use Rattle.walk.specs.Carve.{widest, tableChecks}
 

@@ -234,7 +234,8 @@ pub fn given_header(bytes: &[u8], hints: &[u8], o: usize, head: usize, from: usi
 
 pub fn attempt(bytes: &[u8], hints: &[u8], o: usize) -> Verdict
     requires { ⌜ (o ≤ length (now bytes)) × (length (now bytes) ≤ largestRegion) ⌝ }
-    ensures { λ r. ⌜ Tells (now (bytes .entry)) (now (hints .entry)) o (attemptAt (now (bytes .entry)) (now (hints .entry)) o) (attemptPlaces (now (bytes .entry)) o) r ⌝ }
+    ensures { λ r. ⌜ Tells (now (bytes .entry)) (now (hints .entry)) o (attemptAt (now (bytes .entry)) (now (hints .entry)) o)
+        (attemptPlaces (now (bytes .entry)) o) r ⌝ }
 {
     let c = Cursor { at: o };
     let Varint::Value(h, next) = c.header_length(bytes) else {
@@ -270,7 +271,8 @@ pub fn put_columns(
     requires { ⌜ o + head + sizes (kinds (headerTypes (now bytes) o head from)) ≤ length (now bytes) ⌝ }
     requires { ⌜ by + length (now bytes) ≤ largestRegion ⌝ }
     requires { ⌜ k + wordsPerEntry * length (kinds (headerTypes (now bytes) o head from)) ≤ length (now cols) ⌝ }
-    ensures { λ _. ⌜ now (cols .exit) ≡ sets (now (cols .entry)) k (columnsWords (columnsAt (by + (o + head)) (kinds (headerTypes (now (bytes .entry)) o head from)))) ⌝ }
+    ensures { λ _. ⌜ now (cols .exit) ≡ sets (now (cols .entry)) k
+        (columnsWords (columnsAt (by + (o + head)) (kinds (headerTypes (now (bytes .entry)) o head from)))) ⌝ }
 {
     let stop = o + head;
     let mut at = from;

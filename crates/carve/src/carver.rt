@@ -146,7 +146,8 @@ fn carve_one(
 ) -> Carved
     requires { ⌜ Ready (length (now bytes)) base columns room n (length (now rows)) (length (now cols)) ⌝ }
     requires { ⌜ TriedFits (now bytes) columns tried ⌝ }
-    ensures { λ r. ⌜ Carves columns room n (triedHits (now (bytes .entry)) base tried) false (now (rows .entry)) (now (cols .entry)) (carvedAs r) (now (rows .exit)) (now (cols .exit)) ⌝ }
+    ensures { λ r. ⌜ Carves columns room n (triedHits (now (bytes .entry)) base tried) false (now (rows .entry)) (now (cols .entry))
+        (carvedAs r) (now (rows .exit)) (now (cols .exit)) ⌝ }
 {
     let Tried::Hit(find) = tried else {
         return Carved::On(n);
@@ -168,7 +169,8 @@ fn carve_normal(
     cols: &mut [u64],
 ) -> Carved
     requires { ⌜ Ready (length (now bytes)) base columns room 0 (length (now rows)) (length (now cols)) ⌝ }
-    ensures { λ r. ⌜ Carves columns room 0 (hitsOf (length (now (bytes .entry))) base (normalFound (now (bytes .entry)) columns)) false (now (rows .entry)) (now (cols .entry)) (carvedAs r) (now (rows .exit)) (now (cols .exit)) ⌝ }
+    ensures { λ r. ⌜ Carves columns room 0 (hitsOf (length (now (bytes .entry))) base (normalFound (now (bytes .entry)) columns)) false
+        (now (rows .entry)) (now (cols .entry)) (carvedAs r) (now (rows .exit)) (now (cols .exit)) ⌝ }
 {
     let mut o: usize = 0;
     let mut n: usize = 0;
@@ -196,7 +198,8 @@ fn carve_headless(
     cols: &mut [u64],
 ) -> Carved
     requires { ⌜ Ready (length (now bytes)) base columns room n (length (now rows)) (length (now cols)) ⌝ }
-    ensures { λ r. ⌜ Carves columns room n (hitsOf (length (now (bytes .entry))) base (headlessFound (now (bytes .entry)) columns)) false (now (rows .entry)) (now (cols .entry)) (carvedAs r) (now (rows .exit)) (now (cols .exit)) ⌝ }
+    ensures { λ r. ⌜ Carves columns room n (hitsOf (length (now (bytes .entry))) base (headlessFound (now (bytes .entry)) columns)) false
+        (now (rows .entry)) (now (cols .entry)) (carvedAs r) (now (rows .exit)) (now (cols .exit)) ⌝ }
 {
     let whole = try_headless(bytes, columns_only(), 0, columns);
     let Carved::On(m) = carve_one(bytes, whole, base, columns, room, n, rows, cols) else {
@@ -215,7 +218,8 @@ fn carve_modes(
     cols: &mut [u64],
 ) -> Carved
     requires { ⌜ Ready (length (now bytes)) base columns room 0 (length (now rows)) (length (now cols)) ⌝ }
-    ensures { λ r. ⌜ Carves columns room 0 (hitsOf (length (now (bytes .entry))) base (modesFound (now (bytes .entry)) columns)) false (now (rows .entry)) (now (cols .entry)) (carvedAs r) (now (rows .exit)) (now (cols .exit)) ⌝ }
+    ensures { λ r. ⌜ Carves columns room 0 (hitsOf (length (now (bytes .entry))) base (modesFound (now (bytes .entry)) columns)) false
+        (now (rows .entry)) (now (cols .entry)) (carvedAs r) (now (rows .exit)) (now (cols .exit)) ⌝ }
 {
     let Carved::On(n) = carve_normal(bytes, base, columns, room, rows, cols) else {
         return Carved::Full;
@@ -229,7 +233,8 @@ fn carve_modes(
 
 fn fill(bytes: &[u8], base: u64, columns: usize, rows: &mut [u64], cols: &mut [u64]) -> Filled
     requires { ⌜ Filling (length (now bytes)) base columns ⌝ }
-    ensures { λ r. ⌜ FilledIs (hitsOf (length (now (bytes .entry))) base (modesFound (now (bytes .entry)) columns)) columns (now (rows .entry)) (now (cols .entry)) r (now (rows .exit)) (now (cols .exit)) ⌝ }
+    ensures { λ r. ⌜ FilledIs (hitsOf (length (now (bytes .entry))) base (modesFound (now (bytes .entry)) columns)) columns
+        (now (rows .entry)) (now (cols .entry)) r (now (rows .exit)) (now (cols .exit)) ⌝ }
 {
     let most = room(rows.len(), cols.len(), columns);
     let Carved::On(n) = carve_modes(bytes, base, columns, most, rows, cols) else {
@@ -264,8 +269,10 @@ pub fn carve_freeblock(
     ensures answer { λ r. ⌜ r ≡ carveAnswer (now («data» .entry)) base columns (length (now (rows .entry))) (length (now (cols .entry))) ⌝ }
     ensures rows { λ _. ⌜ now (rows .exit) ≡ carveRows (now («data» .entry)) base columns (now (rows .entry)) (now (cols .entry)) ⌝ }
     ensures cols { λ _. ⌜ now (cols .exit) ≡ carveCols (now («data» .entry)) base columns (now (rows .entry)) (now (cols .entry)) ⌝ }
-    ensures number { λ r. ⌜ filledNumber r ≡ carveNumber (now («data» .entry)) base columns (length (now (rows .entry))) (length (now (cols .entry))) ⌝ }
-    ensures written { λ r. ⌜ filledWritten r ≡ carveWritten (now («data» .entry)) base columns (length (now (rows .entry))) (length (now (cols .entry))) ⌝ }
+    ensures number { λ r. ⌜ filledNumber r ≡ carveNumber (now («data» .entry)) base columns (length (now (rows .entry)))
+        (length (now (cols .entry))) ⌝ }
+    ensures written { λ r. ⌜ filledWritten r ≡ carveWritten (now («data» .entry)) base columns (length (now (rows .entry)))
+        (length (now (cols .entry))) ⌝ }
 {
     match check(data.len(), base, columns) {
         Checked::Refused(refusal) => Filled::Refused(refusal),

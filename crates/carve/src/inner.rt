@@ -117,7 +117,8 @@ fn put_bodies(
     requires { ⌜ (start ≤ length (now bytes)) × (length (now bytes) ≤ largestRegion) ⌝ }
     requires { ⌜ k + wordsPerEntry * count ≤ length (now cols) ⌝ }
     ensures end { λ r. ⌜ r ≡ endFrom (length (now (bytes .entry))) start (kindsAt count (now (bytes .entry)) from) ⌝ }
-    ensures cols { λ _. ⌜ now (cols .exit) ≡ sets (now (cols .entry)) k (columnsWords (columnsFrom (length (now (bytes .entry))) start (kindsAt count (now (bytes .entry)) from))) ⌝ }
+    ensures cols { λ _. ⌜ now (cols .exit) ≡ sets (now (cols .entry)) k
+        (columnsWords (columnsFrom (length (now (bytes .entry))) start (kindsAt count (now (bytes .entry)) from))) ⌝ }
 {
     let mut at = from;
     let mut end = start;
@@ -161,8 +162,10 @@ pub fn put_find(
 ) -> usize
     requires { ⌜ Fitting (now bytes) find base width n (length (now rows)) (length (now cols)) ⌝ }
     ensures end { λ r. ⌜ r ≡ endOf (length (now (bytes .entry))) (foundIn (now (bytes .entry)) find) ⌝ }
-    ensures rows { λ _. ⌜ now (rows .exit) ≡ sets (now (rows .entry)) (n * wordsPerRow) (rowWords (hitOf (length (now (bytes .entry))) base (foundIn (now (bytes .entry)) find) .row)) ⌝ }
-    ensures cols { λ _. ⌜ now (cols .exit) ≡ sets (now (cols .entry)) (n * (wordsPerEntry * width)) (groupWords width (hitOf (length (now (bytes .entry))) base (foundIn (now (bytes .entry)) find))) ⌝ }
+    ensures rows { λ _. ⌜ now (rows .exit) ≡ sets (now (rows .entry)) (n * wordsPerRow)
+        (rowWords (hitOf (length (now (bytes .entry))) base (foundIn (now (bytes .entry)) find) .row)) ⌝ }
+    ensures cols { λ _. ⌜ now (cols .exit) ≡ sets (now (cols .entry)) (n * (wordsPerEntry * width))
+        (groupWords width (hitOf (length (now (bytes .entry))) base (foundIn (now (bytes .entry)) find))) ⌝ }
 {
     let style = find.style;
     let lost = style.lost;

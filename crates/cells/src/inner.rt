@@ -31,7 +31,8 @@ pub fn carve_payload(
 ) -> Carved
     requires { ⌜ length (now hints) ≤ mostBy how ⌝ }
     requires { ⌜ Ready (o + length (now payload)) (length (now hints)) spot lent n (length (now rows)) (length (now cols)) ⌝ }
-    ensures { λ r. ⌜ Carves (lent .width) (lent .room) n (payloadHits how spot o (now (payload .entry)) (now (hints .entry))) false (now (rows .entry)) (now (cols .entry)) (carvedAs r) (now (rows .exit)) (now (cols .exit)) ⌝ }
+    ensures { λ r. ⌜ Carves (lent .width) (lent .room) n (payloadHits how spot o (now (payload .entry)) (now (hints .entry))) false
+        (now (rows .entry)) (now (cols .entry)) (carvedAs r) (now (rows .exit)) (now (cols .exit)) ⌝ }
 {
     let Carved::On(cells) = carve_cells(payload, hints, spot, o, lent, n, rows, cols) else {
         return Carved::Full;

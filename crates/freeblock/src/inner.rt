@@ -28,7 +28,8 @@ pub fn carve_page(
     cols: &mut [u64],
 ) -> Carved
     requires { ⌜ Ready (length (now page)) (length (now hints)) spot lent n (length (now rows)) (length (now cols)) ⌝ }
-    ensures { λ r. ⌜ Carves (lent .width) (lent .room) n (pageHits (now (page .entry)) head (now (hints .entry)) spot) false (now (rows .entry)) (now (cols .entry)) (carvedAs r) (now (rows .exit)) (now (cols .exit)) ⌝ }
+    ensures { λ r. ⌜ Carves (lent .width) (lent .room) n (pageHits (now (page .entry)) head (now (hints .entry)) spot) false
+        (now (rows .entry)) (now (cols .entry)) (carvedAs r) (now (rows .exit)) (now (cols .exit)) ⌝ }
 {
     // A header past the page has no chain.
     if head > page.len() {

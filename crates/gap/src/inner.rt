@@ -30,7 +30,8 @@ pub fn carve_page(
 ) -> Carved
     requires { ⌜ length (now hints) ≤ mostBy how ⌝ }
     requires { ⌜ Ready (length (now page)) (length (now hints)) spot lent n (length (now rows)) (length (now cols)) ⌝ }
-    ensures { λ r. ⌜ Carves (lent .width) (lent .room) n (pageHits how (now (page .entry)) head (now (hints .entry)) spot) false (now (rows .entry)) (now (cols .entry)) (carvedAs r) (now (rows .exit)) (now (cols .exit)) ⌝ }
+    ensures { λ r. ⌜ Carves (lent .width) (lent .room) n (pageHits how (now (page .entry)) head (now (hints .entry)) spot) false
+        (now (rows .entry)) (now (cols .entry)) (carvedAs r) (now (rows .exit)) (now (cols .exit)) ⌝ }
 {
     // The header's place may be any number, so nothing is added to it here.
     if head > page.len() {

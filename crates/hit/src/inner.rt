@@ -53,7 +53,8 @@ fn put_hit(
     requires { ⌜ Laid (now bytes) at columns ⌝ }
     requires { ⌜ Fitting columns width n (length (now rows)) (length (now cols)) ⌝ }
     ensures rows { λ _. ⌜ now (rows .exit) ≡ sets (now (rows .entry)) (n * wordsPerRow) (rowWords row) ⌝ }
-    ensures cols { λ _. ⌜ now (cols .exit) ≡ sets (now (cols .entry)) (n * (wordsPerEntry * width)) (groupWords width (hitThere (now (bytes .entry)) at row)) ⌝ }
+    ensures cols { λ _. ⌜ now (cols .exit) ≡ sets (now (cols .entry)) (n * (wordsPerEntry * width))
+        (groupWords width (hitThere (now (bytes .entry)) at row)) ⌝ }
 {
     put_row(rows, n, row);
     let group = n * (WORDS_PER_ENTRY * width);
@@ -74,7 +75,8 @@ pub fn add_hit(
 ) -> Carved
     requires { ⌜ Laid (now bytes) at columns ⌝ }
     requires { ⌜ Space columns lent n (length (now rows)) (length (now cols)) ⌝ }
-    ensures { λ r. ⌜ Carves (lent .width) (lent .room) n (hitThere (now (bytes .entry)) at row ∷ []) false (now (rows .entry)) (now (cols .entry)) (carvedAs r) (now (rows .exit)) (now (cols .exit)) ⌝ }
+    ensures { λ r. ⌜ Carves (lent .width) (lent .room) n (hitThere (now (bytes .entry)) at row ∷ []) false (now (rows .entry))
+        (now (cols .entry)) (carvedAs r) (now (rows .exit)) (now (cols .exit)) ⌝ }
 {
     if n >= lent.room {
         return Carved::Full;

@@ -55,10 +55,14 @@ pub extern "C" fn phs_recover_page_freeblocks(
     cols: &mut [u64],
     out: &mut [u64; 1],
 ) -> u64
-    ensures number { λ r. ⌜ r ≡ numberedNumber (numberedAsked Freeblocks (now (db .entry)) size page (now (hints .entry)) (now (rows .entry)) (now (cols .entry))) ⌝ }
-    ensures out { λ _. ⌜ now (out .exit) ≡ numberedWritten (numberedAsked Freeblocks (now (db .entry)) size page (now (hints .entry)) (now (rows .entry)) (now (cols .entry))) ∷ [] ⌝ }
-    ensures rows { λ _. ⌜ now (rows .exit) ≡ numberedRows (numberedAsked Freeblocks (now (db .entry)) size page (now (hints .entry)) (now (rows .entry)) (now (cols .entry))) ⌝ }
-    ensures cols { λ _. ⌜ now (cols .exit) ≡ numberedCols (numberedAsked Freeblocks (now (db .entry)) size page (now (hints .entry)) (now (rows .entry)) (now (cols .entry))) ⌝ }
+    ensures number { λ r. ⌜ r ≡ numberedNumber (numberedAsked Freeblocks (now (db .entry)) size page (now (hints .entry)) (now (rows
+        .entry)) (now (cols .entry))) ⌝ }
+    ensures out { λ _. ⌜ now (out .exit) ≡ numberedWritten (numberedAsked Freeblocks (now (db .entry)) size page (now (hints .entry))
+        (now (rows .entry)) (now (cols .entry))) ∷ [] ⌝ }
+    ensures rows { λ _. ⌜ now (rows .exit) ≡ numberedRows (numberedAsked Freeblocks (now (db .entry)) size page (now (hints .entry)) (now
+        (rows .entry)) (now (cols .entry))) ⌝ }
+    ensures cols { λ _. ⌜ now (cols .exit) ≡ numberedCols (numberedAsked Freeblocks (now (db .entry)) size page (now (hints .entry)) (now
+        (rows .entry)) (now (cols .entry))) ⌝ }
 {
     let filled = recover_page_freeblocks(db, size, page, hints, rows, cols);
     *out = [filled.written()];
@@ -75,10 +79,14 @@ pub extern "C" fn phs_recover_slice_freeblocks(
     cols: &mut [u64],
     out: &mut [u64; 1],
 ) -> u64
-    ensures number { λ r. ⌜ r ≡ sliceNumber (sliceAsked Freeblocks (now (page .entry)) head base (now (hints .entry)) (now (rows .entry)) (now (cols .entry))) ⌝ }
-    ensures out { λ _. ⌜ now (out .exit) ≡ sliceWritten (sliceAsked Freeblocks (now (page .entry)) head base (now (hints .entry)) (now (rows .entry)) (now (cols .entry))) ∷ [] ⌝ }
-    ensures rows { λ _. ⌜ now (rows .exit) ≡ sliceRows (sliceAsked Freeblocks (now (page .entry)) head base (now (hints .entry)) (now (rows .entry)) (now (cols .entry))) ⌝ }
-    ensures cols { λ _. ⌜ now (cols .exit) ≡ sliceCols (sliceAsked Freeblocks (now (page .entry)) head base (now (hints .entry)) (now (rows .entry)) (now (cols .entry))) ⌝ }
+    ensures number { λ r. ⌜ r ≡ sliceNumber (sliceAsked Freeblocks (now (page .entry)) head base (now (hints .entry)) (now (rows .entry))
+        (now (cols .entry))) ⌝ }
+    ensures out { λ _. ⌜ now (out .exit) ≡ sliceWritten (sliceAsked Freeblocks (now (page .entry)) head base (now (hints .entry)) (now
+        (rows .entry)) (now (cols .entry))) ∷ [] ⌝ }
+    ensures rows { λ _. ⌜ now (rows .exit) ≡ sliceRows (sliceAsked Freeblocks (now (page .entry)) head base (now (hints .entry)) (now
+        (rows .entry)) (now (cols .entry))) ⌝ }
+    ensures cols { λ _. ⌜ now (cols .exit) ≡ sliceCols (sliceAsked Freeblocks (now (page .entry)) head base (now (hints .entry)) (now
+        (rows .entry)) (now (cols .entry))) ⌝ }
 {
     let filled = recover_slice_freeblocks(page, head, base, hints, rows, cols);
     *out = [filled.written()];

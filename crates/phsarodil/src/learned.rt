@@ -16,7 +16,8 @@ pub extern "C" fn phs_learn_signatures(
     out: &mut [u64; 1],
 ) -> u64
     ensures number { λ r. ⌜ r ≡ learnNumber (now (bytes .entry)) width (now (entries .entry)) (length (now (types .entry))) ⌝ }
-    ensures out { λ _. ⌜ now (out .exit) ≡ learnWritten (now (bytes .entry)) width (now (entries .entry)) (length (now (types .entry))) ∷ [] ⌝ }
+    ensures out { λ _. ⌜ now (out .exit) ≡ learnWritten (now (bytes .entry)) width (now (entries .entry))
+        (length (now (types .entry))) ∷ [] ⌝ }
     ensures types { λ _. ⌜ now (types .exit) ≡ learnTypes (now (bytes .entry)) width (now (entries .entry)) (now (types .entry)) ⌝ }
 {
     let filled = learn_signatures(bytes, width, entries, types);
@@ -33,10 +34,14 @@ pub extern "C" fn phs_carve_unallocated(
     cols: &mut [u64],
     out: &mut [u64; 1],
 ) -> u64
-    ensures number { λ r. ⌜ r ≡ learnedNumber (now (region .entry)) (now (types .entry)) base (length (now (rows .entry))) (length (now (cols .entry))) ⌝ }
-    ensures out { λ _. ⌜ now (out .exit) ≡ learnedWritten (now (region .entry)) (now (types .entry)) base (length (now (rows .entry))) (length (now (cols .entry))) ∷ [] ⌝ }
-    ensures rows { λ _. ⌜ now (rows .exit) ≡ learnedRows (now (region .entry)) (now (types .entry)) base (now (rows .entry)) (now (cols .entry)) ⌝ }
-    ensures cols { λ _. ⌜ now (cols .exit) ≡ learnedCols (now (region .entry)) (now (types .entry)) base (now (rows .entry)) (now (cols .entry)) ⌝ }
+    ensures number { λ r. ⌜ r ≡ learnedNumber (now (region .entry)) (now (types .entry)) base (length (now (rows .entry)))
+        (length (now (cols .entry))) ⌝ }
+    ensures out { λ _. ⌜ now (out .exit) ≡ learnedWritten (now (region .entry)) (now (types .entry)) base (length (now (rows .entry)))
+        (length (now (cols .entry))) ∷ [] ⌝ }
+    ensures rows { λ _. ⌜ now (rows .exit) ≡ learnedRows (now (region .entry)) (now (types .entry)) base (now (rows .entry))
+        (now (cols .entry)) ⌝ }
+    ensures cols { λ _. ⌜ now (cols .exit) ≡ learnedCols (now (region .entry)) (now (types .entry)) base (now (rows .entry))
+        (now (cols .entry)) ⌝ }
 {
     let filled = carve_unallocated(region, types, base, rows, cols);
     *out = [filled.written()];

@@ -26,7 +26,8 @@ pub extern "C" fn phs_boyer_moore_search(
     out: &mut [u64; 1],
 ) -> u64
     ensures number { λ r. ⌜ r ≡ searchNumber (now (haystack .entry)) (now (pattern .entry)) (length (now (places .entry))) ⌝ }
-    ensures out { λ _. ⌜ now (out .exit) ≡ searchWritten (now (haystack .entry)) (now (pattern .entry)) (length (now (places .entry))) ∷ [] ⌝ }
+    ensures out { λ _. ⌜ now (out .exit) ≡ searchWritten (now (haystack .entry)) (now (pattern .entry))
+        (length (now (places .entry))) ∷ [] ⌝ }
     ensures places { λ _. ⌜ now (places .exit) ≡ searchPlaces (now (haystack .entry)) (now (pattern .entry)) (now (places .entry)) ⌝ }
 {
     let searched = boyer_moore_search(haystack, pattern, places);

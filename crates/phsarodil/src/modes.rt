@@ -15,7 +15,8 @@ pub extern "C" fn phs_carve_freeblock(
     out: &mut [u64; 1],
 ) -> u64
     ensures number { λ r. ⌜ r ≡ carveNumber (now (bytes .entry)) base columns (length (now (rows .entry))) (length (now (cols .entry))) ⌝ }
-    ensures out { λ _. ⌜ now (out .exit) ≡ carveWritten (now (bytes .entry)) base columns (length (now (rows .entry))) (length (now (cols .entry))) ∷ [] ⌝ }
+    ensures out { λ _. ⌜ now (out .exit) ≡ carveWritten (now (bytes .entry)) base columns (length (now (rows .entry)))
+        (length (now (cols .entry))) ∷ [] ⌝ }
     ensures rows { λ _. ⌜ now (rows .exit) ≡ carveRows (now (bytes .entry)) base columns (now (rows .entry)) (now (cols .entry)) ⌝ }
     ensures cols { λ _. ⌜ now (cols .exit) ≡ carveCols (now (bytes .entry)) base columns (now (rows .entry)) (now (cols .entry)) ⌝ }
 {

@@ -38,11 +38,16 @@ pub extern "C" fn phs_collect_leaf_pages(
     leaves: &mut [u64],
     out: &mut [u64; 1],
 ) -> u64
-    ensures number { λ r. ⌜ r ≡ collectNumber (now (db .entry)) size root (length (now (flags .entry))) (length (now (stack .entry))) (length (now (leaves .entry))) ⌝ }
-    ensures out { λ _. ⌜ now (out .exit) ≡ collectWritten (now (db .entry)) size root (length (now (flags .entry))) (length (now (stack .entry))) (length (now (leaves .entry))) ∷ [] ⌝ }
-    ensures leaves { λ _. ⌜ now (leaves .exit) ≡ collectLeaves (now (db .entry)) size root (length (now (flags .entry))) (length (now (stack .entry))) (now (leaves .entry)) ⌝ }
-    ensures flags { λ _. ⌜ now (flags .exit) ≡ clearedUnless (firstHeld (walkChecks (length (now (db .entry))) size)) (now (flags .entry)) ⌝ }
-    ensures stack { λ _. ⌜ now (stack .exit) ≡ clearedUnless (firstHeld (walkChecks (length (now (db .entry))) size)) (now (stack .entry)) ⌝ }
+    ensures number { λ r. ⌜ r ≡ collectNumber (now (db .entry)) size root (length (now (flags .entry))) (length (now (stack .entry)))
+        (length (now (leaves .entry))) ⌝ }
+    ensures out { λ _. ⌜ now (out .exit) ≡ collectWritten (now (db .entry)) size root (length (now (flags .entry)))
+        (length (now (stack .entry))) (length (now (leaves .entry))) ∷ [] ⌝ }
+    ensures leaves { λ _. ⌜ now (leaves .exit) ≡ collectLeaves (now (db .entry)) size root (length (now (flags .entry)))
+        (length (now (stack .entry))) (now (leaves .entry)) ⌝ }
+    ensures flags { λ _. ⌜ now (flags .exit) ≡ clearedUnless (firstHeld (walkChecks (length (now (db .entry))) size))
+        (now (flags .entry)) ⌝ }
+    ensures stack { λ _. ⌜ now (stack .exit) ≡ clearedUnless (firstHeld (walkChecks (length (now (db .entry))) size))
+        (now (stack .entry)) ⌝ }
 {
     let walked = collect_leaf_pages(db, size, root, flags, stack, leaves);
     *out = [walked.written()];

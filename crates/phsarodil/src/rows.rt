@@ -30,10 +30,14 @@ pub extern "C" fn phs_try_parse_record(
     cols: &mut [u64],
     out: &mut [u64; 3],
 ) -> u64
-    ensures number { λ r. ⌜ r ≡ onceNumber (now (region .entry)) (now (hints .entry)) base offset (length (now (rows .entry))) (length (now (cols .entry))) ⌝ }
-    ensures out { λ _. ⌜ now (out .exit) ≡ onceWritten (now (region .entry)) (now (hints .entry)) base offset (length (now (rows .entry))) (length (now (cols .entry))) ∷ 0 ∷ 0 ∷ [] ⌝ }
-    ensures rows { λ _. ⌜ now (rows .exit) ≡ onceRows (now (region .entry)) (now (hints .entry)) base offset (now (rows .entry)) (now (cols .entry)) ⌝ }
-    ensures cols { λ _. ⌜ now (cols .exit) ≡ onceCols (now (region .entry)) (now (hints .entry)) base offset (now (rows .entry)) (now (cols .entry)) ⌝ }
+    ensures number { λ r. ⌜ r ≡ onceNumber (now (region .entry)) (now (hints .entry)) base offset (length (now (rows .entry)))
+        (length (now (cols .entry))) ⌝ }
+    ensures out { λ _. ⌜ now (out .exit) ≡ onceWritten (now (region .entry)) (now (hints .entry)) base offset
+        (length (now (rows .entry))) (length (now (cols .entry))) ∷ 0 ∷ 0 ∷ [] ⌝ }
+    ensures rows { λ _. ⌜ now (rows .exit) ≡ onceRows (now (region .entry)) (now (hints .entry)) base offset (now (rows .entry))
+        (now (cols .entry)) ⌝ }
+    ensures cols { λ _. ⌜ now (cols .exit) ≡ onceCols (now (region .entry)) (now (hints .entry)) base offset (now (rows .entry))
+        (now (cols .entry)) ⌝ }
 {
     let answer = try_parse_record(region, hints, base, offset, rows, cols);
     *out = [answer.written() as u64, 0, 0];
@@ -50,10 +54,14 @@ pub extern "C" fn phs_scan_region(
     cols: &mut [u64],
     out: &mut [u64; 3],
 ) -> u64
-    ensures number { λ r. ⌜ r ≡ scanNumber (now (region .entry)) (now (hints .entry)) base start (length (now (rows .entry))) (length (now (cols .entry))) ⌝ }
-    ensures out { λ _. ⌜ now (out .exit) ≡ scanWords (now (region .entry)) (now (hints .entry)) base start (length (now (rows .entry))) (length (now (cols .entry))) ⌝ }
-    ensures rows { λ _. ⌜ now (rows .exit) ≡ scanRows (now (region .entry)) (now (hints .entry)) base start (now (rows .entry)) (now (cols .entry)) ⌝ }
-    ensures cols { λ _. ⌜ now (cols .exit) ≡ scanCols (now (region .entry)) (now (hints .entry)) base start (now (rows .entry)) (now (cols .entry)) ⌝ }
+    ensures number { λ r. ⌜ r ≡ scanNumber (now (region .entry)) (now (hints .entry)) base start (length (now (rows .entry)))
+        (length (now (cols .entry))) ⌝ }
+    ensures out { λ _. ⌜ now (out .exit) ≡ scanWords (now (region .entry)) (now (hints .entry)) base start (length (now (rows .entry)))
+        (length (now (cols .entry))) ⌝ }
+    ensures rows { λ _. ⌜ now (rows .exit) ≡ scanRows (now (region .entry)) (now (hints .entry)) base start (now (rows .entry))
+        (now (cols .entry)) ⌝ }
+    ensures cols { λ _. ⌜ now (cols .exit) ≡ scanCols (now (region .entry)) (now (hints .entry)) base start (now (rows .entry))
+        (now (cols .entry)) ⌝ }
 {
     let answer = scan_region(region, hints, base, start, rows, cols);
     let written = answer.written() as u64;

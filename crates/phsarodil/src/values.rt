@@ -74,7 +74,8 @@ pub extern "C" fn phs_read_entry(
     out: &mut [u64; 4],
 ) -> u64
     ensures number { λ r. ⌜ r ≡ refusalOf (readEntry (entryOf state kind start length) (now (bytes .entry))) ⌝ }
-    ensures out { λ _. ⌜ now (out .exit) ≡ entryWords (now (bytes .entry)) start (readEntry (entryOf state kind start length) (now (bytes .entry))) ⌝ }
+    ensures out { λ _. ⌜ now (out .exit) ≡ entryWords (now (bytes .entry)) start
+        (readEntry (entryOf state kind start length) (now (bytes .entry))) ⌝ }
 {
     let entry = Entry {
         state,

@@ -139,8 +139,10 @@ fn put_found(
     requires { ⌜ o + find .head + sizes (kinds (findTypes (now bytes) o find)) ≤ length (now bytes) ⌝ }
     requires { ⌜ length (kinds (findTypes (now bytes) o find)) ≡ columns ⌝ }
     requires { ⌜ RoomFor n columns (length (now rows)) (length (now cols)) ⌝ }
-    ensures rows { λ _. ⌜ now (rows .exit) ≡ sets (now (rows .entry)) (n * wordsPerRow) (rowWords (rowOf base columns o (foundAt (now (bytes .entry)) o find))) ⌝ }
-    ensures cols { λ _. ⌜ now (cols .exit) ≡ sets (now (cols .entry)) (n * (wordsPerEntry * columns)) (columnsWords (foundAt (now (bytes .entry)) o find .columns)) ⌝ }
+    ensures rows { λ _. ⌜ now (rows .exit) ≡ sets (now (rows .entry)) (n * wordsPerRow)
+        (rowWords (rowOf base columns o (foundAt (now (bytes .entry)) o find))) ⌝ }
+    ensures cols { λ _. ⌜ now (cols .exit) ≡ sets (now (cols .entry)) (n * (wordsPerEntry * columns))
+        (columnsWords (foundAt (now (bytes .entry)) o find .columns)) ⌝ }
 {
     let row = Row {
         offset: base + o as u64,
@@ -174,7 +176,8 @@ fn run(
 ) -> Scanned
     requires { ⌜ Fit (now bytes) (now hints) base ⌝ }
     requires { ⌜ room ≡ roomOf (length (now rows)) (length (now cols)) (length (now hints)) ⌝ }
-    ensures { λ r. ⌜ Ran (now (bytes .entry)) (now (hints .entry)) base start room (now (rows .entry)) (now (cols .entry)) r (now (rows .exit)) (now (cols .exit)) ⌝ }
+    ensures { λ r. ⌜ Ran (now (bytes .entry)) (now (hints .entry)) base start room (now (rows .entry)) (now (cols .entry)) r
+        (now (rows .exit)) (now (cols .exit)) ⌝ }
 {
     let last = last_of(bytes.len());
     let mut o = start;
@@ -222,13 +225,20 @@ pub fn scan_region(
     rows: &mut [u64],
     cols: &mut [u64],
 ) -> Scanned
-    ensures answer { λ r. ⌜ r ≡ scanAnswer (now (region .entry)) (now (hints .entry)) base start (length (now (rows .entry))) (length (now (cols .entry))) ⌝ }
-    ensures rows { λ _. ⌜ now (rows .exit) ≡ scanRows (now (region .entry)) (now (hints .entry)) base start (now (rows .entry)) (now (cols .entry)) ⌝ }
-    ensures cols { λ _. ⌜ now (cols .exit) ≡ scanCols (now (region .entry)) (now (hints .entry)) base start (now (rows .entry)) (now (cols .entry)) ⌝ }
-    ensures number { λ r. ⌜ numberOf r ≡ scanNumber (now (region .entry)) (now (hints .entry)) base start (length (now (rows .entry))) (length (now (cols .entry))) ⌝ }
-    ensures written { λ r. ⌜ writtenOf r ≡ scanWritten (now (region .entry)) (now (hints .entry)) base start (length (now (rows .entry))) (length (now (cols .entry))) ⌝ }
-    ensures place { λ r. ⌜ placeOf r ≡ scanPlace (now (region .entry)) (now (hints .entry)) base start (length (now (rows .entry))) (length (now (cols .entry))) ⌝ }
-    ensures count { λ r. ⌜ readOf r ≡ scanCount (now (region .entry)) (now (hints .entry)) base start (length (now (rows .entry))) (length (now (cols .entry))) ⌝ }
+    ensures answer { λ r. ⌜ r ≡ scanAnswer (now (region .entry)) (now (hints .entry)) base start (length (now (rows .entry)))
+        (length (now (cols .entry))) ⌝ }
+    ensures rows { λ _. ⌜ now (rows .exit) ≡ scanRows (now (region .entry)) (now (hints .entry)) base start (now (rows .entry))
+        (now (cols .entry)) ⌝ }
+    ensures cols { λ _. ⌜ now (cols .exit) ≡ scanCols (now (region .entry)) (now (hints .entry)) base start (now (rows .entry))
+        (now (cols .entry)) ⌝ }
+    ensures number { λ r. ⌜ numberOf r ≡ scanNumber (now (region .entry)) (now (hints .entry)) base start (length (now (rows .entry)))
+        (length (now (cols .entry))) ⌝ }
+    ensures written { λ r. ⌜ writtenOf r ≡ scanWritten (now (region .entry)) (now (hints .entry)) base start
+        (length (now (rows .entry))) (length (now (cols .entry))) ⌝ }
+    ensures place { λ r. ⌜ placeOf r ≡ scanPlace (now (region .entry)) (now (hints .entry)) base start (length (now (rows .entry)))
+        (length (now (cols .entry))) ⌝ }
+    ensures count { λ r. ⌜ readOf r ≡ scanCount (now (region .entry)) (now (hints .entry)) base start (length (now (rows .entry)))
+        (length (now (cols .entry))) ⌝ }
 {
     match check_slice(region.len(), hints, base) {
         Checked::Refused(refusal) => Scanned::Refused(refusal),
@@ -251,7 +261,8 @@ fn once(
 ) -> Attempted
     requires { ⌜ Fit (now bytes) (now hints) base ⌝ }
     requires { ⌜ room ≡ roomOf (length (now rows)) (length (now cols)) (length (now hints)) ⌝ }
-    ensures { λ r. ⌜ Once (now (bytes .entry)) (now (hints .entry)) base o (now (rows .entry)) (now (cols .entry)) r (now (rows .exit)) (now (cols .exit)) ⌝ }
+    ensures { λ r. ⌜ Once (now (bytes .entry)) (now (hints .entry)) base o (now (rows .entry)) (now (cols .entry)) r (now (rows .exit))
+        (now (cols .exit)) ⌝ }
 {
     if o > bytes.len() {
         return Attempted::NoRow;
@@ -274,11 +285,16 @@ pub fn try_parse_record(
     rows: &mut [u64],
     cols: &mut [u64],
 ) -> Attempted
-    ensures answer { λ r. ⌜ r ≡ onceAnswer (now (region .entry)) (now (hints .entry)) base offset (length (now (rows .entry))) (length (now (cols .entry))) ⌝ }
-    ensures rows { λ _. ⌜ now (rows .exit) ≡ onceRows (now (region .entry)) (now (hints .entry)) base offset (now (rows .entry)) (now (cols .entry)) ⌝ }
-    ensures cols { λ _. ⌜ now (cols .exit) ≡ onceCols (now (region .entry)) (now (hints .entry)) base offset (now (rows .entry)) (now (cols .entry)) ⌝ }
-    ensures number { λ r. ⌜ onceNumberOf r ≡ onceNumber (now (region .entry)) (now (hints .entry)) base offset (length (now (rows .entry))) (length (now (cols .entry))) ⌝ }
-    ensures written { λ r. ⌜ onceWrittenOf r ≡ onceWritten (now (region .entry)) (now (hints .entry)) base offset (length (now (rows .entry))) (length (now (cols .entry))) ⌝ }
+    ensures answer { λ r. ⌜ r ≡ onceAnswer (now (region .entry)) (now (hints .entry)) base offset (length (now (rows .entry)))
+        (length (now (cols .entry))) ⌝ }
+    ensures rows { λ _. ⌜ now (rows .exit) ≡ onceRows (now (region .entry)) (now (hints .entry)) base offset (now (rows .entry))
+        (now (cols .entry)) ⌝ }
+    ensures cols { λ _. ⌜ now (cols .exit) ≡ onceCols (now (region .entry)) (now (hints .entry)) base offset (now (rows .entry))
+        (now (cols .entry)) ⌝ }
+    ensures number { λ r. ⌜ onceNumberOf r ≡ onceNumber (now (region .entry)) (now (hints .entry)) base offset
+        (length (now (rows .entry))) (length (now (cols .entry))) ⌝ }
+    ensures written { λ r. ⌜ onceWrittenOf r ≡ onceWritten (now (region .entry)) (now (hints .entry)) base offset
+        (length (now (rows .entry))) (length (now (cols .entry))) ⌝ }
 {
     match check_slice(region.len(), hints, base) {
         Checked::Refused(refusal) => Attempted::Refused(refusal),

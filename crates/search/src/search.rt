@@ -172,7 +172,8 @@ fn slide(haystack: &[u8], pattern: &[u8], places: &mut [u64]) -> Filled
 pub fn boyer_moore_search(haystack: &[u8], pattern: &[u8], places: &mut [u64]) -> Filled
     ensures answer { λ r. ⌜ r ≡ searchAnswer (now (haystack .entry)) (now (pattern .entry)) (length (now (places .entry))) ⌝ }
     ensures number { λ r. ⌜ filledNumber r ≡ searchNumber (now (haystack .entry)) (now (pattern .entry)) (length (now (places .entry))) ⌝ }
-    ensures written { λ r. ⌜ filledWritten r ≡ searchWritten (now (haystack .entry)) (now (pattern .entry)) (length (now (places .entry))) ⌝ }
+    ensures written { λ r. ⌜ filledWritten r ≡ searchWritten (now (haystack .entry)) (now (pattern .entry))
+        (length (now (places .entry))) ⌝ }
     ensures list { λ _. ⌜ now (places .exit) ≡ searchPlaces (now (haystack .entry)) (now (pattern .entry)) (now (places .entry)) ⌝ }
 {
     if haystack.len() > LARGEST_REGION {

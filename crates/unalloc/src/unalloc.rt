@@ -107,7 +107,8 @@ fn is_there(column: Column) -> bool
 // Reads the types from `from` on, up to the header's end, where their bodies start.
 fn walk_types(region: &[u8], types: &[u64], from: usize, stop: usize) -> Walk
     requires { ⌜ Headed (now region) (now types) from stop ⌝ }
-    ensures { λ r. ⌜ Walked (now (region .entry)) (now (types .entry)) stop (typesFrom (length (now (types .entry))) (now (region .entry)) from stop) r ⌝ }
+    ensures { λ r. ⌜ Walked (now (region .entry)) (now (types .entry)) stop
+        (typesFrom (length (now (types .entry))) (now (region .entry)) from stop) r ⌝ }
 {
     let mut at = from;
     let mut end = stop;
@@ -150,7 +151,8 @@ fn learned(matched: usize, columns: usize) -> Style
 fn try_parse_record(region: &[u8], types: &[u64], o: usize) -> Tried
     requires { ⌜ (o ≤ length (now region)) × (length (now region) ≤ largestRegion) ⌝ }
     requires { ⌜ (1 ≤ length (now types)) × (length (now types) ≤ mostColumns) ⌝ }
-    ensures { λ r. ⌜ TriedIs (now (region .entry)) (length (now (types .entry))) (attemptAt (now (region .entry)) (now (types .entry)) o) r ⌝ }
+    ensures { λ r. ⌜ TriedIs (now (region .entry)) (length (now (types .entry)))
+        (attemptAt (now (region .entry)) (now (types .entry)) o) r ⌝ }
 {
     let c = Cursor { at: o };
     let Varint::Value(h, next) = c.header_length(region) else {
@@ -187,7 +189,8 @@ fn try_parse_record(region: &[u8], types: &[u64], o: usize) -> Tried
 fn try_at(region: &[u8], types: &[u64], o: usize) -> Tried
     requires { ⌜ (o < length (now region)) × (length (now region) ≤ largestRegion) ⌝ }
     requires { ⌜ (1 ≤ length (now types)) × (length (now types) ≤ mostColumns) ⌝ }
-    ensures { λ r. ⌜ TriedIs (now (region .entry)) (length (now (types .entry))) (attemptAt (now (region .entry)) (now (types .entry)) o) r ⌝ }
+    ensures { λ r. ⌜ TriedIs (now (region .entry)) (length (now (types .entry)))
+        (attemptAt (now (region .entry)) (now (types .entry)) o) r ⌝ }
 {
     let first = wide(region[o]);
     if first == 0 {
@@ -208,7 +211,9 @@ fn carve_rows(
     cols: &mut [u64],
 ) -> Carved
     requires { ⌜ Ready (length (now region)) base (length (now types)) room 0 (length (now rows)) (length (now cols)) ⌝ }
-    ensures { λ r. ⌜ Carves (length (now (types .entry))) room 0 (hitsOf (length (now (region .entry))) base (rowsFound (now (region .entry)) (now (types .entry)))) false (now (rows .entry)) (now (cols .entry)) (carvedAs r) (now (rows .exit)) (now (cols .exit)) ⌝ }
+    ensures { λ r. ⌜ Carves (length (now (types .entry))) room 0
+        (hitsOf (length (now (region .entry))) base (rowsFound (now (region .entry)) (now (types .entry)))) false (now (rows .entry))
+        (now (cols .entry)) (carvedAs r) (now (rows .exit)) (now (cols .exit)) ⌝ }
 {
     let least = 1 + types.len();
     let mut o: usize = 0;
@@ -232,7 +237,8 @@ fn carve_rows(
 
 fn fill(region: &[u8], types: &[u64], base: u64, rows: &mut [u64], cols: &mut [u64]) -> Filled
     requires { ⌜ Filling (length (now region)) base (length (now types)) ⌝ }
-    ensures { λ r. ⌜ FilledIs (hitsOf (length (now (region .entry))) base (rowsFound (now (region .entry)) (now (types .entry)))) (length (now (types .entry))) (now (rows .entry)) (now (cols .entry)) r (now (rows .exit)) (now (cols .exit)) ⌝ }
+    ensures { λ r. ⌜ FilledIs (hitsOf (length (now (region .entry))) base (rowsFound (now (region .entry)) (now (types .entry))))
+        (length (now (types .entry))) (now (rows .entry)) (now (cols .entry)) r (now (rows .exit)) (now (cols .exit)) ⌝ }
 {
     let most = room(rows.len(), cols.len(), types.len());
     let Carved::On(n) = carve_rows(region, types, base, most, rows, cols) else {
@@ -265,11 +271,16 @@ pub fn carve_unallocated(
     rows: &mut [u64],
     cols: &mut [u64],
 ) -> Filled
-    ensures answer { λ r. ⌜ r ≡ learnedAnswer (now (region .entry)) (now (types .entry)) base (length (now (rows .entry))) (length (now (cols .entry))) ⌝ }
-    ensures rows { λ _. ⌜ now (rows .exit) ≡ learnedRows (now (region .entry)) (now (types .entry)) base (now (rows .entry)) (now (cols .entry)) ⌝ }
-    ensures cols { λ _. ⌜ now (cols .exit) ≡ learnedCols (now (region .entry)) (now (types .entry)) base (now (rows .entry)) (now (cols .entry)) ⌝ }
-    ensures number { λ r. ⌜ filledNumber r ≡ learnedNumber (now (region .entry)) (now (types .entry)) base (length (now (rows .entry))) (length (now (cols .entry))) ⌝ }
-    ensures written { λ r. ⌜ filledWritten r ≡ learnedWritten (now (region .entry)) (now (types .entry)) base (length (now (rows .entry))) (length (now (cols .entry))) ⌝ }
+    ensures answer { λ r. ⌜ r ≡ learnedAnswer (now (region .entry)) (now (types .entry)) base (length (now (rows .entry)))
+        (length (now (cols .entry))) ⌝ }
+    ensures rows { λ _. ⌜ now (rows .exit) ≡ learnedRows (now (region .entry)) (now (types .entry)) base (now (rows .entry))
+        (now (cols .entry)) ⌝ }
+    ensures cols { λ _. ⌜ now (cols .exit) ≡ learnedCols (now (region .entry)) (now (types .entry)) base (now (rows .entry))
+        (now (cols .entry)) ⌝ }
+    ensures number { λ r. ⌜ filledNumber r ≡ learnedNumber (now (region .entry)) (now (types .entry)) base (length (now (rows .entry)))
+        (length (now (cols .entry))) ⌝ }
+    ensures written { λ r. ⌜ filledWritten r ≡ learnedWritten (now (region .entry)) (now (types .entry)) base
+        (length (now (rows .entry))) (length (now (cols .entry))) ⌝ }
 {
     match check(region.len(), types.len(), base) {
         Checked::Refused(refusal) => Filled::Refused(refusal),

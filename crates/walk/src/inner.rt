@@ -48,7 +48,8 @@ const INTERIOR: u64 = 0x05;
 fn push_child(page: &[u8], at: usize, stack: &mut [u64], top: usize) -> Pushed
     requires { ⌜ at ≤ 131072 ⌝ }
     requires { ⌜ top ≤ length (now stack) ⌝ }
-    ensures { λ r. ⌜ pushedAs (now (stack .exit)) r ≡ pushAll (length (now (stack .entry))) (childIn (now (page .entry)) at) (tops (now (stack .entry)) top) ⌝ }
+    ensures { λ r. ⌜ pushedAs (now (stack .exit)) r ≡ pushAll (length (now (stack .entry))) (childIn (now (page .entry)) at)
+        (tops (now (stack .entry)) top) ⌝ }
     ensures small { λ r. ⌜ pushedTop r ≤ length (now (stack .entry)) ⌝ }
 {
     if at + 4 > page.len() {
@@ -66,7 +67,8 @@ fn push_cells(page: &[u8], from: usize, count: usize, stack: &mut [u64], top: us
     requires { ⌜ length (now page) ≤ 65536 ⌝ }
     requires { ⌜ from ≤ 65536 ⌝ }
     requires { ⌜ top ≤ length (now stack) ⌝ }
-    ensures { λ r. ⌜ pushedAs (now (stack .exit)) r ≡ pushAll (length (now (stack .entry))) (cellsFrom count (now (page .entry)) from) (tops (now (stack .entry)) top) ⌝ }
+    ensures { λ r. ⌜ pushedAs (now (stack .exit)) r ≡ pushAll (length (now (stack .entry))) (cellsFrom count (now (page .entry)) from)
+        (tops (now (stack .entry)) top) ⌝ }
     ensures small { λ r. ⌜ pushedTop r ≤ length (now (stack .entry)) ⌝ }
 {
     let mut at = from;
@@ -91,7 +93,8 @@ fn expand(page: &[u8], head: usize, stack: &mut [u64], top: usize) -> Step
     requires { ⌜ length (now page) ≤ 65536 ⌝ }
     requires { ⌜ head ≤ 100 ⌝ }
     requires { ⌜ top ≤ length (now stack) ⌝ }
-    ensures { λ r. ⌜ steppedAs (now (stack .exit)) r ≡ pageDone (length (now (stack .entry))) (now (page .entry)) head (tops (now (stack .entry)) top) ⌝ }
+    ensures { λ r. ⌜ steppedAs (now (stack .exit)) r ≡ pageDone (length (now (stack .entry))) (now (page .entry)) head
+        (tops (now (stack .entry)) top) ⌝ }
     ensures small { λ r. ⌜ steppedTop r ≤ length (now (stack .entry)) ⌝ }
 {
     let kind = page_type(page, head);
@@ -117,8 +120,10 @@ fn visit(db: &[u8], size: usize, p: u64, flags: &mut [u8], stack: &mut [u64], to
     requires { ⌜ size ≤ 65536 ⌝ }
     requires { ⌜ length (now db) / size ≤ length (now flags) ⌝ }
     requires { ⌜ top ≤ length (now stack) ⌝ }
-    ensures { λ r. ⌜ steppedAs (now (stack .exit)) r ≡ popped (now (db .entry)) size (length (now (stack .entry))) (take (length (now (db .entry)) / size) (now (flags .entry))) p (tops (now (stack .entry)) top) ⌝ }
-    ensures flags { λ _. ⌜ take (length (now (db .entry)) / size) (now (flags .exit)) ≡ marked (length (now (db .entry))) size (take (length (now (db .entry)) / size) (now (flags .entry))) p ⌝ }
+    ensures { λ r. ⌜ steppedAs (now (stack .exit)) r ≡ popped (now (db .entry)) size (length (now (stack .entry)))
+        (take (length (now (db .entry)) / size) (now (flags .entry))) p (tops (now (stack .entry)) top) ⌝ }
+    ensures flags { λ _. ⌜ take (length (now (db .entry)) / size) (now (flags .exit)) ≡ marked (length (now (db .entry))) size
+        (take (length (now (db .entry)) / size) (now (flags .entry))) p ⌝ }
     ensures small { λ r. ⌜ steppedTop r ≤ length (now (stack .entry)) ⌝ }
 {
     if p == 0 {
@@ -144,7 +149,8 @@ pub fn next_leaf(db: &[u8], size: usize, flags: &mut [u8], stack: &mut [u64], to
     requires { ⌜ size ≤ 65536 ⌝ }
     requires { ⌜ length (now db) / size ≤ length (now flags) ⌝ }
     requires { ⌜ top ≤ length (now stack) ⌝ }
-    ensures { λ r. ⌜ NextSays (now (db .entry)) size (now (flags .entry)) (now (stack .entry)) top (now (flags .exit)) (now (stack .exit)) r ⌝ }
+    ensures { λ r. ⌜ NextSays (now (db .entry)) size (now (flags .entry)) (now (stack .entry)) top (now (flags .exit))
+        (now (stack .exit)) r ⌝ }
 {
     let mut t = top;
     while t > 0 {

@@ -77,7 +77,8 @@ fn collect(
 ) -> Walked
     requires { ⌜ 512 ≤ size ⌝ }
     requires { ⌜ size ≤ 65536 ⌝ }
-    ensures { λ r. ⌜ Collected (now (db .entry)) size root (length (now (flags .entry))) (length (now (stack .entry))) (now (leaves .entry)) r (now (leaves .exit)) ⌝ }
+    ensures { λ r. ⌜ Collected (now (db .entry)) size root (length (now (flags .entry))) (length (now (stack .entry)))
+        (now (leaves .entry)) r (now (leaves .exit)) ⌝ }
 {
     if flags.len() < db.len() / size {
         return Walked::Short(0);
@@ -116,12 +117,18 @@ pub fn collect_leaf_pages(
     stack: &mut [u64],
     leaves: &mut [u64],
 ) -> Walked
-    ensures answer { λ r. ⌜ r ≡ collectAnswer (now (db .entry)) size root (length (now (flags .entry))) (length (now (stack .entry))) (length (now (leaves .entry))) ⌝ }
-    ensures leaves { λ _. ⌜ now (leaves .exit) ≡ collectLeaves (now (db .entry)) size root (length (now (flags .entry))) (length (now (stack .entry))) (now (leaves .entry)) ⌝ }
-    ensures flags { λ _. ⌜ now (flags .exit) ≡ clearedUnless (firstHeld (walkChecks (length (now (db .entry))) size)) (now (flags .entry)) ⌝ }
-    ensures stack { λ _. ⌜ now (stack .exit) ≡ clearedUnless (firstHeld (walkChecks (length (now (db .entry))) size)) (now (stack .entry)) ⌝ }
-    ensures number { λ r. ⌜ walkedNumber r ≡ collectNumber (now (db .entry)) size root (length (now (flags .entry))) (length (now (stack .entry))) (length (now (leaves .entry))) ⌝ }
-    ensures written { λ r. ⌜ walkedWritten r ≡ collectWritten (now (db .entry)) size root (length (now (flags .entry))) (length (now (stack .entry))) (length (now (leaves .entry))) ⌝ }
+    ensures answer { λ r. ⌜ r ≡ collectAnswer (now (db .entry)) size root (length (now (flags .entry))) (length (now (stack .entry)))
+        (length (now (leaves .entry))) ⌝ }
+    ensures leaves { λ _. ⌜ now (leaves .exit) ≡ collectLeaves (now (db .entry)) size root (length (now (flags .entry)))
+        (length (now (stack .entry))) (now (leaves .entry)) ⌝ }
+    ensures flags { λ _. ⌜ now (flags .exit) ≡ clearedUnless (firstHeld (walkChecks (length (now (db .entry))) size))
+        (now (flags .entry)) ⌝ }
+    ensures stack { λ _. ⌜ now (stack .exit) ≡ clearedUnless (firstHeld (walkChecks (length (now (db .entry))) size))
+        (now (stack .entry)) ⌝ }
+    ensures number { λ r. ⌜ walkedNumber r ≡ collectNumber (now (db .entry)) size root (length (now (flags .entry)))
+        (length (now (stack .entry))) (length (now (leaves .entry))) ⌝ }
+    ensures written { λ r. ⌜ walkedWritten r ≡ collectWritten (now (db .entry)) size root (length (now (flags .entry)))
+        (length (now (stack .entry))) (length (now (leaves .entry))) ⌝ }
 {
     match check(db.len(), size) {
         Checked::Refused(refusal) => Walked::Refused(refusal),

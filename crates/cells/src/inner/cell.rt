@@ -90,7 +90,8 @@ fn add_cell(
 ) -> Carved
     requires { ⌜ Laid (now body) (record { o = 0; head = find .head; from = find .from; by = spot .start + o }) columns ⌝ }
     requires { ⌜ Ready (o + length (now body)) columns spot lent n (length (now rows)) (length (now cols)) ⌝ }
-    ensures { λ r. ⌜ Carves (lent .width) (lent .room) n (cellHit spot columns o id (foundAt (now (body .entry)) 0 find) ∷ []) false (now (rows .entry)) (now (cols .entry)) (carvedAs r) (now (rows .exit)) (now (cols .exit)) ⌝ }
+    ensures { λ r. ⌜ Carves (lent .width) (lent .room) n (cellHit spot columns o id (foundAt (now (body .entry)) 0 find) ∷ []) false
+        (now (rows .entry)) (now (cols .entry)) (carvedAs r) (now (rows .exit)) (now (cols .exit)) ⌝ }
 {
     let confidence = suited_share(find.matched, columns as u16);
     let row = Row {
@@ -125,7 +126,9 @@ fn carve_place(
 ) -> Turn
     requires { ⌜ pos < length (now payload) ⌝ }
     requires { ⌜ Ready (o + length (now payload)) (length (now hints)) spot lent n (length (now rows)) (length (now cols)) ⌝ }
-    ensures rows { λ r. ⌜ Carves (lent .width) (lent .room) n (cellHits spot (length (now (hints .entry))) o (cellsThere (cellAt (now (payload .entry)) (now (hints .entry)) pos))) false (now (rows .entry)) (now (cols .entry)) (turnAs r) (now (rows .exit)) (now (cols .exit)) ⌝ }
+    ensures rows { λ r. ⌜ Carves (lent .width) (lent .room) n
+        (cellHits spot (length (now (hints .entry))) o (cellsThere (cellAt (now (payload .entry)) (now (hints .entry)) pos))) false
+        (now (rows .entry)) (now (cols .entry)) (turnAs r) (now (rows .exit)) (now (cols .exit)) ⌝ }
     ensures next { λ r. ⌜ GoesTo (nextPlace pos (cellAt (now (payload .entry)) (now (hints .entry)) pos)) r ⌝ }
 {
     let Cell::At {
@@ -166,7 +169,8 @@ pub fn carve_cells(
     cols: &mut [u64],
 ) -> Carved
     requires { ⌜ Ready (o + length (now payload)) (length (now hints)) spot lent n (length (now rows)) (length (now cols)) ⌝ }
-    ensures { λ r. ⌜ Carves (lent .width) (lent .room) n (cellHits spot (length (now (hints .entry))) o (cellsOf (now (payload .entry)) (now (hints .entry)))) false (now (rows .entry)) (now (cols .entry)) (carvedAs r) (now (rows .exit)) (now (cols .exit)) ⌝ }
+    ensures { λ r. ⌜ Carves (lent .width) (lent .room) n (cellHits spot (length (now (hints .entry))) o (cellsOf (now (payload .entry))
+        (now (hints .entry)))) false (now (rows .entry)) (now (cols .entry)) (carvedAs r) (now (rows .exit)) (now (cols .exit)) ⌝ }
 {
     let mut pos = 0;
     let mut m = n;

@@ -48,7 +48,8 @@ fn add_rebuilt(
     requires { ⌜ v ≤ length (now payload) ⌝ }
     requires { ⌜ Laid (now payload) (record { o = v; head = find .head; from = find .from; by = spot .start + o }) columns ⌝ }
     requires { ⌜ Ready (o + length (now payload)) columns spot lent n (length (now rows)) (length (now cols)) ⌝ }
-    ensures { λ r. ⌜ Carves (lent .width) (lent .room) n (rebuiltHit spot columns (o + v) (foundFrom (now (payload .entry)) v find) ∷ []) false (now (rows .entry)) (now (cols .entry)) (carvedAs r) (now (rows .exit)) (now (cols .exit)) ⌝ }
+    ensures { λ r. ⌜ Carves (lent .width) (lent .room) n (rebuiltHit spot columns (o + v) (foundFrom (now (payload .entry)) v find) ∷ [])
+        false (now (rows .entry)) (now (cols .entry)) (carvedAs r) (now (rows .exit)) (now (cols .exit)) ⌝ }
 {
     let share = suited_share(find.matched, columns as u16);
     let confidence = rebuilt(share);
@@ -88,7 +89,10 @@ fn carve_start(
 ) -> Turn
     requires { ⌜ (v ≤ length (now payload)) × (cells ≤ n) × (length (now hints) ≤ mostBy how) ⌝ }
     requires { ⌜ Ready (o + length (now payload)) (length (now hints)) spot lent n (length (now rows)) (length (now cols)) ⌝ }
-    ensures rows { λ r. ⌜ Carves (lent .width) (lent .room) n (startHits spot (length (now (hints .entry))) o v (isCell (now (rows .entry)) k cells (spot .base + (o + v))) (rebuiltAt how (now (payload .entry)) (now (hints .entry)) v)) false (now (rows .entry)) (now (cols .entry)) (turnAs r) (now (rows .exit)) (now (cols .exit)) ⌝ }
+    ensures rows { λ r. ⌜ Carves (lent .width) (lent .room) n
+        (startHits spot (length (now (hints .entry))) o v (isCell (now (rows .entry)) k cells (spot .base + (o + v)))
+        (rebuiltAt how (now (payload .entry)) (now (hints .entry)) v)) false (now (rows .entry)) (now (cols .entry)) (turnAs r)
+        (now (rows .exit)) (now (cols .exit)) ⌝ }
     ensures next { λ r. ⌜ GoesTo (nextRow k (isCell (now (rows .entry)) k cells (spot .base + (o + v)))) r ⌝ }
 {
     let place = o + v;
@@ -121,7 +125,10 @@ pub fn carve_rebuilt(
     requires { ⌜ length (now hints) ≤ mostBy how ⌝ }
     requires { ⌜ Ready (o + length (now payload)) (length (now hints)) spot lent cells (length (now rows)) (length (now cols)) ⌝ }
     requires { ⌜ Standing spot o (now rows) cells first (startsOf (cellsOf (now payload) (now hints))) ⌝ }
-    ensures { λ r. ⌜ Carves (lent .width) (lent .room) cells (rebuiltFrom (rebuiltStarts (length (now (payload .entry))) (length (now (hints .entry)))) how spot o (startsOf (cellsOf (now (payload .entry)) (now (hints .entry)))) (now (payload .entry)) (now (hints .entry)) 0) false (now (rows .entry)) (now (cols .entry)) (carvedAs r) (now (rows .exit)) (now (cols .exit)) ⌝ }
+    ensures { λ r. ⌜ Carves (lent .width) (lent .room) cells
+        (rebuiltFrom (rebuiltStarts (length (now (payload .entry))) (length (now (hints .entry)))) how spot o
+        (startsOf (cellsOf (now (payload .entry)) (now (hints .entry)))) (now (payload .entry)) (now (hints .entry)) 0) false
+        (now (rows .entry)) (now (cols .entry)) (carvedAs r) (now (rows .exit)) (now (cols .exit)) ⌝ }
 {
     let starts = starts_of(payload.len(), hints.len());
     let offset = spot.base + o as u64;

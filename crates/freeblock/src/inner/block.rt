@@ -64,7 +64,8 @@ fn carve_payload(
     cols: &mut [u64],
 ) -> Carved
     requires { ⌜ Ready (o + length (now payload)) (length (now hints)) spot lent n (length (now rows)) (length (now cols)) ⌝ }
-    ensures { λ r. ⌜ Carves (lent .width) (lent .room) n (firstHits spot (length (now (hints .entry))) o (firstStart (now (payload .entry)) (now (hints .entry)))) false (now (rows .entry)) (now (cols .entry)) (carvedAs r) (now (rows .exit)) (now (cols .exit)) ⌝ }
+    ensures { λ r. ⌜ Carves (lent .width) (lent .room) n (firstHits spot (length (now (hints .entry))) o (firstStart (now (payload
+        .entry)) (now (hints .entry)))) false (now (rows .entry)) (now (cols .entry)) (carvedAs r) (now (rows .exit)) (now (cols .exit)) ⌝ }
 {
     let Start::At { v, find } = first_start(payload, hints) else {
         return Carved::On(n);
@@ -103,7 +104,11 @@ pub fn carve_block(
 ) -> Carved
     requires { ⌜ (4 ≤ size) × (at + size ≤ length (now page)) ⌝ }
     requires { ⌜ Ready (length (now page)) (length (now hints)) spot lent n (length (now rows)) (length (now cols)) ⌝ }
-    ensures { λ r. ⌜ Carves (lent .width) (lent .room) n (blockHits (now (page .entry)) (now (hints .entry)) spot (record { at = at; size = size })) false (now (rows .entry)) (now (cols .entry)) (carvedAs r) (now (rows .exit)) (now (cols .exit)) ⌝ }
+    ensures { λ r. ⌜ Carves (lent .width) (lent .room) n (blockHits (now (page .entry)) (now (hints .entry)) spot (record {
+      at = at;
+      size
+          = size;
+    })) false (now (rows .entry)) (now (cols .entry)) (carvedAs r) (now (rows .exit)) (now (cols .exit)) ⌝ }
 {
     let from = at + 4;
     let end = at + size;

@@ -61,7 +61,8 @@ fn add_row(
 ) -> Carved
     requires { ⌜ HitIs (now bytes) (now hints) o (attemptAt (now bytes) (now hints) o) (attemptPlaces (now bytes) o) find ⌝ }
     requires { ⌜ Ready (from + length (now bytes)) (length (now hints)) spot lent n (length (now rows)) (length (now cols)) ⌝ }
-    ensures { λ r. ⌜ Carves (lent .width) (lent .room) n (regionHit spot (length (now (hints .entry))) from o (foundAt (now (bytes .entry)) o find) ∷ []) false (now (rows .entry)) (now (cols .entry)) (carvedAs r) (now (rows .exit)) (now (cols .exit)) ⌝ }
+    ensures { λ r. ⌜ Carves (lent .width) (lent .room) n (regionHit spot (length (now (hints .entry))) from o (foundAt (now (bytes
+        .entry)) o find) ∷ []) false (now (rows .entry)) (now (cols .entry)) (carvedAs r) (now (rows .exit)) (now (cols .exit)) ⌝ }
 {
     let columns = hints.len();
     let confidence = suited_share(find.matched, columns as u16);
@@ -95,7 +96,8 @@ fn carve_region(
     cols: &mut [u64],
 ) -> Carved
     requires { ⌜ Ready (from + length (now bytes)) (length (now hints)) spot lent n (length (now rows)) (length (now cols)) ⌝ }
-    ensures { λ r. ⌜ Carves (lent .width) (lent .room) n (regionHits spot from (now (bytes .entry)) (now (hints .entry))) false (now (rows .entry)) (now (cols .entry)) (carvedAs r) (now (rows .exit)) (now (cols .exit)) ⌝ }
+    ensures { λ r. ⌜ Carves (lent .width) (lent .room) n (regionHits spot from (now (bytes .entry)) (now (hints .entry))) false
+        (now (rows .entry)) (now (cols .entry)) (carvedAs r) (now (rows .exit)) (now (cols .exit)) ⌝ }
 {
     let last = last_of(bytes.len());
     let mut o = 0;
@@ -145,7 +147,8 @@ pub fn carve_gap(
 ) -> Carved
     requires { ⌜ head + 8 ≤ length (now page) ⌝ }
     requires { ⌜ Ready (length (now page)) (length (now hints)) spot lent n (length (now rows)) (length (now cols)) ⌝ }
-    ensures { λ r. ⌜ Carves (lent .width) (lent .room) n (gapHits (now (page .entry)) head (now (hints .entry)) spot) false (now (rows .entry)) (now (cols .entry)) (carvedAs r) (now (rows .exit)) (now (cols .exit)) ⌝ }
+    ensures { λ r. ⌜ Carves (lent .width) (lent .room) n (gapHits (now (page .entry)) head (now (hints .entry)) spot) false
+        (now (rows .entry)) (now (cols .entry)) (carvedAs r) (now (rows .exit)) (now (cols .exit)) ⌝ }
 {
     let from = gap_from(page, head);
     let to = gap_to(page, head);

@@ -65,7 +65,8 @@ pub fn widest(counts: &[u64]) -> usize
 
 // Lists that do not belong together, or a hint that is none.
 fn malformed(roots: &[u64], counts: &[u64], hints: &[u8]) -> bool
-    ensures { λ r. ⌜ r ≡ not (eqb (length (now (roots .entry))) (length (now (counts .entry)))) || (not (eqb (sumOf (now (counts .entry))) (length (now (hints .entry)))) || not (hintsKnown (now (hints .entry)))) ⌝ }
+    ensures { λ r. ⌜ r ≡ not (eqb (length (now (roots .entry))) (length (now (counts .entry)))) ||
+        (not (eqb (sumOf (now (counts .entry))) (length (now (hints .entry)))) || not (hintsKnown (now (hints .entry)))) ⌝ }
 {
     if roots.len() != counts.len() {
         return true;

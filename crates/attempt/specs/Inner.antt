@@ -5,7 +5,8 @@ use mathlib.Core.Path.{_≡_}
 use mathlib.Core.Bool.{Bool, true, false}
 use mathlib.Core.List.{List, [], _∷_, _++_}
 use lib.ListN.{length, drop}
-use Rattle.attempt.specs.Attempt.{Types, ended, cut, kind, kinds, isWhole, typesFrom, mostHeader, Found, Tried, miss, hit, judgedWhole}
+use Rattle.attempt.specs.Attempt.{Types, ended, cut, kind, kinds, isWhole, typesFrom, mostHeader, Found, Tried, miss, hit}
+use Rattle.attempt.specs.Attempt.{judgedWhole}
 use Rattle.attempt.specs.Hints.{suited}
 use Rattle.attempt.specs.Places.{mostPlaces, typePlaces}
 use Rattle.attempt.specs.declared.inner.Find.{Find}

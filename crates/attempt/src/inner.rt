@@ -22,7 +22,8 @@ ghost use lib.ListN.{length};
 ghost use lib.Seq.{sets};
 ghost use Rattle.attempt.specs.Attempt.{kinds, attemptAt};
 ghost use Rattle.attempt.specs.Hints.{isInteger, isReal, isText, isBlob, suits as suitsHint};
-ghost use Rattle.attempt.specs.Inner.{suitsAt, tooLong, bodySize, sizes, columnsAt, headerTypes, Headed, WholeIs, Walked, Judged, Tells};
+ghost use Rattle.attempt.specs.Inner.{suitsAt, tooLong, bodySize, sizes, columnsAt, headerTypes, Headed, WholeIs, Walked};
+ghost use Rattle.attempt.specs.Inner.{Judged, Tells};
 ghost use Rattle.attempt.specs.Places.{attemptPlaces};
 ghost use Rattle.sheet.specs.Limits.{wordsPerEntry, largestRegion};
 ghost use Rattle.sheet.specs.Sheet.{columnsWords};
@@ -256,8 +257,8 @@ pub fn attempt(bytes: &[u8], hints: &[u8], o: usize) -> Verdict
     given_header(bytes, hints, o, head, from)
 }
 
-// Writes the columns whose types stand behind `from` in the header of `head` bytes at o; the bodies start at its end. The bytes lie `by` bytes
-// into the slice that the entries' starts count in.
+// Writes the columns whose types stand behind `from` in the header of `head` bytes at o; the bodies start at its end. The bytes lie `by`
+// bytes into the slice that the entries' starts count in.
 pub fn put_columns(
     bytes: &[u8],
     o: usize,

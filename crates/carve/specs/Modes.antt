@@ -80,10 +80,12 @@ abbrev pub goOn : (Found → List Found) → Tried → List Found
 goOn rest miss = []
 goOn rest (hit x) = x ∷ rest x
 
--- Rule 12.7: Normal is tried while three bytes remain, each row where the one before ended, up to the first failure. The first argument bounds the rows.
+-- Rule 12.7: Normal is tried while three bytes remain, each row where the one before ended, up to the first failure. The first argument
+-- bounds the rows.
 unfoldable pub normalFrom : ℕ → List ℕ → ℕ → ℕ → List Found
 normalFrom zero s columns o = []
-normalFrom (suc f) s columns o = cond (leb (o + 3) (length s)) (goOn (λ x. normalFrom f s columns (endOf (length s) x)) (normalAt s columns o)) []
+normalFrom (suc f) s columns o =
+    cond (leb (o + 3) (length s)) (goOn (λ x. normalFrom f s columns (endOf (length s) x)) (normalAt s columns o)) []
 
 -- A row takes bytes, so the slice's length bounds them, and no larger bound gives others (`proofs/Fuel.antt`).
 unfoldable pub normalFound : List ℕ → ℕ → List Found

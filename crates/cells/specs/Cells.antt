@@ -42,7 +42,8 @@ recordIs at len id (hit x) = cell (record { at = at; end = at + len; id = id; fo
 
 -- Rule 11.4: behind the length stands the row id, and behind that the record, if the payload has so many bytes left
 abbrev pub idThen : List ℕ → List ℕ → ℕ → Varint → Looked
-idThen d hints len (Value id c) = cond (leb len (length d - c .at)) (recordIs (c .at) len id (attemptAt (take len (drop (c .at) d)) hints 0)) noCell
+idThen d hints len (Value id c) =
+    cond (leb len (length d - c .at)) (recordIs (c .at) len id (attemptAt (take len (drop (c .at) d)) hints 0)) noCell
 idThen d hints len Short = noCell
 
 -- Rule 11.4: a cell begins with its record's length, which is above 0
@@ -53,7 +54,8 @@ lengthThen d hints Short = noCell
 unfoldable pub cellAt : List ℕ → List ℕ → ℕ → Looked
 cellAt d hints pos = lengthThen d hints (varintAt d pos)
 
--- Rule 11.5: behind such a cell the next is looked for at its record's end, elsewhere at the next byte. The first argument bounds the steps.
+-- Rule 11.5: behind such a cell the next is looked for at its record's end, elsewhere at the next byte. The first argument bounds the
+-- steps.
 abbrev pub cellThen : ℕ → (ℕ → List CellRow) → Looked → List CellRow
 cellThen pos rest noCell = rest (suc pos)
 cellThen pos rest (cell c) = c ∷ rest (c .end)
@@ -77,7 +79,8 @@ startsOf (c ∷ cs) = c .at ∷ startsOf cs
 
 -- Rule 11.7: a row at the place o of its page; the percent is of its confidence
 abbrev pub gapHit : Spot → ℕ → RowId → Float → Found → Hit
-gapHit spot o id confidence x = hitOf spot (rowAt spot o (x .consumed) id (CarvedIntraPage (percentOf confidence)) confidence) o (x .columns)
+gapHit spot o id confidence x =
+    hitOf spot (rowAt spot o (x .consumed) id (CarvedIntraPage (percentOf confidence)) confidence) o (x .columns)
 
 abbrev pub cellHit : Spot → ℕ → ℕ → ℕ → Found → Hit
 cellHit spot columns o id x = gapHit spot o (Present id) (share (x .matched) columns) x

@@ -62,4 +62,5 @@ nextRow k passed = cond passed (suc k) k
 -- the rows from k to `cells` are those of cells whose records start there; the payload stands at o in its page
 abbrev pub Standing : Spot → ℕ → List ℕ → ℕ → ℕ → List ℕ → Type 0
 Standing spot o rows cells k [] = k ≡ cells
-Standing spot o rows cells k (v ∷ vs) = (k < cells) × (getD rows (k * wordsPerRow) 0 ≡ spot .base + (o + v)) × Standing spot o rows cells (suc k) vs
+Standing spot o rows cells k (v ∷ vs) =
+    (k < cells) × (getD rows (k * wordsPerRow) 0 ≡ spot .base + (o + v)) × Standing spot o rows cells (suc k) vs

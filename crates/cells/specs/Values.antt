@@ -43,7 +43,8 @@ rebuiltValuesFrom (suc k) how cells d hints v =
 -- row by row, as `payloadHits` has them
 unfoldable pub payloadValues : Rebuilding → List ℕ → List ℕ → List (List Value)
 payloadValues how d hints =
-    cellsValues d (cellsOf d hints) ++ rebuiltValuesFrom (rebuiltStarts (length d) (length hints)) how (startsOf (cellsOf d hints)) d hints 0
+    cellsValues d (cellsOf d hints)
+    ++ rebuiltValuesFrom (rebuiltStarts (length d) (length hints)) how (startsOf (cellsOf d hints)) d hints 0
 
 -- such values said of a slice in which the payload begins at `by`
 abbrev pub inSlice : ℕ → List (List Value) → List (List Value)

@@ -19,7 +19,8 @@ use Rattle.sheet.specs.Hits.{Hit}
 -- Rule 10.1: the chain ends at 0, below the b-tree header + 8, past the page, and at a size below 4 or past the page
 unfoldable pub chainEnds : List ℕ → ℕ → ℕ → Bool
 chainEnds page head at =
-    eqb at 0 || (ltb at (head + 8) || (ltb (length page) (at + 4) || (ltb (blockSize page at) 4 || ltb (length page) (at + blockSize page at))))
+    eqb at 0
+    || (ltb at (head + 8) || (ltb (length page) (at + 4) || (ltb (blockSize page at) 4 || ltb (length page) (at + blockSize page at))))
 
 -- Rule 10.1: and at a place that it has been to. The first argument bounds the blocks.
 unfoldable pub blocksFrom : ℕ → List ℕ → ℕ → List ℕ → ℕ → List Block

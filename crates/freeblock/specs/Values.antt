@@ -9,7 +9,8 @@ use Rattle.page.specs.Page.{Block, payloadOf}
 use Rattle.record.specs.Value.{movedValue}
 use Rattle.record.specs.declared.record.Value.{Value}
 
--- Rules 10.2 and 4.13: the row that is found has the values of a row at the start of the payload's part, said of a slice in which the payload begins at `from`
+-- Rules 10.2 and 4.13: the row that is found has the values of a row at the start of the payload's part, said of a slice in which the
+-- payload begins at `from`
 abbrev pub firstValues : ℕ → List ℕ → First → List (List Value)
 firstValues from payload nowhere = []
 firstValues from payload (startAt v x) = map (movedValue (from + v)) (rowValues (drop v payload) 0) ∷ []

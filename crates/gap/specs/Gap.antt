@@ -40,7 +40,9 @@ allZero (b ∷ bs) = eqb b 0 && allZero bs
 -- Rule 11.2: the row at o of a region that begins at `from` in its page
 abbrev pub regionHit : Spot → ℕ → ℕ → ℕ → Found → Hit
 regionHit spot columns from o x =
-    hitOf spot (rowAt spot (from + o) (x .consumed) Absent (CarvedIntraPage (percentOf (share (x .matched) columns))) (share (x .matched) columns)) from (x .columns)
+    hitOf spot
+    (rowAt spot (from + o) (x .consumed) Absent (CarvedIntraPage (percentOf (share (x .matched) columns))) (share (x .matched) columns))
+    from (x .columns)
 
 abbrev pub runHits : Spot → ℕ → ℕ → Run → List Hit
 runHits spot columns from through = []
@@ -48,20 +50,23 @@ runHits spot columns from (noRoom o) = []
 runHits spot columns from (missed o t) = runHits spot columns from t
 runHits spot columns from (found o x t) = regionHit spot columns from o x ∷ runHits spot columns from t
 
--- Rule 11.2: a region is scanned by the scan's rule (4.8), with room for as many rows as it has bytes: each finds it (`roomy` of `scanlaws`)
+-- Rule 11.2: a region is scanned by the scan's rule (4.8), with room for as many rows as it has bytes: each finds it (`roomy` of
+-- `scanlaws`)
 unfoldable pub regionHits : Spot → ℕ → List ℕ → List ℕ → List Hit
 regionHits spot from s hints = runHits spot (length hints) from (scanFrom (length s) s hints (length s) 0 0)
 
 -- Rule 11.1: a gap of zeros is left out
 unfoldable pub gapHits : List ℕ → ℕ → List ℕ → Spot → List Hit
-gapHits page head hints spot = cond (hasGap page head && not (allZero (gapOf page head))) (regionHits spot (gapFrom page head) (gapOf page head) hints) []
+gapHits page head hints spot =
+    cond (hasGap page head && not (allZero (gapOf page head))) (regionHits spot (gapFrom page head) (gapOf page head) hints) []
 
 -- ---- the chain
 
 -- Rule 11.3: a block of a size below 4, or past the page, is left out
 abbrev pub blockThen : List ℕ → ℕ → List Block → List Block
 blockThen page at rest =
-    cond (ltb (blockSize page at) 4 || ltb (length page) (at + blockSize page at)) rest (record { at = at; size = blockSize page at } ∷ rest)
+    cond (ltb (blockSize page at) 4 || ltb (length page) (at + blockSize page at)) rest
+    (record { at = at; size = blockSize page at } ∷ rest)
 
 -- Rule 11.3: the chain ends at 0, and where a block's four bytes pass the page,
 unfoldable pub chainEnds : List ℕ → ℕ → Bool
@@ -70,7 +75,8 @@ chainEnds page at = eqb at 0 || ltb (length page) (at + 4)
 -- and at a next that is not larger, and after so many steps
 unfoldable pub chainFrom : ℕ → List ℕ → ℕ → List Block
 chainFrom zero page at = []
-chainFrom (suc k) page at = cond (chainEnds page at) [] (blockThen page at (cond (leb (blockNext page at) at) [] (chainFrom k page (blockNext page at))))
+chainFrom (suc k) page at =
+    cond (chainEnds page at) [] (blockThen page at (cond (leb (blockNext page at) at) [] (chainFrom k page (blockNext page at))))
 
 abbrev pub mostSteps : ℕ
 mostSteps = 1024

@@ -32,9 +32,11 @@ gapValues page head hints = cond (hasGap page head && not (allZero (gapOf page h
 -- block by block, as `blocksHits` has them
 abbrev pub blocksValues : Rebuilding → ℕ → List ℕ → List ℕ → List Block → List (List Value)
 blocksValues how start page hints [] = []
-blocksValues how start page hints (b ∷ bs) = inSlice (start + (b .at + 4)) (payloadValues how (payloadOf page b) hints) ++ blocksValues how start page hints bs
+blocksValues how start page hints (b ∷ bs) =
+    inSlice (start + (b .at + 4)) (payloadValues how (payloadOf page b) hints) ++ blocksValues how start page hints bs
 
 -- Rule 11.8: row by row, as `pageHits` has them
 unfoldable pub pageValues : Rebuilding → ℕ → List ℕ → ℕ → List ℕ → List (List Value)
 pageValues how start page head hints =
-    cond (ltb (length page) (head + 8)) [] (inSlice (start + gapFrom page head) (gapValues page head hints) ++ blocksValues how start page hints (chain page head))
+    cond (ltb (length page) (head + 8)) []
+    (inSlice (start + gapFrom page head) (gapValues page head hints) ++ blocksValues how start page hints (chain page head))

@@ -5,7 +5,8 @@ ghost use mathlib.Core.Path.{_≡_};
 ghost use Prim.Native.Nat.{_+_, _≤_, _<_};
 ghost use lib.ListN.{length, getD};
 ghost use Rattle.page.specs.Inner.{farthest};
-ghost use Rattle.page.specs.Page.{sizeFits, headOf, pageType, firstFreeblock, cellCount, contentStart, pointerAt, childAt, blockNext, blockSize};
+ghost use Rattle.page.specs.Page.{sizeFits, headOf, pageType, firstFreeblock, cellCount, contentStart, pointerAt, childAt};
+ghost use Rattle.page.specs.Page.{blockNext, blockSize};
 ghost use Rattle.record.specs.Value.{bigEndian};
 
 // A power of two from 512 to 65,536.

@@ -4,7 +4,8 @@ use carving::freeblocks::recover_slice_freeblocks;
 use tables::freeblocks::recover_freeblocks;
 ghost use mathlib.Core.Path.{_≡_};
 ghost use mathlib.Core.List.{[], _∷_};
-ghost use Rattle.carving.specs.Calls.{sliceAsked, sliceRows, sliceCols, sliceNumber, sliceWritten, numberedAsked, numberedRows, numberedCols, numberedNumber, numberedWritten};
+ghost use Rattle.carving.specs.Calls.{sliceAsked, sliceRows, sliceCols, sliceNumber, sliceWritten, numberedAsked, numberedRows};
+ghost use Rattle.carving.specs.Calls.{numberedCols, numberedNumber, numberedWritten};
 ghost use Rattle.carving.specs.declared.inner.Carving.the-variants.{Freeblocks};
 ghost use Rattle.tables.specs.Calls.{asked, tabledRows, tabledCols, tabledCleared, tabledNumber, tabledWritten};
 

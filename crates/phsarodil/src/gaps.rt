@@ -1,5 +1,5 @@
-// Rows in the free space of pages: of tables, of a page by its number, of a page slice, and of the payload of one freed block. Each takes the code of
-// the way in which lost headers are rebuilt.
+// Rows in the free space of pages: of tables, of a page by its number, of a page slice, and of the payload of one freed block. Each takes
+// the code of the way in which lost headers are rebuilt.
 use carving::gaps::parse_cells_from_freeblock;
 use carving::gaps::scan_page_gap;
 use carving::gaps::scan_single_page_gap;
@@ -12,7 +12,8 @@ use walk::inner::tables::counts_fit;
 ghost use mathlib.Core.Path.{_≡_};
 ghost use mathlib.Core.List.{[], _∷_};
 ghost use lib.ListN.{length};
-ghost use Rattle.carving.specs.Calls.{sliceAsked, sliceRows, sliceCols, sliceNumber, sliceWritten, numberedAsked, numberedRows, numberedCols, numberedNumber, numberedWritten};
+ghost use Rattle.carving.specs.Calls.{sliceAsked, sliceRows, sliceCols, sliceNumber, sliceWritten, numberedAsked, numberedRows};
+ghost use Rattle.carving.specs.Calls.{numberedCols, numberedNumber, numberedWritten};
 ghost use Rattle.carving.specs.declared.inner.Carving.the-variants.{Gaps, Payload};
 ghost use Rattle.rebuild.specs.Ways.{named as wayNamed, byName, unnamedNumber};
 ghost use Rattle.sheet.specs.Limits.{countFits};
@@ -35,7 +36,8 @@ pub extern "C" fn phs_scan_page_gaps(
 ) -> u64
     ensures number { λ r. ⌜ r ≡ byName (wayNamed rebuilding) (λ how. tabledNumber
         (asked (Gaps how) (now (db .entry)) size (now (roots .entry)) (now (counts .entry)) (now (hints .entry))
-        (now (flags .entry)) (now (stack .entry)) (now (rows .entry)) (now (cols .entry)))) (unnamedNumber (countsFit (now (counts .entry)))) ⌝ }
+        (now (flags .entry)) (now (stack .entry)) (now (rows .entry)) (now (cols .entry))))
+        (unnamedNumber (countsFit (now (counts .entry)))) ⌝ }
     ensures out { λ _. ⌜ now (out .exit) ≡ byName (wayNamed rebuilding) (λ how. tabledWritten
         (asked (Gaps how) (now (db .entry)) size (now (roots .entry)) (now (counts .entry)) (now (hints .entry))
         (now (flags .entry)) (now (stack .entry)) (now (rows .entry)) (now (cols .entry)))) 0 ∷ [] ⌝ }

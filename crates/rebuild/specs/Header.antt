@@ -1,4 +1,5 @@
--- A header whose length is lost (rules 11.6 and 11.9): the length is made up, and stands before the types that begin at a start of a payload.
+-- A header whose length is lost (rules 11.6 and 11.9): the length is made up, and stands before the types that begin at a start of a
+-- payload.
 -- Assumes nothing.
 use Prim.Native.Nat.{ℕ, suc, _+_, _-_, _/_, _%_}
 use mathlib.Core.Bool.{cond}

@@ -5,7 +5,8 @@ ghost use mathlib.Core.Bool.{true};
 ghost use Prim.Native.Nat.{_+_, _*_, _^_, _≤_, _<_};
 ghost use lib.ListN.{length, getD};
 ghost use lib.Ieee.{binary64, ofBits};
-ghost use Rattle.record.specs.Value.{smallLengths, bodyLength, bodyFits, bigEndian, twosComplement, valueOf, decodeAt, startOf, lengthOf};
+ghost use Rattle.record.specs.Value.{smallLengths, bodyLength, bodyFits, bigEndian, twosComplement, valueOf, decodeAt};
+ghost use Rattle.record.specs.Value.{startOf, lengthOf};
 ghost use Rattle.record.specs.declared.record.Length.the-variants.{Bytes};
 
 pub enum Length {

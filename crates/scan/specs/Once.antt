@@ -27,10 +27,13 @@ onceAnswer s hints base o rows cols = after Refused (scanChecked s hints base) (
 
 unfoldable pub onceRows : List ℕ → List ℕ → ℕ → ℕ → List ℕ → List ℕ → List ℕ
 onceRows s hints base o rows cols =
-    afterOrKept (scanChecked s hints base) (overlay (rowsWords (rowsOf base (length hints) (onceRun s hints o (length rows) (length cols)))) rows) rows
+    afterOrKept (scanChecked s hints base)
+    (overlay (rowsWords (rowsOf base (length hints) (onceRun s hints o (length rows) (length cols)))) rows)
+    rows
 
 unfoldable pub onceCols : List ℕ → List ℕ → ℕ → ℕ → List ℕ → List ℕ → List ℕ
-onceCols s hints base o rows cols = afterOrKept (scanChecked s hints base) (overlay (entriesOf (onceRun s hints o (length rows) (length cols))) cols) cols
+onceCols s hints base o rows cols =
+    afterOrKept (scanChecked s hints base) (overlay (entriesOf (onceRun s hints o (length rows) (length cols))) cols) cols
 
 -- the paper's number of such an answer, and the rows written; its place and its count are 0
 abbrev pub onceNumberOf : Attempted → ℕ

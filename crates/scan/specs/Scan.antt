@@ -21,7 +21,8 @@ use Rattle.sheet.specs.declared.row.Row.{Row}
 use Rattle.sheet.specs.declared.row.RowId.the-variants.{Absent}
 use Rattle.sheet.specs.declared.row.Source.the-variants.{Scan}
 
--- the attempts of a scan, one after the other: it is through; a row at an offset finds no room; an attempt at an offset fails, or finds a row
+-- the attempts of a scan, one after the other: it is through; a row at an offset finds no room; an attempt at an offset fails, or finds a
+-- row
 pub data Run : Type 0 where
   through : Run
   noRoom : ℕ → Run
@@ -128,7 +129,9 @@ scanAnswer s hints base start rows cols = after Refused (scanChecked s hints bas
 
 unfoldable pub scanRows : List ℕ → List ℕ → ℕ → ℕ → List ℕ → List ℕ → List ℕ
 scanRows s hints base start rows cols =
-    afterOrKept (scanChecked s hints base) (overlay (rowsWords (rowsOf base (length hints) (scanRun s hints start (length rows) (length cols)))) rows) rows
+    afterOrKept (scanChecked s hints base)
+    (overlay (rowsWords (rowsOf base (length hints) (scanRun s hints start (length rows) (length cols)))) rows)
+    rows
 
 unfoldable pub scanCols : List ℕ → List ℕ → ℕ → ℕ → List ℕ → List ℕ → List ℕ
 scanCols s hints base start rows cols =

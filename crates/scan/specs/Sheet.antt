@@ -9,7 +9,8 @@ use Rattle.attempt.specs.Values.{rowValues}
 use Rattle.record.specs.Places.{AgreeAt}
 use Rattle.record.specs.declared.record.Value.{Value}
 use Rattle.scan.specs.Once.{onceRun}
-use Rattle.scan.specs.Scan.{Run, through, noRoom, missed, found, rowsOf, rowCount, entriesOf, runNumber, runPlace, allPlaces, finishedPlaces, triedOffsets, scanFrom, scanChecked}
+use Rattle.scan.specs.Scan.{Run, through, noRoom, missed, found, rowsOf, rowCount, entriesOf, runNumber, runPlace}
+use Rattle.scan.specs.Scan.{allPlaces, finishedPlaces, triedOffsets, scanFrom, scanChecked}
 use Rattle.sheet.specs.Columns.{roomOf}
 use Rattle.sheet.specs.Limits.{wordsPerRow, wordsPerEntry}
 use Rattle.sheet.specs.Refusal.{refusalNumber, after, afterOr0, afterOrKept}
@@ -47,7 +48,13 @@ askedRun a = scanFrom (length (a .region)) (a .region) (a .hints) (a .room) (a .
 -- the sheet and the count by the rules
 abbrev pub runSheet : ℕ → ℕ → ℕ → Run → Sheet
 runSheet len base columns t =
-    record { rows = rowsWords (rowsOf base columns t); entries = entriesOf t; number = runNumber t; written = rowCount t; place = runPlace len t }
+    record {
+      rows = rowsWords (rowsOf base columns t);
+      entries = entriesOf t;
+      number = runNumber t;
+      written = rowCount t;
+      place = runPlace len t;
+    }
 
 abbrev pub emptySheet : Refusal → Sheet
 emptySheet r = record { rows = []; entries = []; number = refusalNumber r; written = 0; place = 0 }
@@ -61,7 +68,13 @@ askedCount a = afterOr0 (askedChecked a) (length (finishedPlaces (a .region) (as
 -- as a call leaves it: what stands at the front of both lists, beside the answer
 abbrev pub sheetOf : ℕ → ℕ → ℕ → ℕ → List ℕ → List ℕ → Sheet
 sheetOf columns number written place rows cols =
-    record { rows = take (written * wordsPerRow) rows; entries = take (written * (wordsPerEntry * columns)) cols; number = number; written = written; place = place }
+    record {
+      rows = take (written * wordsPerRow) rows;
+      entries = take (written * (wordsPerEntry * columns)) cols;
+      number = number;
+      written = written;
+      place = place;
+    }
 
 -- Rule 4.15: the header places of a call, those of the attempt that found no room among them; where a check refuses there are none
 unfoldable pub askedPlaces : Asked → List ℕ

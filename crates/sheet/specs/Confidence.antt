@@ -28,6 +28,7 @@ freedShare x = mul binary32 x sixTenths
 unfoldable pub rebuiltShare : Float → Float
 rebuiltShare x = mul binary32 x nineTenths
 
--- Rule 5.5: the confidence x times 100, rounded to f32, then cut down as Rust's `as u8` does, so a NaN is 0, and the answer is from 0 to 255
+-- Rule 5.5: the confidence x times 100, rounded to f32, then cut down as Rust's `as u8` does, so a NaN is 0, and the answer is from 0 to
+-- 255
 unfoldable pub percentOf : Float → ℕ
 percentOf x = toUnsigned 8 (mul binary32 x hundred)

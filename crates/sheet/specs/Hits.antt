@@ -37,10 +37,12 @@ abbrev pub pageAnswerOf : Checked → List Hit → ℕ → ℕ → ℕ → Fille
 pageAnswerOf c hits width rows cols = after Barred c (filledBy (length hits) (roomOf rows cols width))
 
 abbrev pub pageRowsOf : Checked → List Hit → ℕ → List ℕ → List ℕ → List ℕ
-pageRowsOf c hits width rows cols = afterOrKept c (overlay (rowsWords (rowsOf (take (roomOf (length rows) (length cols) width) hits))) rows) rows
+pageRowsOf c hits width rows cols =
+    afterOrKept c (overlay (rowsWords (rowsOf (take (roomOf (length rows) (length cols) width) hits))) rows) rows
 
 abbrev pub pageColsOf : Checked → List Hit → ℕ → List ℕ → List ℕ → List ℕ
-pageColsOf c hits width rows cols = afterOrKept c (overlay (groupsWords width (take (roomOf (length rows) (length cols) width) hits)) cols) cols
+pageColsOf c hits width rows cols =
+    afterOrKept c (overlay (groupsWords width (take (roomOf (length rows) (length cols) width) hits)) cols) cols
 
 abbrev pub pageNumberOf : Checked → List Hit → ℕ → ℕ → ℕ → ℕ
 pageNumberOf c hits width rows cols = numberAfter c (length hits) (roomOf rows cols width)

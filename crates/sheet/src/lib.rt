@@ -1,5 +1,6 @@
 // What the sheet is made of: rows and column entries as words of lent lists, confidences, hints, and the answers with their refusals.
-// The region scan uses a part of it: `Freelist` to `CarvedUnalloc`, the three modes, `freed`, `rebuilt`, `percent` and `put_unused` are the other carvers'.
+// The region scan uses a part of it: `Freelist` to `CarvedUnalloc`, the three modes, `freed`, `rebuilt`, `percent` and `put_unused` are
+// the other carvers'.
 pub mod columns;
 pub mod confidence;
 pub mod filled;

@@ -1,5 +1,6 @@
-// Starts of headers that are rebuilt in a payload: how many there are, and which can be passed over. In the one-byte mode as many types as the header has bytes take one byte each, but for the last, which may run
-// past its end; so a byte from 128 up before the header's last byte shows that there is no row.
+// Starts of headers that are rebuilt in a payload: how many there are, and which can be passed over. In the one-byte mode as many types
+// as the header has bytes take one byte each, but for the last, which may run past its end; so a byte from 128 up before the header's
+// last byte shows that there is no row.
 use rebuild::rebuilding::Rebuilding;
 use sheet::WORDS_PER_ROW;
 ghost use mathlib.Core.Path.{_≡_};

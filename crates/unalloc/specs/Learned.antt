@@ -48,7 +48,8 @@ abbrev pub percentOf : ℕ → ℕ → ℕ
 percentOf n columns = n * 100 / columns
 
 abbrev pub learnedStyle : ℕ → ℕ → Style
-learnedStyle n columns = record { source = CarvedUnalloc (percentOf n columns); confidence = share (percentOf n columns) 100; mode = Plain; lost = 0 }
+learnedStyle n columns =
+    record { source = CarvedUnalloc (percentOf n columns); confidence = share (percentOf n columns) 100; mode = Plain; lost = 0 }
 
 -- ---- one attempt
 
@@ -71,7 +72,8 @@ abbrev pub allThere : List Column → Bool
 allThere [] = true
 allThere (c ∷ cs) = isThere c && allThere cs
 
--- Rule 14.3: of types in a header of h bytes at o, one matches, so there is one at the least, and every body fits; the bodies start at the header's end
+-- Rule 14.3: of types in a header of h bytes at o, one matches, so there is one at the least, and every body fits; the bodies start at
+-- the header's end
 unfoldable pub judged : List ℕ → List ℕ → ℕ → ℕ → List ℕ → Tried
 judged s ls o h ts =
     cond (ltb 0 (matched ls ts) && allThere (columnsFrom (length s) (o + h) ts))
@@ -84,7 +86,8 @@ judgedTypes s ls o h (read ts end) = judged s ls o h ts
 
 -- Rule 14.3: the types stand behind the header's length, up to the header's end, and no more are read than were learned
 abbrev pub attemptWith : List ℕ → List ℕ → ℕ → Varint → Tried
-attemptWith s ls o (Value h c) = cond (headerFits (length s) o (c .at - o) h) (judgedTypes s ls o h (typesFrom (length ls) s (c .at) (o + h))) miss
+attemptWith s ls o (Value h c) =
+    cond (headerFits (length s) o (c .at - o) h) (judgedTypes s ls o h (typesFrom (length ls) s (c .at) (o + h))) miss
 attemptWith s ls o Short = miss
 
 unfoldable pub attemptAt : List ℕ → List ℕ → ℕ → Tried
@@ -100,7 +103,8 @@ goOn rest len o (hit x) = x ∷ rest (endOf len x)
 -- Rule 14.4: a row is looked for as long as there is room for a header of one byte a type. The first argument bounds the attempts.
 unfoldable pub rowsFrom : ℕ → List ℕ → List ℕ → ℕ → List Found
 rowsFrom zero s ls o = []
-rowsFrom (suc f) s ls o = cond (leb (o + (1 + length ls)) (length s)) (goOn (λ next. rowsFrom f s ls next) (length s) o (attemptAt s ls o)) []
+rowsFrom (suc f) s ls o =
+    cond (leb (o + (1 + length ls)) (length s)) (goOn (λ next. rowsFrom f s ls next) (length s) o (attemptAt s ls o)) []
 
 -- Each attempt goes on, so the region's length bounds them, and no larger bound gives other rows (`proofs/Fuel.antt`).
 unfoldable pub rowsFound : List ℕ → List ℕ → List Found

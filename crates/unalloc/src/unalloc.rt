@@ -30,7 +30,9 @@ ghost use Rattle.sheet.specs.Filled.{filledNumber, filledWritten};
 ghost use Rattle.sheet.specs.Limits.{mostColumns, largestRegion};
 ghost use Rattle.sheet.specs.Refusal.{firstHeld};
 ghost use Rattle.unalloc.specs.Inner.{matchesAt, Headed, Walked};
-ghost use Rattle.unalloc.specs.Learned.{isInteger, isText, isBlob, matches, learnedStyle, isThere, attemptAt, rowsFound, learnedChecks, learnedAnswer, learnedRows, learnedCols, learnedNumber, learnedWritten};
+ghost use Rattle.unalloc.specs.Learned.{isInteger, isText, isBlob, matches, learnedStyle, isThere, attemptAt, rowsFound};
+ghost use Rattle.unalloc.specs.Learned.{learnedChecks, learnedAnswer, learnedRows, learnedCols, learnedNumber};
+ghost use Rattle.unalloc.specs.Learned.{learnedWritten};
 ghost use Rattle.sheet.specs.Inner.{carvedAs, Carves, FilledIs};
 
 // What the types of a header come to: how many there are, and how many match.

@@ -52,7 +52,11 @@ countsFit (c ∷ cs) = countFits c && countsFit cs
 abbrev pub tableChecks : ℕ → ℕ → List ℕ → List ℕ → List ℕ → List Check
 tableChecks len size roots counts hints =
     record { refusal = ColumnCount; holds = not (countsFit counts) }
-    ∷ record { refusal = Malformed; holds = not (eqb (length roots) (length counts)) || (not (eqb (sumOf counts) (length hints)) || not (hintsKnown hints)) }
+    ∷ record {
+      refusal = Malformed;
+      holds = not (eqb (length roots) (length counts)) ||
+          (not (eqb (sumOf counts) (length hints)) || not (hintsKnown hints));
+    }
     ∷ record { refusal = TooLarge; holds = ltb largestRegion len || ltb mostTables (length roots) }
     ∷ record { refusal = PageSize; holds = not (sizeFits size) }
     ∷ []
@@ -83,13 +87,15 @@ tablesOverflow db size roots counts hints depth = overflowFrom (λ root. walk db
 abbrev pub tablesAnswer : Carver → List ℕ → ℕ → List ℕ → List ℕ → List ℕ → ℕ → ℕ → ℕ → ℕ → Walked
 tablesAnswer carve db size roots counts hints flags depth rows cols =
     ifFlagged (wholePages (length db) size) flags
-    (walkedOf (roomOf rows cols (widest counts)) (length (tablesHits carve db size roots counts hints depth)) (tablesOverflow db size roots counts hints depth))
+    (walkedOf (roomOf rows cols (widest counts)) (length (tablesHits carve db size roots counts hints depth))
+    (tablesOverflow db size roots counts hints depth))
     (Short 0)
 
 -- the hits that are written: the first, as many as there is room for
 abbrev pub tablesWritten : Carver → List ℕ → ℕ → List ℕ → List ℕ → List ℕ → ℕ → ℕ → ℕ → ℕ → List Hit
 tablesWritten carve db size roots counts hints flags depth rows cols =
-    ifFlagged (wholePages (length db) size) flags (take (roomOf rows cols (widest counts)) (tablesHits carve db size roots counts hints depth)) []
+    ifFlagged (wholePages (length db) size) flags
+    (take (roomOf rows cols (widest counts)) (tablesHits carve db size roots counts hints depth)) []
 
 -- its checks came to c: a way of carving may have more of them than those above
 unfoldable pub carvedAnswer : Checked → Carver → List ℕ → ℕ → List ℕ → List ℕ → List ℕ → ℕ → ℕ → ℕ → ℕ → Walked

@@ -87,4 +87,5 @@ collectNumber db size root flags depth room =
 
 unfoldable pub collectWritten : List ℕ → ℕ → ℕ → ℕ → ℕ → ℕ → ℕ
 collectWritten db size root flags depth room =
-    walkWritten (firstHeld (walkChecks (length db) size)) (wholePages (length db) size) flags room (length (leavesOf (walk db size depth root)))
+    walkWritten (firstHeld (walkChecks (length db) size)) (wholePages (length db) size) flags room
+    (length (leavesOf (walk db size depth root)))

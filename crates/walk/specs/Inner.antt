@@ -93,10 +93,13 @@ tableAs NoFurther = over
 tableAs (Short n) = short n
 
 -- what carving tables leaves
-pub record Tabled (carve : Carver) (db : List ℕ) (size : ℕ) (roots counts hints : List ℕ) (flags depth : ℕ) (rows cols : List ℕ) (r : Walked) (rows′ cols′ : List ℕ) : Type 0 where
+pub record Tabled (carve : Carver) (db : List ℕ) (size : ℕ) (roots counts hints : List ℕ) (flags depth : ℕ) (rows cols : List ℕ)
+    (r : Walked) (rows′ cols′ : List ℕ) : Type 0 where
   pub answer : r ≡ tablesAnswer carve db size roots counts hints flags depth (length rows) (length cols)
-  pub rows-are : rows′ ≡ overlay (rowsWords (rowsOf (tablesWritten carve db size roots counts hints flags depth (length rows) (length cols)))) rows
-  pub cols-are : cols′ ≡ overlay (groupsWords (widest counts) (tablesWritten carve db size roots counts hints flags depth (length rows) (length cols))) cols
+  pub rows-are : rows′ ≡ overlay (rowsWords
+      (rowsOf (tablesWritten carve db size roots counts hints flags depth (length rows) (length cols)))) rows
+  pub cols-are : cols′ ≡ overlay (groupsWords (widest counts)
+      (tablesWritten carve db size roots counts hints flags depth (length rows) (length cols))) cols
 
 -- tables that have passed the checks
 pub record TablesFit (len size : ℕ) (roots counts hints : List ℕ) : Type 0 where

@@ -16,7 +16,8 @@ ghost use Prim.Native.Nat.{_/_, _≤_};
 ghost use lib.ListN.{length};
 ghost use Rattle.sheet.specs.Refusal.{firstHeld};
 ghost use Rattle.walk.specs.Inner.{Collected};
-ghost use Rattle.walk.specs.Collect.{walkChecks, walkedNumber, walkedWritten, collectAnswer, collectLeaves, collectNumber, collectWritten, clearedUnless};
+ghost use Rattle.walk.specs.Collect.{walkChecks, walkedNumber, walkedWritten, collectAnswer, collectLeaves, collectNumber};
+ghost use Rattle.walk.specs.Collect.{collectWritten, clearedUnless};
 
 // What is written while walking: leaves, or rows out of them.
 pub enum Walked {

@@ -15,12 +15,14 @@ use Rattle.record.specs.Varint.{varintAt}
 use Rattle.record.specs.declared.varint.Cursor.{Cursor}
 use Rattle.record.specs.declared.varint.Varint.{Varint}
 use Rattle.record.specs.declared.varint.Varint.the-variants.{Value, Short}
-use Rattle.attempt.specs.Attempt.{Types, ended, cut, kind, kinds, isWhole, Tried, miss, judged, judgedWhole, headerFits, attemptAt, mostHeader, mostBytes}
+use Rattle.attempt.specs.Attempt.{Types, ended, cut, kind, kinds, isWhole, Tried, miss, judged, judgedWhole, headerFits, attemptAt, mostBytes}
 use Rattle.attempt.specs.Hints.{suited}
 use Rattle.attempt.specs.Inner.{reach, headerTypes, totalFrom, sizes, Headed, WholeIs, MissIs, HitIs}
 use Rattle.attempt.specs.Places.{mostPlaces, typePlaces, attemptPlaces}
 use Rattle.attempt.proofs.Bodies.{total-min, miss-count, miss-total, hit-total}
+use Rattle.attempt.proofs.Skipping.{never}
 use Rattle.attempt.proofs.Types.{Stops, stops, types-end}
+use Rattle.sheet.specs.Limits.{mostHeader}
 
 cut-reach : (s : List ℕ) (ts : Types) → isWhole ts ≡ false → reach s ts ≡ length s
 cut-reach s (ended at) e = let z : _≡_ {A = ℕ} 0 1 = cc in absurd (omega arith)
@@ -144,9 +146,6 @@ pub fits-is : (len o h : ℕ) → headerFits len o h ≡ true → (2 ≤ h) × (
 unfolding headerFits
 fits-is len o h = go (leb 2 h) (leb h mostHeader) (leb h (len - o)) refl refl refl
   where
-    never : {C : Type 0} → false ≡ true → C
-    never e = let z : _≡_ {A = ℕ} 0 1 = cc in absurd (omega arith)
-
     go : (a b c : Bool) → leb 2 h ≡ a → leb h mostHeader ≡ b → leb h (len - o) ≡ c → (a && (b && c)) ≡ true → (2 ≤ h) × (h ≤ mostHeader) × (h ≤ len - o)
     go true true true p q r e = (leb-true _ _ p, leb-true _ _ q, leb-true _ _ r)
     go true true false p q r e = never e

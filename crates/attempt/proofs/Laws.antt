@@ -8,7 +8,7 @@ use native.Mathlib.Omega.{arith}
 use lib.Dec.{leb, eqb, ltb}
 use lib.ListN.{length, length-append}
 use borrow.Author.Tests.{leb-true, eqb-true, ltb-true}
-use Rattle.attempt.specs.Attempt.{Types, isWhole, kinds, Bodies, unfit, laid, bodiesFrom, Found, miss, hit, sized, judged, judgedWhole, headerFits, attemptWith, attemptAt, typesFrom, mostHeader, mostBytes}
+use Rattle.attempt.specs.Attempt.{Types, isWhole, kinds, Bodies, unfit, laid, bodiesFrom, Found, miss, hit, sized, judged, judgedWhole, headerFits, attemptWith, attemptAt, typesFrom, mostBytes}
 use Rattle.attempt.specs.Hints.{suited}
 use Rattle.attempt.specs.Inner.{bodySize, columnsAt, headerTypes}
 use Rattle.attempt.specs.Places.{mostPlaces, attemptPlaces}
@@ -20,6 +20,7 @@ use Rattle.record.specs.Varint.{varintAt}
 use Rattle.record.specs.declared.varint.Cursor.{Cursor}
 use Rattle.record.specs.declared.varint.Varint.{Varint}
 use Rattle.record.specs.declared.varint.Varint.the-variants.{Value, Short}
+use Rattle.sheet.specs.Limits.{mostHeader}
 
 -- THE LAW: an attempt has at most 520 header places
 pub places-few : (s : List ℕ) (o : ℕ) → length (attemptPlaces s o) ≤ mostPlaces
@@ -51,7 +52,8 @@ columns-at-length at [] = refl
 columns-at-length at (t ∷ ts) = ap suc (columns-at-length (at + bodySize t) ts)
 
 -- ---- a row that was found
-never : {C : Type 0} {x : Found} → miss ≡ hit x → C
+-- no row is none
+pub never : {C : Type 0} {x : Found} → miss ≡ hit x → C
 never e = let z : _≡_ {A = ℕ} 0 1 = cc in absurd (omega arith)
 
 -- the types of its header of h bytes are as many as the hints, and their bodies are its columns

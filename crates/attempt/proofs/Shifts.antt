@@ -10,7 +10,7 @@ use lib.Dec.{leb, ltb, eqb}
 use lib.ListN.{length, length-append}
 use lib.Seq.{getD-append-add}
 use borrow.Author.Tests.{le-leb, lt-leb}
-use Rattle.attempt.specs.Attempt.{Types, cut, kinds, isWhole, typesFrom, Bodies, unfit, laid, before, bodiesFrom, Tried, miss, hit, sized, judged, judgedWhole, attemptAt, mostHeader, mostBytes}
+use Rattle.attempt.specs.Attempt.{Types, cut, kinds, isWhole, typesFrom, Bodies, unfit, laid, before, bodiesFrom, Tried, miss, hit, sized, judged, judgedWhole, attemptAt, mostBytes}
 use Rattle.attempt.specs.Hints.{suited}
 use Rattle.attempt.specs.Inner.{bodySize, columnsAt, headerTypes}
 use Rattle.attempt.specs.Moved.{movedOne, moved, backOne, back}
@@ -28,6 +28,7 @@ use Rattle.record.specs.declared.varint.Varint.{Varint}
 use Rattle.record.specs.declared.varint.Varint.the-variants.{Value, Short}
 use Rattle.sheet.specs.declared.columns.Column.{Column}
 use Rattle.sheet.specs.declared.columns.Column.the-variants.{Body, Unfit, Lost, Unused}
+use Rattle.sheet.specs.Limits.{mostHeader}
 
 -- ---- columns
 pub back-moved : (by : ℕ) (cs : List Column) → back by (moved by cs) ≡ cs

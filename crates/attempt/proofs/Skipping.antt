@@ -16,7 +16,7 @@ use Rattle.record.specs.Varint.{varintAt}
 use Rattle.record.specs.declared.varint.Varint.{Varint}
 use Rattle.record.specs.declared.varint.Varint.the-variants.{Value, Short}
 
-never : {C : Type 0} → false ≡ true → C
+pub never : {C : Type 0} → false ≡ true → C
 never e = let z : _≡_ {A = ℕ} 0 1 = cc in absurd (omega arith)
 
 -- of whole types, k have been skipped

@@ -14,11 +14,9 @@ use Rattle.record.specs.declared.varint.Varint.the-variants.{Value, Short}
 use Rattle.attempt.specs.Hints.{suited}
 use Rattle.sheet.specs.declared.columns.Column.{Column}
 use Rattle.sheet.specs.declared.columns.Column.the-variants.{Body}
+use Rattle.sheet.specs.Limits.{mostHeader}
 
--- the longest header, and the longest row
-abbrev pub mostHeader : ℕ
-mostHeader = 512
-
+-- the longest row
 abbrev pub mostBytes : ℕ
 mostBytes = 65536
 

@@ -5,7 +5,7 @@ use mathlib.Core.Path.{_≡_}
 use mathlib.Core.Bool.{Bool, true, false}
 use mathlib.Core.List.{List, [], _∷_, _++_}
 use lib.ListN.{length, drop}
-use Rattle.attempt.specs.Attempt.{Types, ended, cut, kind, kinds, isWhole, typesFrom, mostHeader, Found, Tried, miss, hit}
+use Rattle.attempt.specs.Attempt.{Types, ended, cut, kind, kinds, isWhole, typesFrom, Found, Tried, miss, hit}
 use Rattle.attempt.specs.Attempt.{judgedWhole}
 use Rattle.attempt.specs.Hints.{suited}
 use Rattle.attempt.specs.Places.{mostPlaces, typePlaces}
@@ -20,6 +20,7 @@ use Rattle.record.specs.declared.record.Length.{Length}
 use Rattle.record.specs.declared.record.Length.the-variants.{Bytes, Reserved}
 use Rattle.sheet.specs.declared.columns.Column.{Column}
 use Rattle.sheet.specs.declared.columns.Column.the-variants.{Body}
+use Rattle.sheet.specs.Limits.{mostHeader}
 
 -- 1 where the type suits the hint at k
 abbrev pub suitsAt : List ℕ → ℕ → ℕ → ℕ

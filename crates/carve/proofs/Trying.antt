@@ -56,7 +56,8 @@ module _ (s : List ℕ) (columns : ℕ) (style : Style) (o start most from stop 
         record { is = rw again (row-some (w .types) (omega (arith, w .counts))); fits = find-fits order inside one few }
 
 -- ---- Normal
-never : {C : Type 0} {x : Found} → miss ≡ hit x → C
+-- no row is none
+pub never : {C : Type 0} {x : Found} → miss ≡ hit x → C
 never e = let z : _≡_ {A = ℕ} 0 1 = cc in absurd (omega arith)
 
 -- it stands where it was looked for, its bodies start behind that, in the slice, and it has no more columns than there may be

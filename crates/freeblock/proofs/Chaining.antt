@@ -15,12 +15,9 @@ use lib.ListN.{length, getD, set, replicate, length-set, length-replicate, getD-
 use lib.Seq.{getD-set-same, getD-set-other}
 use Rattle.freeblock.specs.Freeblock.{chainEnds, blocksFrom, freeblocks}
 use Rattle.page.specs.Page.{among, firstFreeblock, blockNext, blockSize, Block}
+use Rattle.sheet.proofs.Laws.{neither}
 
 -- ---- where it ends
-neither : (a b : Bool) → (a || b) ≡ false → (a ≡ false) × (b ≡ false)
-neither true b e = absurd (let z : _≡_ {A = ℕ} 0 1 = cc in omega arith)
-neither false b e = (refl, e)
-
 module _ (page : List ℕ) (head at : ℕ) where
   pub ends-low : at < head + 8 → true ≡ chainEnds page head at
   unfolding chainEnds

@@ -19,6 +19,7 @@ use Rattle.sheet.specs.Sheet.{entryIn, entriesIn}
 use Rattle.groups.specs.Judging.{judgedRow, judgedRows}
 use Rattle.groups.specs.Rows.{rowsIn, rowCount, rowsOf, isUsed, columnsOf, longest, isRefused, anyBad, gapped, badRow, badRows}
 use Rattle.groups.specs.declared.inner.Judged.the-variants.{Columns, Bad}
+use Rattle.sheet.proofs.Laws.{neither}
 
 -- ---- rows among the words
 pub rows-none : (width : ℕ) (words : List ℕ) → rowsIn 0 width words ≡ []
@@ -68,10 +69,6 @@ unfolding longest
 longest-next r rs = refl
 
 -- ---- what good rows have
-neither : (a b : Bool) → (a || b) ≡ false → (a ≡ false) × (b ≡ false)
-neither true b e = let z : _≡_ {A = ℕ} 0 1 = cc in absurd (omega arith)
-neither false b e = (refl, e)
-
 module _ (s : List ℕ) where
   -- reading a bad entry is refused, and no other
   pub refused-bad : (e : Entry) → isRefused (readEntry e s) ≡ badEntry e s

@@ -6,7 +6,7 @@ use carving::gaps::scan_single_page_gap;
 use rebuild::ways::Way;
 use rebuild::ways::named;
 use rebuild::ways::unnamed;
-use sheet::refusal::hint_count_fits;
+use sheet::hint::hint_count_fits;
 use tables::gaps::scan_page_gaps;
 use walk::inner::tables::counts_fit;
 ghost use mathlib.Core.Path.{_≡_};

@@ -22,6 +22,7 @@ use Rattle.record.proofs.Numbers.{by-order}
 use Rattle.record.specs.Varint.{varintAt}
 use Rattle.record.specs.declared.varint.Varint.{Varint}
 use Rattle.record.specs.declared.varint.Varint.the-variants.{Value, Short}
+use Rattle.attempt.proofs.Laws.{never}
 
 -- ---- the bytes of its types
 bytes-of : {a b : ℕ} → takes a ≡ takes b → a ≡ b
@@ -69,9 +70,6 @@ module _ (d : List ℕ) (v : ℕ) (start : v ≤ length d) where
       (rw end same, end, omega (arith, z .inside))
 
 -- ---- behind the made-up bytes stands what the header makes
-never : {C : Type 0} {x : Found} → miss ≡ hit x → C
-never e = let z : _≡_ {A = ℕ} 0 1 = cc in absurd (omega arith)
-
 columns-of : {a b : Found} → hit a ≡ hit b → a .columns ≡ b .columns
 columns-of {a} {b} e = let z : a ≡ b = cc in ap (λ (q : Found). q .columns) z
 

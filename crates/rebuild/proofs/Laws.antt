@@ -11,7 +11,7 @@ use borrow.Author.Tests.{le-leb, lt-leb}
 use lib.Dec.{leb}
 use lib.ListN.{length, drop, length-drop}
 use Rattle.attempt.proofs.Shifts.{back-moved, moved-at, given, movedTried, longer, given-moved, made-up, made-up-cut}
-use Rattle.attempt.specs.Attempt.{Tried, miss, hit, kinds, mostBytes, mostHeader}
+use Rattle.attempt.specs.Attempt.{Tried, miss, hit, kinds, mostBytes}
 use Rattle.attempt.specs.Inner.{columnsAt, findTypes, Judged}
 use Rattle.attempt.specs.Moved.{moved, back}
 use Rattle.attempt.specs.declared.inner.Verdict.{Verdict}
@@ -25,6 +25,7 @@ use Rattle.record.proofs.Numbers.{by-order}
 use Rattle.record.proofs.Shifts.{part-rest}
 use Rattle.record.specs.Varint.{varintAt}
 use Rattle.record.specs.declared.varint.Varint.the-variants.{Value}
+use Rattle.sheet.specs.Limits.{mostHeader}
 
 -- ---- the bytes of a length
 pub own-length : (t : ℕ) → length (lengthBytes t) ≡ ownBytes t

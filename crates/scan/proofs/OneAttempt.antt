@@ -12,7 +12,7 @@ use Rattle.scan.specs.Inner.{Once}
 use Rattle.scan.specs.Scan.{rowOf}
 use Rattle.sheet.specs.Sheet.{columnsWords}
 use Rattle.scan.specs.declared.schema_sig.Attempted.the-variants.{Row as Took, NoRow, Full}
-use Rattle.scan.proofs.Running.{laid-over}
+use Rattle.sheet.proofs.Laws.{laid-over}
 use Rattle.sheet.proofs.Laws.{row-words-length, columns-words-length, room-rows, room-cols}
 use Rattle.sheet.specs.Columns.{roomOf}
 use Rattle.sheet.specs.Limits.{wordsPerEntry}

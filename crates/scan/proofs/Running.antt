@@ -3,10 +3,10 @@
 use Prim.Native.Nat.{ℕ, zero, suc, zero-le, _+_, _-_, _*_, _≤_, _<_}
 use mathlib.Core.Path.{_≡_, refl, sym, ap, _∙_}
 use mathlib.Core.List.{List, [], _∷_, _++_}
-use native.Mathlib.Nat.{add-mul, one-mul, suc-mul, zero-add, zero-mul}
+use native.Mathlib.Nat.{add-mul, one-mul, suc-mul, zero-mul}
 use native.Mathlib.Omega.{arith}
 use lib.ListN.{length, drop, length-append}
-use lib.Seq.{sets, sets-eq}
+use lib.Seq.{sets}
 use borrow.Author.Tests.{lt-ltb, le-ltb}
 use Rattle.attempt.specs.Attempt.{Found, miss, hit, attemptAt}
 use Rattle.attempt.specs.Inner.{columnsAt, bodySize}
@@ -19,7 +19,7 @@ use Rattle.scan.specs.Scan.{Run, through, noRoom, missed, found, scanFro
 use Rattle.sheet.specs.Sheet.{columnsWords}
 use Rattle.scan.specs.declared.schema_sig.Scanned.{Scanned}
 use Rattle.scan.specs.declared.schema_sig.Scanned.the-variants.{Done, Full}
-use Rattle.sheet.proofs.Laws.{columns-words-length, row-words-length, column-words-length, rows-words-length, sets-append, room-rows, room-cols}
+use Rattle.sheet.proofs.Laws.{columns-words-length, row-words-length, column-words-length, rows-words-length, sets-append, room-rows, room-cols, laid-over}
 use Rattle.sheet.specs.Columns.{columnWords, roomOf}
 use Rattle.sheet.specs.Limits.{wordsPerRow, wordsPerEntry}
 use Rattle.sheet.specs.Row.{rowWords}
@@ -125,10 +125,6 @@ pub room-all : (rows cols width n : ℕ) → n ≤ roomOf rows cols width → (n
 room-all rows cols width zero h = (zero-le, let z : 0 * (wordsPerEntry * width) ≡ 0 = zero-mul (wordsPerEntry * width) in rw z zero-le)
 room-all rows cols width (suc n) h =
     (rw suc-mul (room-rows rows cols width n h), rw (suc-mul n (wordsPerEntry * width)) (room-cols rows cols width n h))
-
--- words written from the front are laid over what the list held
-pub laid-over : (ws l : List ℕ) → length ws ≤ length l → sets l 0 ws ≡ overlay ws l
-laid-over ws l h = sets-eq ws l 0 (omega arith) ∙ ap (λ (k : ℕ). ws ++ drop k l) (zero-add (length ws))
 
 -- ---- with fuel for what is left
 

@@ -4,13 +4,13 @@ use Prim.Native.Nat.{ℕ, zero, suc, _+_, _-_, _*_, _≤_, _<_}
 use mathlib.Core.Path.{_≡_, refl, sym, ap, _∙_}
 use mathlib.Core.Bool.{Bool, true, false, cond}
 use mathlib.Core.List.{List, [], _∷_, _++_, append-nil, append-assoc}
-use native.Mathlib.Nat.{add-mul, suc-mul, zero-add, min-le-left, mul-le-mul-right}
+use native.Mathlib.Nat.{add-mul, suc-mul, min-le-left, mul-le-mul-right}
 use native.Mathlib.Omega.{arith}
 use borrow.Author.Tests.{le-leb, lt-leb}
 use lib.ListN.{length, take, drop, length-append, length-take}
-use lib.Seq.{sets, sets-eq, take-nil, take-all, take-append-le, take-append-add}
+use lib.Seq.{sets, take-nil, take-all, take-append-le, take-append-add}
 use Rattle.record.proofs.Numbers.{by-order}
-use Rattle.sheet.proofs.Laws.{sets-append, rows-words-length, columns-words-length, unused-words-length, room-rows, room-cols}
+use Rattle.sheet.proofs.Laws.{sets-append, rows-words-length, columns-words-length, unused-words-length, room-rows, room-cols, laid-over}
 use Rattle.sheet.specs.Columns.{unusedWords, roomOf}
 use Rattle.sheet.specs.Limits.{wordsPerRow, wordsPerEntry}
 use Rattle.sheet.specs.Row.{rowWords}
@@ -152,9 +152,6 @@ room-fits rows cols width zero e = (omega arith, omega arith)
 room-fits rows cols width (suc n) e =
     let lt : n < roomOf rows cols width = omega arith in
     (rw suc-mul (room-rows rows cols width n lt), rw suc-mul (room-cols rows cols width n lt))
-
-laid-over : (ws l : List ℕ) → length ws ≤ length l → sets l 0 ws ≡ overlay ws l
-laid-over ws l h = sets-eq ws l 0 (omega arith) ∙ ap (λ (k : ℕ). ws ++ drop k l) (zero-add (length ws))
 
 module _ (width room : ℕ) (hs : List Hit) (rows cols rows′ cols′ : List ℕ) (is : room ≡ roomOf (length rows) (length cols) width) where
   taken-few : length (take room hs) ≤ room

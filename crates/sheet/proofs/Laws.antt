@@ -1,10 +1,10 @@
 -- What other crates rest on: they cite these laws and unfold no definition of this one.
 -- Assumes nothing.
 use Prim.Native.Nat.{ℕ, zero, suc, _+_, _*_, _/_, _≤_, _<_, min}
-use mathlib.Core.Path.{_≡_, refl, _∙_}
-use mathlib.Core.Bool.{Bool, true, false, cond, and-eq-true-iff}
+use mathlib.Core.Path.{_≡_, refl, ap, _∙_}
+use mathlib.Core.Bool.{Bool, true, false, cond, _||_, and-eq-true-iff}
 use mathlib.Core.List.{List, [], _∷_, _++_}
-use native.Mathlib.Nat.{add-zero, add-suc, suc-add, suc-mul, min-le-left, min-le-right, min-eq-left, min-eq-right, le-of-lt, le-trans, le-div-iff-mul-le}
+use native.Mathlib.Nat.{add-zero, zero-add, add-suc, suc-add, suc-mul, min-le-left, min-le-right, min-eq-left, min-eq-right, le-of-lt, le-trans, le-div-iff-mul-le}
 use native.Mathlib.Numerals.{add-one}
 use native.Mathlib.Omega.{arith}
 use borrow.Author.Tests.{leb-true, ltb-false, not-false, ne-eqb, le-leb, lt-leb, le-ltb, lt-ltb}
@@ -29,6 +29,15 @@ use Rattle.sheet.specs.declared.refusal.Checked.the-variants.{Passed, Re
 use Rattle.sheet.specs.declared.refusal.Refusal.{Refusal}
 use Rattle.sheet.specs.declared.refusal.Refusal.the-variants.{ColumnCount, Malformed, TooLarge, BaseTooFar, PageSize, NoSuchPage, NoColumnList, WalkSpace, NoRoom}
 use Rattle.sheet.specs.declared.row.Row.{Row}
+
+-- of two tests that do not hold together, neither does
+pub neither : (a b : Bool) → (a || b) ≡ false → (a ≡ false) × (b ≡ false)
+neither true b e = let z : _≡_ {A = ℕ} 0 1 = cc in absurd (omega arith)
+neither false b e = (refl, e)
+
+-- words written from the front are laid over what the list held
+pub laid-over : (ws l : List ℕ) → length ws ≤ length l → sets l 0 ws ≡ overlay ws l
+laid-over ws l h = sets-eq ws l 0 (omega arith) ∙ ap (λ (k : ℕ). ws ++ drop k l) (zero-add (length ws))
 
 -- ---- refusals and hints
 -- the number that `record`, below this crate, has of its own

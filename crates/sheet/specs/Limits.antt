@@ -25,6 +25,10 @@ largestRegion = 16777216
 abbrev pub largestBase : ℕ
 largestBase = 281474976710656
 
+-- the longest header
+abbrev pub mostHeader : ℕ
+mostHeader = 512
+
 -- Rule 1.3: the hint codes
 abbrev pub integerHint : ℕ
 integerHint = 0

@@ -1,6 +1,5 @@
 // Why a call is refused.
 // The tests behind the first two, named here too.
-pub use crate::hint::hint_count_fits;
 pub use crate::hint::hints_known;
 ghost use mathlib.Core.Path.{_≡_};
 ghost use Rattle.sheet.specs.Refusal.{refusalNumber};

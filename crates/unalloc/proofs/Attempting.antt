@@ -12,18 +12,16 @@ use Rattle.carve.proofs.Reading.{typed}
 use Rattle.carve.proofs.Trying.{find-fits, again}
 use Rattle.carve.specs.Found.{Types, cut, read, typesFrom, columnsFrom, Found, miss, hit}
 use Rattle.carve.specs.Inner.{WholeIs, HitIs}
+use Rattle.carve.proofs.Trying.{never}
 use Rattle.record.proofs.Laws.{varint-lies, varint-low, varint-large}
 use Rattle.record.proofs.Numbers.{by-order}
 use Rattle.record.specs.Varint.{varintAt}
 use Rattle.record.specs.declared.varint.Cursor.{Cursor}
 use Rattle.record.specs.declared.varint.Varint.{Varint}
 use Rattle.record.specs.declared.varint.Varint.the-variants.{Value, Short}
-use Rattle.sheet.specs.Limits.{mostColumns, largestRegion}
+use Rattle.sheet.specs.Limits.{mostColumns, largestRegion, mostHeader}
 use Rattle.unalloc.specs.Inner.{Headed, AllIs, FailsIs}
-use Rattle.unalloc.specs.Learned.{mostHeader, matched, learnedStyle, allThere, judged, judgedTypes, attemptAt}
-
-never : {C : Type 0} {x : Found} → miss ≡ hit x → C
-never e = let z : _≡_ {A = ℕ} 0 1 = cc in absurd (omega arith)
+use Rattle.unalloc.specs.Learned.{matched, learnedStyle, allThere, judged, judgedTypes, attemptAt}
 
 -- ---- the types
 module _ (s ls : List ℕ) (o h : ℕ) (ts : List ℕ) where

@@ -12,7 +12,7 @@ use Rattle.record.specs.Varint.{varintAt}
 use Rattle.record.specs.declared.varint.Varint.{Varint}
 use Rattle.record.specs.declared.varint.Varint.the-variants.{Value, Short}
 use Rattle.sheet.specs.Confidence.{share}
-use Rattle.sheet.specs.Limits.{largestRegion, largestBase, countFits}
+use Rattle.sheet.specs.Limits.{largestRegion, largestBase, countFits, mostHeader}
 use Rattle.sheet.specs.Refusal.{Check, firstHeld}
 use Rattle.sheet.specs.declared.columns.Column.{Column}
 use Rattle.sheet.specs.declared.columns.Column.the-variants.{Body, Unfit, Lost, Unused}
@@ -52,10 +52,6 @@ learnedStyle n columns =
     record { source = CarvedUnalloc (percentOf n columns); confidence = share (percentOf n columns) 100; mode = Plain; lost = 0 }
 
 -- ---- one attempt
-
--- the longest header
-abbrev pub mostHeader : ℕ
-mostHeader = 512
 
 -- Rule 14.3: a header's length h, read at o in `own` bytes, is no less than those, no more than the bytes from o, and no more than 512
 abbrev pub headerFits : ℕ → ℕ → ℕ → ℕ → Bool

@@ -12,7 +12,7 @@ use lib.ListN.{length, getD, replicate}
 use Rattle.page.proofs.Laws.{size-range}
 use Rattle.page.specs.Page.{sizeFits, wholePages}
 use Rattle.record.proofs.Numbers.{by-order}
-use Rattle.sheet.proofs.Laws.{none-holds, count-fits}
+use Rattle.sheet.proofs.Laws.{none-holds, count-fits, neither}
 use Rattle.sheet.specs.Columns.{roomOf}
 use Rattle.sheet.specs.Filled.{filledNumber, filledWritten}
 use Rattle.sheet.specs.Limits.{mostColumns, largestRegion, hintsKnown}
@@ -34,10 +34,6 @@ use Rattle.walk.proofs.Laws.{number-is, written-is}
 use Rattle.walk.proofs.Summing.{count-at, widest-least}
 
 -- ---- tables that have passed the checks
-neither : (a b : Bool) → (a || b) ≡ false → (a ≡ false) × (b ≡ false)
-neither true b e = absurd (let z : _≡_ {A = ℕ} 0 1 = cc in omega arith)
-neither false b e = (refl, e)
-
 pub tables-fit : (len size : ℕ) (roots counts hints : List ℕ) → firstHeld (tableChecks len size roots counts hints) ≡ Passed → TablesFit len size roots counts hints
 tables-fit len size roots counts hints e =
     let n = none-holds (tableChecks len size roots counts hints) e in

@@ -1,9 +1,9 @@
 // What every call over tables begins with: its checks, and how wide its groups are.
 use page::inner::size_fits;
 use sheet::LARGEST_REGION;
+use sheet::hint::hint_count_fits;
 use sheet::refusal::Checked;
 use sheet::refusal::Refusal;
-use sheet::refusal::hint_count_fits;
 use sheet::refusal::hints_known;
 ghost use mathlib.Core.Path.{_≡_};
 ghost use mathlib.Core.Bool.{not, _||_};

@@ -7,7 +7,7 @@ use mathlib.Core.List.{List, [], _∷_, _++_, map}
 use borrow.Author.Tests.{lt-ltb}
 use lib.ListN.{length}
 use Rattle.groups.specs.Rows.{rowCount, rowsIn, rowsOf, columnsOf, longest, anyBad, gapped, badRows}
-use Rattle.record.specs.Entry.{badEntry, readEntry}
+use Rattle.record.specs.Entry.{badWithin, readEntry}
 use Rattle.record.specs.Value.{bodyLength, bigEndian, twosComplement, valueOf}
 use Rattle.sheet.specs.Limits.{largestRegion, countFits}
 use Rattle.learn.specs.Learn.{mostRows, given, givenAt, columnTypes, hintOf, hintsBelow, hintsOf, learnNumber, learnWritten, learnChecks, learnTypes}
@@ -91,7 +91,7 @@ cases =
     ∷ []
 
 table : map computed cases ≡ map expected cases
-unfolding came cases bytes body unfit lost unused joined out computed expected learnNumber learnWritten learnChecks learnTypes countFits rowsOf rowsIn columnsOf anyBad gapped badRows given givenAt columnTypes hintOf hintsBelow longest hintsOf valueType integerType widthType countIn better bestOf commonestOf badEntry readEntry bodyLength bigEndian twosComplement valueOf
+unfolding came cases bytes body unfit lost unused joined out computed expected learnNumber learnWritten learnChecks learnTypes countFits rowsOf rowsIn columnsOf anyBad gapped badRows given givenAt columnTypes hintOf hintsBelow longest hintsOf valueType integerType widthType countIn better bestOf commonestOf badWithin readEntry bodyLength bigEndian twosComplement valueOf
 table = refl
 
 module _ (s : List ℕ) (width : ℕ) (words old : List ℕ) (fits : countFits width ≡ true) where

@@ -7,7 +7,7 @@ use mathlib.Core.List.{List, [], _∷_, _++_, map}
 use lib.IntN.{pos, negsuc}
 use lib.Ieee.{nan, inf, fin, ofBits}
 use lib.ListN.{replicate}
-use Rattle.record.specs.Entry.{badEntry, readEntry}
+use Rattle.record.specs.Entry.{badWithin, readEntry}
 use Rattle.record.specs.Value.{bodyLength, bigEndian, twosComplement, valueOf, bodyFits, decodeAt}
 use Rattle.record.specs.Varint.{varintFrom, varintAt, readVarint}
 use Rattle.record.specs.declared.entry.Entry.{Entry}
@@ -97,5 +97,5 @@ unfoldable pub cases : List Case
 cases = marked ++ worked ++ entries
 
 pub table : map computed cases ≡ map expected cases
-unfolding cases marked worked entries words computed expected readVarint varintAt varintFrom decodeAt bodyFits bodyLength valueOf twosComplement bigEndian ofBits readEntry badEntry
+unfolding cases marked worked entries words computed expected readVarint varintAt varintFrom decodeAt bodyFits bodyLength valueOf twosComplement bigEndian ofBits readEntry badWithin
 table = refl

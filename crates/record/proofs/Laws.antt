@@ -16,7 +16,7 @@ use mir.Syntax.{w64}
 use mir.Val.{SFits, toZ, ofZ}
 use mir.Facts.{toZ-ofZ}
 use borrow.Author.Tests.{lt-ltb, le-ltb, eq-eqb, ne-eqb, ltb-true}
-use Rattle.record.specs.Entry.{bodyState, unusedState, unlike, badEntry, readEntry, entryRefusal}
+use Rattle.record.specs.Entry.{bodyState, unusedState, unlike, badWithin, badEntry, readEntry, entryRefusal}
 use Rattle.record.specs.Places.{placesFrom, stopOf, varintPlaces, AgreeAt}
 use Rattle.record.specs.Value.{bodyLength, valueOf, decodeAt}
 use Rattle.record.specs.Varint.{varintFrom, varintAt}
@@ -238,6 +238,31 @@ long-value t s at n big l blob text =
     text (omega arith) (simp (no0, ge7, no7, ge10, q)))
 
 -- ---- entries
+module _ (e : Entry) (all : ℕ) where
+  pub bad-state : unusedState < e .state → badWithin e all ≡ true
+  unfolding badWithin
+  bad-state h = simp (lt-ltb unusedState (e .state) h)
+
+  pub bad-body : e .state ≡ bodyState → ((n : ℕ) → bodyLength (e .kind) ≡ Bytes n → e .len ≡ n → all < e .start + n) → badWithin e all ≡ true
+  unfolding badWithin
+  bad-body z h = simp z (by-length (bodyLength (e .kind)) refl)
+    where
+      by-length : (l : Length) → bodyLength (e .kind) ≡ l → (unlike (e .len) l || ltb all (e .start + e .len)) ≡ true
+      by-length Reserved l = refl
+      by-length (Bytes n) l =
+          by-cases (ℕ-discrete (e .len) n)
+          (λ q. simp (lt-ltb all (e .start + e .len) (omega (arith, h n l q)), or-true))
+          (λ ne. simp (ne-eqb (e .len) n ne))
+
+  pub good-bodiless : (e .state ≡ bodyState → ⊥) → e .state ≤ unusedState → badWithin e all ≡ false
+  unfolding badWithin
+  good-bodiless other hi = simp (le-ltb unusedState (e .state) hi, ne-eqb (e .state) bodyState other)
+
+  -- where the length is the type's, the place decides
+  pub bad-by-place : e .state ≡ bodyState → bodyLength (e .kind) ≡ Bytes (e .len) → badWithin e all ≡ ltb all (e .start + e .len)
+  unfolding badWithin
+  bad-by-place z l = simp (z, l, eq-eqb (e .len) (e .len) refl)
+
 module _ (e : Entry) (s : List ℕ) where
   -- THE LAW: a bad entry is refused
   pub entry-refused : badEntry e s ≡ true → (readEntry e s ≡ Refused) × (_≡_ {A = ℕ} (entryRefusal e s) 2)
@@ -246,7 +271,7 @@ module _ (e : Entry) (s : List ℕ) where
 
   -- THE LAW: the states of no body read as NULL
   pub entry-null : (e .state ≡ bodyState → ⊥) → e .state ≤ unusedState → (readEntry e s ≡ Of Null) × (_≡_ {A = ℕ} (entryRefusal e s) 0)
-  unfolding readEntry entryRefusal badEntry
+  unfolding readEntry entryRefusal badWithin
   entry-null other hi =
       let big = le-ltb unusedState (e .state) hi in
       let none = ne-eqb (e .state) bodyState other in
@@ -255,35 +280,11 @@ module _ (e : Entry) (s : List ℕ) where
   -- THE LAW: a body that is there is read
   pub entry-body : e .state ≡ bodyState → bodyLength (e .kind) ≡ Bytes (e .len) → e .start + e .len ≤ length s →
       (readEntry e s ≡ Of (valueOf (e .kind) s (e .start) (e .len))) × (_≡_ {A = ℕ} (entryRefusal e s) 0)
-  unfolding readEntry entryRefusal badEntry
+  unfolding readEntry entryRefusal badWithin
   entry-body z l h =
       let out = le-ltb (length s) (e .start + e .len) h in
       let like = eq-eqb (e .len) (e .len) refl in
       (simp (z, l, like, out), simp (z, l, like, out))
-
-  pub bad-state : unusedState < e .state → badEntry e s ≡ true
-  unfolding badEntry
-  bad-state h = simp (lt-ltb unusedState (e .state) h)
-
-  pub bad-body : e .state ≡ bodyState → ((n : ℕ) → bodyLength (e .kind) ≡ Bytes n → e .len ≡ n → length s < e .start + n) → badEntry e s ≡ true
-  unfolding badEntry
-  bad-body z h = simp z (by-length (bodyLength (e .kind)) refl)
-    where
-      by-length : (l : Length) → bodyLength (e .kind) ≡ l → (unlike (e .len) l || ltb (length s) (e .start + e .len)) ≡ true
-      by-length Reserved l = refl
-      by-length (Bytes n) l =
-          by-cases (ℕ-discrete (e .len) n)
-          (λ q. simp (lt-ltb (length s) (e .start + e .len) (omega (arith, h n l q)), or-true))
-          (λ ne. simp (ne-eqb (e .len) n ne))
-
-  pub good-bodiless : (e .state ≡ bodyState → ⊥) → e .state ≤ unusedState → badEntry e s ≡ false
-  unfolding badEntry
-  good-bodiless other hi = simp (le-ltb unusedState (e .state) hi, ne-eqb (e .state) bodyState other)
-
-  -- where the length is the type's, the place decides
-  pub bad-by-place : e .state ≡ bodyState → bodyLength (e .kind) ≡ Bytes (e .len) → badEntry e s ≡ ltb (length s) (e .start + e .len)
-  unfolding badEntry
-  bad-by-place z l = simp (z, l, eq-eqb (e .len) (e .len) refl)
 
   -- THE LAW: a good entry is read: where there is a body, as the value of its type
   pub good-body : e .state ≡ bodyState → badEntry e s ≡ false → (bodyLength (e .kind) ≡ Bytes (e .len)) × (readEntry e s ≡ Of (valueOf (e .kind) s (e .start) (e .len)))
@@ -294,17 +295,17 @@ module _ (e : Entry) (s : List ℕ) where
       bad b = let y : _≡_ {A = ℕ} 0 1 = cc in absurd (omega arith)
 
       by-length : (l : Length) → bodyLength (e .kind) ≡ l → bodyLength (e .kind) ≡ Bytes (e .len)
-      by-length Reserved l = absurd (bad (bad-body z (λ n k q. let y : _≡_ {A = ℕ} 0 1 = cc in absurd (omega arith))))
+      by-length Reserved l = absurd (bad (bad-body e (length s) z (λ n k q. let y : _≡_ {A = ℕ} 0 1 = cc in absurd (omega arith))))
       by-length (Bytes n) l =
           by-cases (ℕ-discrete (e .len) n)
           (λ q. rw q l)
-          (λ ne. absurd (bad (bad-body z (λ m k q. let y : Bytes m ≡ Bytes n = cc in absurd (ne (cc))))))
+          (λ ne. absurd (bad (bad-body e (length s) z (λ m k q. let y : Bytes m ≡ Bytes n = cc in absurd (ne (cc))))))
 
   pub good-read : badEntry e s ≡ false → (v : Cell) × (readEntry e s ≡ Of v)
   good-read good =
       by-cases (ℕ-discrete (e .state) bodyState)
       (λ there. (_, good-body there good .1))
-      (λ other. (Null, entry-null other (by-order unusedState (e .state) (λ big. let y : _≡_ {A = ℕ} 0 1 = cc (bad-state big) in absurd (omega arith)) (λ hi. hi)) .0))
+      (λ other. (Null, entry-null other (by-order unusedState (e .state) (λ big. let y : _≡_ {A = ℕ} 0 1 = cc (bad-state e (length s) big) in absurd (omega arith)) (λ hi. hi)) .0))
 
   -- THE LAW: a body that is there reads as what is decoded at its start, if the length is what that takes
   module _ (body : e .state ≡ bodyState) (v : Cell) (n : ℕ) (there : decodeAt (e .kind) s (e .start) ≡ Got v n) where
@@ -317,14 +318,14 @@ module _ (e : Entry) (s : List ℕ) where
     pub bad-length : (e .len ≡ n → ⊥) → badEntry e s ≡ true
     bad-length ne =
         let d = decoded (e .kind) s (e .start) v n there in
-        bad-body body (λ m l q. let z : Bytes m ≡ Bytes n = cc in absurd (ne (cc)))
+        bad-body e (length s) body (λ m l q. let z : Bytes m ≡ Bytes n = cc in absurd (ne (cc)))
 
   -- THE LAW: an entry that was read stands for NULL, or for a body that lies in the slice
   pub entry-cases : (P : Cell → Type 0) → P Null →
       (bodyLength (e .kind) ≡ Bytes (e .len) → e .start + e .len ≤ length s → P (valueOf (e .kind) s (e .start) (e .len))) →
       (v : Cell) → readEntry e s ≡ Of v → P v
   entry-cases P null body v r =
-      by-order unusedState (e .state) (λ big. refused (bad-state big))
+      by-order unusedState (e .state) (λ big. refused (bad-state e (length s) big))
       (λ hi.
       by-cases (ℕ-discrete (e .state) bodyState)
       (λ there. by-length there (bodyLength (e .kind)) refl)
@@ -334,17 +335,17 @@ module _ (e : Entry) (s : List ℕ) where
       refused b = let z : _≡_ {A = ℕ} 0 1 = cc (entry-refused b .0) in absurd (omega arith)
 
       by-length : e .state ≡ bodyState → (l : Length) → bodyLength (e .kind) ≡ l → P v
-      by-length there Reserved l = refused (bad-body there (λ n k q. let z : _≡_ {A = ℕ} 0 1 = cc in absurd (omega arith)))
+      by-length there Reserved l = refused (bad-body e (length s) there (λ n k q. let z : _≡_ {A = ℕ} 0 1 = cc in absurd (omega arith)))
       by-length there (Bytes n) l =
           by-cases (ℕ-discrete (e .len) n)
           (λ q.
           by-order (length s) (e .start + e .len)
-          (λ out. refused (bad-body there (λ m k w. omega arith)))
+          (λ out. refused (bad-body e (length s) there (λ m k w. omega arith)))
           (λ h.
           let like : bodyLength (e .kind) ≡ Bytes (e .len) = cc in
           let z : v ≡ valueOf (e .kind) s (e .start) (e .len) = cc (entry-body there like h .0) in
           rw z (body like h)))
-          (λ ne. refused (bad-body there (λ m k q. let z : Bytes m ≡ Bytes n = cc in absurd (ne (cc)))))
+          (λ ne. refused (bad-body e (length s) there (λ m k q. let z : Bytes m ≡ Bytes n = cc in absurd (ne (cc)))))
 
 -- ---- signed numbers of 64 bits, as the machine keeps them
 

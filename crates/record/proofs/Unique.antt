@@ -3,6 +3,7 @@
 use mathlib.Core.Path.{_≡_, sym, _∙_}
 use denote.Ref.{now}
 use Rattle.record.proofs.entry.Entry.is_bad.Reads as is-bad
+use Rattle.record.proofs.entry.Entry.is_bad_within.Reads as is-bad-within
 use Rattle.record.proofs.entry.Entry.read.Reads as read
 use Rattle.record.proofs.entry.Entry.view.Reads as view
 use Rattle.record.proofs.record.Value.len.Reads as value-len
@@ -55,6 +56,9 @@ read-fixed k a x y s t p q = p .0 ∙ sym (q .0)
 
 pub is-bad-fixed : Fixes is-bad.Post
 is-bad-fixed k a x y s t p q = p ∙ sym q
+
+pub is-bad-within-fixed : Fixes is-bad-within.Post
+is-bad-within-fixed k a x y s t p q = p ∙ sym q
 
 -- of a part of a slice: its bytes
 pub view-fixed : FixesSeen view.Post (λ k r s. now r)

@@ -36,10 +36,14 @@ unlike len (Bytes n) = not (eqb len n)
 unlike len Reserved = true
 
 -- Rule 3.2: there is no such state; or there should be a body, and the length is not the type's or the body leaves the slice
-unfoldable pub badEntry : Entry → List ℕ → Bool
-badEntry e s =
+-- of so many bytes
+unfoldable pub badWithin : Entry → ℕ → Bool
+badWithin e all =
     ltb unusedState (e .state)
-    || (eqb (e .state) bodyState && (unlike (e .len) (bodyLength (e .kind)) || ltb (length s) (e .start + e .len)))
+    || (eqb (e .state) bodyState && (unlike (e .len) (bodyLength (e .kind)) || ltb all (e .start + e .len)))
+
+abbrev pub badEntry : Entry → List ℕ → Bool
+badEntry e s = badWithin e (length s)
 
 -- Rule 3.3: a good entry reads as its body where that is there, and as NULL in the other states
 unfoldable pub readEntry : Entry → List ℕ → EntryRead

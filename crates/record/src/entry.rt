@@ -5,7 +5,7 @@ use crate::record::Value;
 use crate::record::body_length;
 use crate::record::decode_serial_type;
 ghost use mathlib.Core.Path.{_≡_};
-ghost use Rattle.record.specs.Entry.{badEntry, readEntry, refusalOf, entryRefusal, entryBytes};
+ghost use Rattle.record.specs.Entry.{badWithin, badEntry, readEntry, refusalOf, entryRefusal, entryBytes};
 
 // What a state says of its entry: the body is there,
 pub const BODY: u64 = 0;
@@ -58,6 +58,13 @@ impl Entry {
     pub fn is_bad(self, bytes: &[u8]) -> bool
         ensures { λ r. ⌜ r ≡ badEntry self (now (bytes .entry)) ⌝ }
     {
+        self.is_bad_within(bytes.len())
+    }
+
+    // The same of a slice of so many bytes.
+    pub fn is_bad_within(self, all: usize) -> bool
+        ensures { λ r. ⌜ r ≡ badWithin self all ⌝ }
+    {
         if self.state > UNUSED {
             return true;
         }
@@ -71,10 +78,10 @@ impl Entry {
             return true;
         }
         let start = self.start as usize;
-        if bytes.len() < start {
+        if all < start {
             return true;
         }
-        bytes.len() - start < n
+        all - start < n
     }
 
     // The bytes of a text or a blob, where they lie in the slice.

@@ -1,4 +1,4 @@
--- `Entry::is_bad` meets its contract: each way out is a law of entries.
+-- `Entry::is_bad_within` meets its contract: each way out is a law of entries.
 -- Assumes nothing.
 use Prim.Native.Nat.{ℕ, _+_, _-_, _≤_}
 use mathlib.Core.Path.{_≡_, sym, ap, _∙_}
@@ -10,8 +10,8 @@ use Rattle.record.specs.Value.{bodyLength}
 use Rattle.record.specs.declared.record.Length.the-variants.{Bytes}
 use Rattle.record.proofs.Laws.{bad-state, bad-body, bad-by-place, good-bodiless}
 use Rattle.record.proofs.Numbers.{by-order}
-use Rattle.record.proofs.entry.Entry.is_bad.Statement.{statement}
-use Rattle.record.proofs.entry.Entry.is_bad.Tie as tie
+use Rattle.record.proofs.entry.Entry.is_bad_within.Statement.{statement}
+use Rattle.record.proofs.entry.Entry.is_bad_within.Tie as tie
 
 -- the test by what is left behind the start
 same-side : (all start n len : ℕ) → start ≤ all → n ≡ len → ltb (all - start) n ≡ ltb all (start + len)
@@ -42,7 +42,7 @@ returns-3 c =
 
 -- the length that the type has
 its : (c : tie.After-known-told) →
-    bodyLength (c .before .before .before .before .before .before .before .before .before .args .self .kind) ≡ Bytes (c .before .n .given .0 .0)
+    bodyLength (c .before .before .before .before .before .before .before .before .args .self .kind) ≡ Bytes (c .before .n .given .0 .0)
 its c = sym (c .before .before .before .body-length .ensures) ∙ c .before .n .given .1
 
 returns-4 : tie.Need-returns-4
@@ -53,17 +53,14 @@ returns-4 c =
 returns-5 : tie.Need-returns-5
 returns-5 c = sym (bad-body _ _ (omega arith) (λ n l q. omega arith))
 
-sub-result : tie.Need-sub-result
-sub-result c = search needs
-
 returns-6 : tie.Need-returns-6
 returns-6 c =
     let k = c .before .before .before in
-    let like : k .before .n .given .0 .0 ≡ k .before .before .before .before .before .before .before .before .before .args .self .len = omega arith in
+    let like : k .before .n .given .0 .0 ≡ k .before .before .before .before .before .before .before .before .args .self .len = omega arith in
     same-side _ _ _ _ (omega arith) like ∙ sym (bad-by-place _ _ (omega arith) (its k ∙ ap Bytes like))
 
-pub is-bad-spec : {M : Type 1} → statement M
-is-bad-spec =
+pub is-bad-within-spec : {M : Type 1} → statement M
+is-bad-within-spec =
     tie.close
     (tie.spec
     returns
@@ -74,5 +71,4 @@ is-bad-spec =
     returns-3
     returns-4
     returns-5
-    sub-result
     returns-6)

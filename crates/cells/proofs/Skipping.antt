@@ -153,7 +153,7 @@ rows-fit rows cols width zero h = omega arith
 rows-fit rows cols width (suc m) h = omega (arith, room-rows rows cols width m h)
 
 -- THE LAW: where the cells are carved, their rows stand behind those that were there
-pub cells-stand : (spot : Spot) (columns o : ℕ) (cs : List CellRow) (width room n : ℕ) (rows cols : List ℕ) (cells : ℕ) (rows′ cols′ : List ℕ) → room ≡ roomOf (length rows) (length cols) width
+pub cells-stand : (spot : Spot) (columns o : ℕ) (cs : List CellRow) (width room n : ℕ) (rows cols : List ℕ) (cells : ℕ) (rows′ cols′ : List ℕ) → room ≤ roomOf (length rows) (length cols) width
     → Carves width room n (cellHits spot columns o cs) false rows cols (on cells) rows′ cols′ → Standing spot o rows′ cells n (startsOf cs)
 cells-stand spot columns o cs width room n rows cols cells rows′ cols′ is x =
     let t = told-on room n (length (cellHits spot columns o cs)) cells false (x .answer) in

@@ -18,7 +18,7 @@ use Rattle.hit.specs.declared.inner.Head.{Head}
 use Rattle.hit.specs.declared.inner.Lent.{Lent}
 use Rattle.hit.specs.declared.inner.Spot.{Spot}
 use Rattle.sheet.proofs.Laws.{sets-append, columns-words-length, room-rows, room-cols}
-use Rattle.sheet.specs.Columns.{unusedWords}
+use Rattle.sheet.specs.Columns.{unusedWords, roomOf}
 use Rattle.sheet.specs.Limits.{wordsPerRow, wordsPerEntry, largestRegion}
 use Rattle.sheet.specs.Sheet.{rowsWords, columnsWords}
 use Rattle.sheet.specs.declared.row.Row.{Row}
@@ -67,7 +67,7 @@ there-length s h row columns l = columns-at-length (h .by + (h .o + h .head)) (k
 -- ---- room
 pub space-fits : (columns : ℕ) (lent : Lent) (n rows cols : ℕ) → Space columns lent n rows cols → n < lent .room → Fitting columns (lent .width) n rows cols
 space-fits columns lent n rows cols s h =
-    let below = rw (s .room-is) at h in
+    let below : n < roomOf rows cols (lent .width) = omega (arith, s .room-most) in
     record {
       narrow = s .narrow;
       row = room-rows rows cols (lent .width) n below;
@@ -90,7 +90,7 @@ module _ (columns : ℕ) (lent : Lent) (n : ℕ) (hs : List Hit) (rows cols : Li
       let t = told-on (lent .room) n (length hs) k false (x .answer) in
       record {
         narrow = s .narrow;
-        room-is = rw (carves-long (lent .width) (lent .room) n hs false rows cols (on k) rows′ cols′ x, carves-wide (lent .width) (lent .room) n hs false rows cols (on k) rows′ cols′ x) (s .room-is);
+        room-most = rw (carves-long (lent .width) (lent .room) n hs false rows cols (on k) rows′ cols′ x, carves-wide (lent .width) (lent .room) n hs false rows cols (on k) rows′ cols′ x) (s .room-most);
         fits = omega (arith, t .0, t .1);
       }
 

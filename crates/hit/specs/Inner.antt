@@ -34,10 +34,10 @@ pub record Fitting (columns width n rows cols : ℕ) : Type 0 where
   pub row : n * wordsPerRow + wordsPerRow ≤ rows
   pub group : n * (wordsPerEntry * width) + wordsPerEntry * width ≤ cols
 
--- lists of so many words, in which n rows stand
+-- lists of so many words, in which n rows stand; there may be less room than they have, if other lists are filled beside them
 pub record Space (columns : ℕ) (lent : Lent) (n rows cols : ℕ) : Type 0 where
   pub narrow : columns ≤ lent .width
-  pub room-is : lent .room ≡ roomOf rows cols (lent .width)
+  pub room-most : lent .room ≤ roomOf rows cols (lent .width)
   pub fits : n ≤ lent .room
 
 -- a page of so many bytes is carved into such lists

@@ -32,7 +32,7 @@ carve-rebuilt-requires : tie.Need-carve-rebuilt-requires
 carve-rebuilt-requires c κs =
     let s = c .before .before .before .before .before .before .before .before .before .before .before .before .before .before .before .before in
     let x = rw (c .before .before .before .cells .given .1) at (c .before .before .before .before .before .before .before .before .before .carve-cells .ensures) in
-    (s .pre .0, (ready-next _ _ _ _ _ _ _ _ _ x _ _ (s .pre .1), cells-stand (s .args .spot) (length (now (s .args .hints))) (s .args .o) (cellsOf (now (s .args .payload)) (now (s .args .hints))) _ _ _ _ _ _ _ _ (s .pre .1 .space .room-is) x))
+    (s .pre .0, (ready-next _ _ _ _ _ _ _ _ _ x _ _ (s .pre .1), cells-stand (s .args .spot) (length (now (s .args .hints))) (s .args .o) (cellsOf (now (s .args .payload)) (now (s .args .hints))) _ _ _ _ _ _ _ _ (s .pre .1 .space .room-most) x))
 
 same-length-3 : tie.Need-same-length-3
 same-length-3 c = search needs

@@ -119,7 +119,7 @@ carve-table-requires c κs =
             space =
                 record {
                   narrow = rw w (k .2);
-                  room-is = turn .before .before .room .ensures;
+                  room-most = omega (arith, turn .before .before .room .ensures);
                   fits = tables-room _ _ _ _ _ _ _ _ _ _ _ _ _ _ _ _ (i .0);
                 };
           }),

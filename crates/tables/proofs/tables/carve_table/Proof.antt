@@ -98,7 +98,7 @@ ready c =
       some = p .some;
       few = p .few;
       narrow = p .narrow;
-      space = record { narrow = p .space .narrow; room-is = p .space .room-is; fits = leaves-fit _ _ _ _ _ _ _ _ _ _ _ _ _ _ _ _ _ (i .0) };
+      space = record { narrow = p .space .narrow; room-most = p .space .room-most; fits = leaves-fit _ _ _ _ _ _ _ _ _ _ _ _ _ _ _ _ _ (i .0) };
     })
 
 carve-leaf-requires : tie.Need-carve-leaf-requires Inv-loop μ-loop

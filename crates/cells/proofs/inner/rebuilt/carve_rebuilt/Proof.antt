@@ -49,7 +49,7 @@ next-start-requires : tie.Need-next-start-requires Inv-loop μ-loop
 next-start-requires c κs =
     let r = ready c in
     let i = c .before .loop .inv in
-    ((omega (arith, r .inside), r .some, c .before .before .before .before .before .before .before .before .pre .0), ((i .1, omega (arith, i .0)), rows-fit _ (length (c .before .loop .cols)) _ _ (rw (r .space .room-is) at (le-trans (i .2 .behind) (r .space .fits)))))
+    ((omega (arith, r .inside), r .some, c .before .before .before .before .before .before .before .before .pre .0), ((i .1, omega (arith, i .0)), rows-fit _ (length (c .before .loop .cols)) _ _ (le-trans (le-trans (i .2 .behind) (r .space .fits)) (r .space .room-most))))
 
 same-length : tie.Need-same-length Inv-loop μ-loop
 same-length c = along-long _ _ _ _ _ _ _ _ _ (c .before .before .before .loop .inv .2 .along) .0

@@ -25,7 +25,7 @@ add-is-cell c = search needs
 is-cell-requires : tie.Need-is-cell-requires
 is-cell-requires c κs =
     let s = c .before .before .before .before .before .before in
-    rows-fit _ (length (now (s .args .cols))) (s .args .lent .width) _ (rw (s .pre .1 .space .room-is) at (le-trans (s .pre .0 .1) (s .pre .1 .space .fits)))
+    rows-fit _ (length (now (s .args .cols))) (s .args .lent .width) _ (le-trans (le-trans (s .pre .0 .1) (s .pre .1 .space .fits)) (s .pre .1 .space .room-most))
 
 -- the next row is that of a cell
 passed : (c : tie.Then1) → let a = c .before .before .before .before .before .before .before .before .args in isCell (now (a .rows)) (a .k) (a .cells) (a .spot .base + (a .o + a .v)) ≡ true

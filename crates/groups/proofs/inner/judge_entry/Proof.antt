@@ -20,7 +20,7 @@ is-bad-requires : tie.Need-is-bad-requires
 is-bad-requires c κs = search needs
 
 returns : tie.Need-returns
-returns c = rw (refused-bad _ _ ∙ sym (c .before .is-bad .ensures) ∙ c .if1 .taken)
+returns c = let a = c .before .before .before .args in rw (refused-bad (now (a .bytes)) (a .e) ∙ sym (c .before .is-bad .ensures) ∙ c .if1 .taken)
 
 returns-2 : tie.Need-returns-2
 returns-2 c = simp (good (c .before .before), le-ltb _ _ (c .if2 .taken))

@@ -18,8 +18,24 @@ use cases::lists::fill_words;
 use cases::lists::word_space;
 use streams::Output;
 
-// The call by its number. Rows are the first list of words, or, where a call walks, the second.
-fn carve(
+// The call by its number, on a region, a block or a page;
+fn carve(said: Output, case: &[u8], rows: &mut [u64], cols: &mut [u64]) -> Output {
+    match call(case) {
+        7 => regions::try_parse_record(said, case, rows, cols),
+        8 => regions::scan_region(said, case, rows, cols),
+        14 => spaces::recover_page_freeblocks(said, case, rows, cols),
+        15 => spaces::recover_slice_freeblocks(said, case, rows, cols),
+        17 => spaces::scan_page_gap(said, case, rows, cols),
+        18 => spaces::scan_single_page_gap(said, case, rows, cols),
+        19 => spaces::parse_cells_from_freeblock(said, case, rows, cols),
+        20 => regions::carve_freeblock(said, case, rows, cols),
+        22 => regions::carve_unallocated(said, case, rows, cols),
+        _ => said.say(b"there is no such call here"),
+    }
+}
+
+// and on tables. Where a call walks, the first list of words is its stack.
+fn carve_any(
     said: Output,
     case: &[u8],
     flags: &mut [u8],
@@ -28,18 +44,9 @@ fn carve(
     third: &mut [u64],
 ) -> Output {
     match call(case) {
-        7 => regions::try_parse_record(said, case, first, second),
-        8 => regions::scan_region(said, case, first, second),
         13 => tables::recover_freeblocks(said, case, flags, first, second, third),
-        14 => spaces::recover_page_freeblocks(said, case, first, second),
-        15 => spaces::recover_slice_freeblocks(said, case, first, second),
         16 => tables::scan_page_gaps(said, case, flags, first, second, third),
-        17 => spaces::scan_page_gap(said, case, first, second),
-        18 => spaces::scan_single_page_gap(said, case, first, second),
-        19 => spaces::parse_cells_from_freeblock(said, case, first, second),
-        20 => regions::carve_freeblock(said, case, first, second),
-        22 => regions::carve_unallocated(said, case, first, second),
-        _ => said.say(b"there is no such call here"),
+        _ => carve(said, case, first, second),
     }
 }
 
@@ -60,7 +67,7 @@ fn say_case(
     let one = fill_words(first, case, 1);
     let two = fill_words(second, case, 2);
     let three = fill_words(third, case, 3);
-    let said = carve(
+    let said = carve_any(
         said,
         case,
         &mut flags[..some],

@@ -1,7 +1,7 @@
 // Says what the calls answer that write rows, a line a case: `carved FILE`. oracle/README.md has the format of cases and lines.
 mod regions;
 mod spaces;
-mod tables;
+mod walks;
 
 use cases::case::call;
 use cases::files::MOST_CASES;
@@ -44,8 +44,8 @@ fn carve_any(
     third: &mut [u64],
 ) -> Output {
     match call(case) {
-        13 => tables::recover_freeblocks(said, case, flags, first, second, third),
-        16 => tables::scan_page_gaps(said, case, flags, first, second, third),
+        13 => walks::recover_freeblocks(said, case, flags, first, second, third),
+        16 => walks::scan_page_gaps(said, case, flags, first, second, third),
         _ => carve(said, case, first, second),
     }
 }

@@ -8,7 +8,7 @@ use rebuild::ways::named;
 use rebuild::ways::unnamed;
 use sheet::hint::hint_count_fits;
 use tables::gaps::scan_page_gaps;
-use walk::inner::tables::counts_fit;
+use walk::inner::checks::counts_fit;
 ghost use mathlib.Core.Path.{_≡_};
 ghost use mathlib.Core.List.{[], _∷_};
 ghost use lib.ListN.{length};

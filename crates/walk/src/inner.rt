@@ -1,5 +1,5 @@
 // Steps of the walk in lent memory, for our own crates: a stack of page numbers, and a flag for each page. Carvers carve between two steps.
-pub mod tables;
+pub mod checks;
 
 use page::inner::cell_count;
 use page::inner::child;

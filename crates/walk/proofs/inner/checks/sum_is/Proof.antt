@@ -1,12 +1,12 @@
--- `walk::inner::tables::sum_is` meets its contract. The loop's invariant: what is left of the total, and the counts that are left (`Left`).
+-- `walk::inner::checks::sum_is` meets its contract. The loop's invariant: what is left of the total, and the counts that are left (`Left`).
 -- Assumes nothing.
 use Prim.Native.Nat.{_-_, _≤_}
 use native.Mathlib.Omega.{arith}
 use borrow.Author.Needs.{needs}
 use lib.ListN.{length}
 use Rattle.walk.proofs.Summing.{Left, left-more, left-short, left-all}
-use Rattle.walk.proofs.inner.tables.sum_is.Statement.{statement}
-use Rattle.walk.proofs.inner.tables.sum_is.Tie as tie
+use Rattle.walk.proofs.inner.checks.sum_is.Statement.{statement}
+use Rattle.walk.proofs.inner.checks.sum_is.Tie as tie
 
 abbrev Inv-loop : tie.InvT-loop
 Inv-loop counts total left₀ i₀ left i = (i ≤ length counts) × Left counts total i left

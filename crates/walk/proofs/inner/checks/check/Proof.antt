@@ -1,10 +1,10 @@
--- `walk::inner::tables::check` meets its contract: each way out rewrites the checks by the tests on the way.
+-- `walk::inner::checks::check` meets its contract: each way out rewrites the checks by the tests on the way.
 -- Assumes nothing.
 use mathlib.Core.Path.{sym, _∙_}
 use borrow.Author.Needs.{needs}
 use borrow.Author.Tests.{lt-ltb, le-ltb, not-true, not-false}
-use Rattle.walk.proofs.inner.tables.check.Statement.{statement}
-use Rattle.walk.proofs.inner.tables.check.Tie as tie
+use Rattle.walk.proofs.inner.checks.check.Statement.{statement}
+use Rattle.walk.proofs.inner.checks.check.Tie as tie
 
 counts-fit-requires : tie.Need-counts-fit-requires
 counts-fit-requires c κs = search needs

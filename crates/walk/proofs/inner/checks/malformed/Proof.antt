@@ -1,10 +1,10 @@
--- `walk::inner::tables::malformed` meets its contract.
+-- `walk::inner::checks::malformed` meets its contract.
 -- Assumes nothing.
 use mathlib.Core.Path.{sym, _∙_}
 use borrow.Author.Needs.{needs}
 use borrow.Author.Tests.{eq-eqb, ne-eqb, not-true, not-false}
-use Rattle.walk.proofs.inner.tables.malformed.Statement.{statement}
-use Rattle.walk.proofs.inner.tables.malformed.Tie as tie
+use Rattle.walk.proofs.inner.checks.malformed.Statement.{statement}
+use Rattle.walk.proofs.inner.checks.malformed.Tie as tie
 
 returns : tie.Need-returns
 returns c = simp (ne-eqb _ _ (c .if1 .taken))

@@ -1,4 +1,4 @@
--- `walk::inner::tables::counts_fit` meets its contract. The loop's invariant: the counts before i fit, so the rest decides.
+-- `walk::inner::checks::counts_fit` meets its contract. The loop's invariant: the counts before i fit, so the rest decides.
 -- Assumes nothing.
 use Prim.Native.Nat.{_-_, _≤_}
 use mathlib.Core.Path.{_≡_, refl, sym, _∙_}
@@ -8,8 +8,8 @@ use borrow.Author.Tests.{not-true, not-false}
 use lib.ListN.{length, drop}
 use Rattle.walk.specs.Carve.{countsFit}
 use Rattle.walk.proofs.Summing.{fit-at, none-left}
-use Rattle.walk.proofs.inner.tables.counts_fit.Statement.{statement}
-use Rattle.walk.proofs.inner.tables.counts_fit.Tie as tie
+use Rattle.walk.proofs.inner.checks.counts_fit.Statement.{statement}
+use Rattle.walk.proofs.inner.checks.counts_fit.Tie as tie
 
 abbrev Inv-loop : tie.InvT-loop
 Inv-loop counts i₀ i = (i ≤ length counts) × (countsFit counts ≡ countsFit (drop i counts))

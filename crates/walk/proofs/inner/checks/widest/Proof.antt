@@ -1,4 +1,4 @@
--- `walk::inner::tables::widest` meets its contract. The loop's invariant: the widest is the widest so far or among the rest (`Widest`).
+-- `walk::inner::checks::widest` meets its contract. The loop's invariant: the widest is the widest so far or among the rest (`Widest`).
 -- Assumes nothing.
 use Prim.Native.Nat.{_-_, _≤_}
 use native.Mathlib.Omega.{arith}
@@ -6,8 +6,8 @@ use borrow.Author.Needs.{needs}
 use denote.Ref.{now}
 use lib.ListN.{length}
 use Rattle.walk.proofs.Summing.{Widest, widest-none, widest-more, widest-all}
-use Rattle.walk.proofs.inner.tables.widest.Statement.{statement}
-use Rattle.walk.proofs.inner.tables.widest.Tie as tie
+use Rattle.walk.proofs.inner.checks.widest.Statement.{statement}
+use Rattle.walk.proofs.inner.checks.widest.Tie as tie
 
 abbrev Inv-loop : tie.InvT-loop
 Inv-loop counts most₀ i₀ most i = (i ≤ length counts) × Widest counts i most

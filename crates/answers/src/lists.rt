@@ -13,13 +13,13 @@ use phsarodil::lists::phs_from_create_sql;
 use phsarodil::pages::phs_collect_leaf_pages;
 use streams::Output;
 
-pub fn from_create_sql(said: Output, case: &[u8], hints: &mut [u8]) -> Output {
+pub(crate) fn from_create_sql(said: Output, case: &[u8], hints: &mut [u8]) -> Output {
     let mut out = [0; 1];
     let answer = phs_from_create_sql(slice(case, 0), hints, &mut out);
     say_bytes(answered(said, answer, &[out[0]]), b"hints", hints)
 }
 
-pub fn boyer_moore_search(said: Output, case: &[u8], places: &mut [u64]) -> Output {
+pub(crate) fn boyer_moore_search(said: Output, case: &[u8], places: &mut [u64]) -> Output {
     let mut out = [0; 1];
     let answer = phs_boyer_moore_search(slice(case, 0), slice(case, 1), places, &mut out);
     say_list(
@@ -30,7 +30,7 @@ pub fn boyer_moore_search(said: Output, case: &[u8], places: &mut [u64]) -> Outp
     )
 }
 
-pub fn collect_leaf_pages(
+pub(crate) fn collect_leaf_pages(
     said: Output,
     case: &[u8],
     flags: &mut [u8],
@@ -52,7 +52,7 @@ pub fn collect_leaf_pages(
     say_list(said, b"leaves", Cells::Words, leaves)
 }
 
-pub fn learn_signatures(said: Output, case: &[u8], types: &mut [u64]) -> Output {
+pub(crate) fn learn_signatures(said: Output, case: &[u8], types: &mut [u64]) -> Output {
     let mut entries = word_list();
     let n = words(slice(case, 1), &mut entries);
     let mut out = [0; 1];

@@ -11,7 +11,12 @@ use phsarodil::rows::phs_scan_region;
 use phsarodil::rows::phs_try_parse_record;
 use streams::Output;
 
-pub fn try_parse_record(said: Output, case: &[u8], rows: &mut [u64], cols: &mut [u64]) -> Output {
+pub(crate) fn try_parse_record(
+    said: Output,
+    case: &[u8],
+    rows: &mut [u64],
+    cols: &mut [u64],
+) -> Output {
     let mut out = [0; 3];
     let answer = phs_try_parse_record(
         slice(case, 0),
@@ -29,7 +34,7 @@ pub fn try_parse_record(said: Output, case: &[u8], rows: &mut [u64], cols: &mut 
     )
 }
 
-pub fn scan_region(said: Output, case: &[u8], rows: &mut [u64], cols: &mut [u64]) -> Output {
+pub(crate) fn scan_region(said: Output, case: &[u8], rows: &mut [u64], cols: &mut [u64]) -> Output {
     let mut out = [0; 3];
     let answer = phs_scan_region(
         slice(case, 0),
@@ -47,7 +52,12 @@ pub fn scan_region(said: Output, case: &[u8], rows: &mut [u64], cols: &mut [u64]
     )
 }
 
-pub fn carve_freeblock(said: Output, case: &[u8], rows: &mut [u64], cols: &mut [u64]) -> Output {
+pub(crate) fn carve_freeblock(
+    said: Output,
+    case: &[u8],
+    rows: &mut [u64],
+    cols: &mut [u64],
+) -> Output {
     let mut out = [0; 1];
     let answer = phs_carve_freeblock(
         slice(case, 0),
@@ -60,7 +70,12 @@ pub fn carve_freeblock(said: Output, case: &[u8], rows: &mut [u64], cols: &mut [
     say_rows(answered(said, answer, &[out[0]]), rows, cols)
 }
 
-pub fn carve_unallocated(said: Output, case: &[u8], rows: &mut [u64], cols: &mut [u64]) -> Output {
+pub(crate) fn carve_unallocated(
+    said: Output,
+    case: &[u8],
+    rows: &mut [u64],
+    cols: &mut [u64],
+) -> Output {
     let mut types = word_list();
     let n = words(slice(case, 1), &mut types);
     let mut out = [0; 1];

@@ -10,7 +10,7 @@ use phsarodil::gaps::phs_scan_page_gap;
 use phsarodil::gaps::phs_scan_single_page_gap;
 use streams::Output;
 
-pub fn recover_page_freeblocks(
+pub(crate) fn recover_page_freeblocks(
     said: Output,
     case: &[u8],
     rows: &mut [u64],
@@ -29,7 +29,7 @@ pub fn recover_page_freeblocks(
     say_rows(answered(said, answer, &[out[0]]), rows, cols)
 }
 
-pub fn recover_slice_freeblocks(
+pub(crate) fn recover_slice_freeblocks(
     said: Output,
     case: &[u8],
     rows: &mut [u64],
@@ -48,7 +48,12 @@ pub fn recover_slice_freeblocks(
     say_rows(answered(said, answer, &[out[0]]), rows, cols)
 }
 
-pub fn scan_page_gap(said: Output, case: &[u8], rows: &mut [u64], cols: &mut [u64]) -> Output {
+pub(crate) fn scan_page_gap(
+    said: Output,
+    case: &[u8],
+    rows: &mut [u64],
+    cols: &mut [u64],
+) -> Output {
     let mut out = [0; 1];
     let answer = phs_scan_page_gap(
         number(case, 0),
@@ -63,7 +68,7 @@ pub fn scan_page_gap(said: Output, case: &[u8], rows: &mut [u64], cols: &mut [u6
     say_rows(answered(said, answer, &[out[0]]), rows, cols)
 }
 
-pub fn scan_single_page_gap(
+pub(crate) fn scan_single_page_gap(
     said: Output,
     case: &[u8],
     rows: &mut [u64],
@@ -83,7 +88,7 @@ pub fn scan_single_page_gap(
     say_rows(answered(said, answer, &[out[0]]), rows, cols)
 }
 
-pub fn parse_cells_from_freeblock(
+pub(crate) fn parse_cells_from_freeblock(
     said: Output,
     case: &[u8],
     rows: &mut [u64],

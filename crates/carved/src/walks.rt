@@ -19,7 +19,7 @@ fn say_walk(said: Output, flags: &[u8], stack: &[u64], rows: &[u64], cols: &[u64
     say_rows(said, rows, cols)
 }
 
-pub fn recover_freeblocks(
+pub(crate) fn recover_freeblocks(
     said: Output,
     case: &[u8],
     flags: &mut [u8],
@@ -47,7 +47,7 @@ pub fn recover_freeblocks(
     say_walk(answered(said, answer, &[out[0]]), flags, stack, rows, cols)
 }
 
-pub fn scan_page_gaps(
+pub(crate) fn scan_page_gaps(
     said: Output,
     case: &[u8],
     flags: &mut [u8],

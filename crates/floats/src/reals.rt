@@ -28,7 +28,7 @@ fn say_real(said: Output, body: &[u8; 8]) -> Output {
     said.say(b": ").say_hex(bits(x), 16).say(b"\n")
 }
 
-pub fn say_all(said: Output) -> Output {
+pub(crate) fn say_all(said: Output) -> Output {
     let said = say_real(said, &[0x3f, 0xf0, 0, 0, 0, 0, 0, 0]);
     let said = say_real(said, &[0x80, 0, 0, 0, 0, 0, 0, 0]);
     let said = say_real(said, &[0, 0, 0, 0, 0, 0, 0, 1]);

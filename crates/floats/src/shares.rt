@@ -38,7 +38,7 @@ fn say_share(said: Output, suited: u16, columns: u16) -> Output {
     say(said, b", rebuilt ", rebuilt(whole)).say(b"\n")
 }
 
-pub fn say_all(said: Output) -> Output {
+pub(crate) fn say_all(said: Output) -> Output {
     let said = say_share(said, 1, 1);
     // The largest percent, and what is cut to it.
     let said = say_share(said, 51, 20);

@@ -56,8 +56,8 @@ pub extern "C" fn phs_recover_page_freeblocks(
     cols: &mut [u64],
     out: &mut [u64; 1],
 ) -> u64
-    ensures number { λ r. ⌜ r ≡ numberedNumber (numberedAsked Freeblocks (now (db .entry)) size page (now (hints .entry)) (now (rows
-        .entry)) (now (cols .entry))) ⌝ }
+    ensures number { λ r. ⌜ r ≡ numberedNumber (numberedAsked Freeblocks (now (db .entry)) size page (now (hints .entry))
+        (now (rows .entry)) (now (cols .entry))) ⌝ }
     ensures out { λ _. ⌜ now (out .exit) ≡ numberedWritten (numberedAsked Freeblocks (now (db .entry)) size page (now (hints .entry))
         (now (rows .entry)) (now (cols .entry))) ∷ [] ⌝ }
     ensures rows { λ _. ⌜ now (rows .exit) ≡ numberedRows (numberedAsked Freeblocks (now (db .entry)) size page (now (hints .entry)) (now

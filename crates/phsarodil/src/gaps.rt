@@ -85,18 +85,18 @@ pub extern "C" fn phs_scan_page_gap(
     cols: &mut [u64],
     out: &mut [u64; 1],
 ) -> u64
-    ensures number { λ r. ⌜ r ≡ byName (wayNamed rebuilding)
-        (λ how. numberedNumber (numberedAsked (Gaps how) (now (db .entry)) size page (now (hints .entry)) (now (rows .entry)) (now (cols
-        .entry)))) (unnamedNumber (countFits (length (now (hints .entry))))) ⌝ }
+    ensures number { λ r. ⌜ r ≡ byName (wayNamed rebuilding) (λ how. numberedNumber
+        (numberedAsked (Gaps how) (now (db .entry)) size page (now (hints .entry)) (now (rows .entry)) (now (cols .entry))))
+        (unnamedNumber (countFits (length (now (hints .entry))))) ⌝ }
     ensures out { λ _. ⌜ now (out .exit) ≡ byName (wayNamed rebuilding)
-        (λ how. numberedWritten (numberedAsked (Gaps how) (now (db .entry)) size page (now (hints .entry)) (now (rows .entry)) (now (cols
-        .entry)))) 0 ∷ [] ⌝ }
+        (λ how. numberedWritten (numberedAsked (Gaps how) (now (db .entry)) size page (now (hints .entry)) (now (rows .entry))
+        (now (cols .entry)))) 0 ∷ [] ⌝ }
     ensures rows { λ _. ⌜ now (rows .exit) ≡ byName (wayNamed rebuilding)
-        (λ how. numberedRows (numberedAsked (Gaps how) (now (db .entry)) size page (now (hints .entry)) (now (rows .entry)) (now (cols
-        .entry)))) (now (rows .entry)) ⌝ }
+        (λ how. numberedRows (numberedAsked (Gaps how) (now (db .entry)) size page (now (hints .entry)) (now (rows .entry))
+        (now (cols .entry)))) (now (rows .entry)) ⌝ }
     ensures cols { λ _. ⌜ now (cols .exit) ≡ byName (wayNamed rebuilding)
-        (λ how. numberedCols (numberedAsked (Gaps how) (now (db .entry)) size page (now (hints .entry)) (now (rows .entry)) (now (cols
-        .entry)))) (now (cols .entry)) ⌝ }
+        (λ how. numberedCols (numberedAsked (Gaps how) (now (db .entry)) size page (now (hints .entry)) (now (rows .entry))
+        (now (cols .entry)))) (now (cols .entry)) ⌝ }
 {
     let Way::By(how) = named(rebuilding) else {
         *out = [0];
@@ -118,18 +118,18 @@ pub extern "C" fn phs_scan_single_page_gap(
     cols: &mut [u64],
     out: &mut [u64; 1],
 ) -> u64
-    ensures number { λ r. ⌜ r ≡ byName (wayNamed rebuilding)
-        (λ how. sliceNumber (sliceAsked (Gaps how) (now (page .entry)) head base (now (hints .entry)) (now (rows .entry)) (now (cols
-        .entry)))) (unnamedNumber (countFits (length (now (hints .entry))))) ⌝ }
+    ensures number { λ r. ⌜ r ≡ byName (wayNamed rebuilding) (λ how. sliceNumber
+        (sliceAsked (Gaps how) (now (page .entry)) head base (now (hints .entry)) (now (rows .entry)) (now (cols .entry))))
+        (unnamedNumber (countFits (length (now (hints .entry))))) ⌝ }
     ensures out { λ _. ⌜ now (out .exit) ≡ byName (wayNamed rebuilding)
-        (λ how. sliceWritten (sliceAsked (Gaps how) (now (page .entry)) head base (now (hints .entry)) (now (rows .entry)) (now (cols
-        .entry)))) 0 ∷ [] ⌝ }
+        (λ how. sliceWritten (sliceAsked (Gaps how) (now (page .entry)) head base (now (hints .entry)) (now (rows .entry))
+        (now (cols .entry)))) 0 ∷ [] ⌝ }
     ensures rows { λ _. ⌜ now (rows .exit) ≡ byName (wayNamed rebuilding)
-        (λ how. sliceRows (sliceAsked (Gaps how) (now (page .entry)) head base (now (hints .entry)) (now (rows .entry)) (now (cols
-        .entry)))) (now (rows .entry)) ⌝ }
+        (λ how. sliceRows (sliceAsked (Gaps how) (now (page .entry)) head base (now (hints .entry)) (now (rows .entry))
+        (now (cols .entry)))) (now (rows .entry)) ⌝ }
     ensures cols { λ _. ⌜ now (cols .exit) ≡ byName (wayNamed rebuilding)
-        (λ how. sliceCols (sliceAsked (Gaps how) (now (page .entry)) head base (now (hints .entry)) (now (rows .entry)) (now (cols
-        .entry)))) (now (cols .entry)) ⌝ }
+        (λ how. sliceCols (sliceAsked (Gaps how) (now (page .entry)) head base (now (hints .entry)) (now (rows .entry))
+        (now (cols .entry)))) (now (cols .entry)) ⌝ }
 {
     let Way::By(how) = named(rebuilding) else {
         *out = [0];
@@ -150,18 +150,18 @@ pub extern "C" fn phs_parse_cells_from_freeblock(
     cols: &mut [u64],
     out: &mut [u64; 1],
 ) -> u64
-    ensures number { λ r. ⌜ r ≡ byName (wayNamed rebuilding)
-        (λ how. sliceNumber (sliceAsked (Payload how) (now (payload .entry)) 0 base (now (hints .entry)) (now (rows .entry)) (now (cols
-        .entry)))) (unnamedNumber (countFits (length (now (hints .entry))))) ⌝ }
+    ensures number { λ r. ⌜ r ≡ byName (wayNamed rebuilding) (λ how. sliceNumber
+        (sliceAsked (Payload how) (now (payload .entry)) 0 base (now (hints .entry)) (now (rows .entry)) (now (cols .entry))))
+        (unnamedNumber (countFits (length (now (hints .entry))))) ⌝ }
     ensures out { λ _. ⌜ now (out .exit) ≡ byName (wayNamed rebuilding)
-        (λ how. sliceWritten (sliceAsked (Payload how) (now (payload .entry)) 0 base (now (hints .entry)) (now (rows .entry)) (now (cols
-        .entry)))) 0 ∷ [] ⌝ }
+        (λ how. sliceWritten (sliceAsked (Payload how) (now (payload .entry)) 0 base (now (hints .entry)) (now (rows .entry))
+        (now (cols .entry)))) 0 ∷ [] ⌝ }
     ensures rows { λ _. ⌜ now (rows .exit) ≡ byName (wayNamed rebuilding)
-        (λ how. sliceRows (sliceAsked (Payload how) (now (payload .entry)) 0 base (now (hints .entry)) (now (rows .entry)) (now (cols
-        .entry)))) (now (rows .entry)) ⌝ }
+        (λ how. sliceRows (sliceAsked (Payload how) (now (payload .entry)) 0 base (now (hints .entry)) (now (rows .entry))
+        (now (cols .entry)))) (now (rows .entry)) ⌝ }
     ensures cols { λ _. ⌜ now (cols .exit) ≡ byName (wayNamed rebuilding)
-        (λ how. sliceCols (sliceAsked (Payload how) (now (payload .entry)) 0 base (now (hints .entry)) (now (rows .entry)) (now (cols
-        .entry)))) (now (cols .entry)) ⌝ }
+        (λ how. sliceCols (sliceAsked (Payload how) (now (payload .entry)) 0 base (now (hints .entry)) (now (rows .entry))
+        (now (cols .entry)))) (now (cols .entry)) ⌝ }
 {
     let Way::By(how) = named(rebuilding) else {
         *out = [0];

@@ -64,8 +64,9 @@ fn carve_payload(
     cols: &mut [u64],
 ) -> Carved
     requires { ⌜ Ready (o + length (now payload)) (length (now hints)) spot lent n (length (now rows)) (length (now cols)) ⌝ }
-    ensures { λ r. ⌜ Carves (lent .width) (lent .room) n (firstHits spot (length (now (hints .entry))) o (firstStart (now (payload
-        .entry)) (now (hints .entry)))) false (now (rows .entry)) (now (cols .entry)) (carvedAs r) (now (rows .exit)) (now (cols .exit)) ⌝ }
+    ensures { λ r. ⌜ Carves (lent .width) (lent .room) n (firstHits spot (length (now (hints .entry))) o
+        (firstStart (now (payload .entry)) (now (hints .entry)))) false (now (rows .entry)) (now (cols .entry)) (carvedAs r)
+        (now (rows .exit)) (now (cols .exit)) ⌝ }
 {
     let Start::At { v, find } = first_start(payload, hints) else {
         return Carved::On(n);

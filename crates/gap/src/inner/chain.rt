@@ -98,8 +98,9 @@ pub fn carve_blocks(
     requires { ⌜ head + 8 ≤ length (now page) ⌝ }
     requires { ⌜ length (now hints) ≤ mostBy how ⌝ }
     requires { ⌜ Ready (length (now page)) (length (now hints)) spot lent n (length (now rows)) (length (now cols)) ⌝ }
-    ensures { λ r. ⌜ Carves (lent .width) (lent .room) n (blocksHits how (now (page .entry)) (now (hints .entry)) spot (chain (now (page
-        .entry)) head)) false (now (rows .entry)) (now (cols .entry)) (carvedAs r) (now (rows .exit)) (now (cols .exit)) ⌝ }
+    ensures { λ r. ⌜ Carves (lent .width) (lent .room) n (blocksHits how (now (page .entry)) (now (hints .entry)) spot
+        (chain (now (page .entry)) head)) false (now (rows .entry)) (now (cols .entry)) (carvedAs r) (now (rows .exit))
+        (now (cols .exit)) ⌝ }
 {
     let mut at = first_freeblock(page, head);
     let mut left = MOST_STEPS;

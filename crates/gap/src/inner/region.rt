@@ -61,8 +61,9 @@ fn add_row(
 ) -> Carved
     requires { ⌜ HitIs (now bytes) (now hints) o (attemptAt (now bytes) (now hints) o) (attemptPlaces (now bytes) o) find ⌝ }
     requires { ⌜ Ready (from + length (now bytes)) (length (now hints)) spot lent n (length (now rows)) (length (now cols)) ⌝ }
-    ensures { λ r. ⌜ Carves (lent .width) (lent .room) n (regionHit spot (length (now (hints .entry))) from o (foundAt (now (bytes
-        .entry)) o find) ∷ []) false (now (rows .entry)) (now (cols .entry)) (carvedAs r) (now (rows .exit)) (now (cols .exit)) ⌝ }
+    ensures { λ r. ⌜ Carves (lent .width) (lent .room) n (regionHit spot (length (now (hints .entry))) from o
+        (foundAt (now (bytes .entry)) o find) ∷ []) false (now (rows .entry)) (now (cols .entry)) (carvedAs r) (now (rows .exit))
+        (now (cols .exit)) ⌝ }
 {
     let columns = hints.len();
     let confidence = suited_share(find.matched, columns as u16);

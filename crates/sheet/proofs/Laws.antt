@@ -19,7 +19,7 @@ use Rattle.sheet.specs.Limits.{mostColumns, wordsPerRow, wordsPerEntry, 
 use Rattle.sheet.specs.Refusal.{refusalNumber, Check, firstHeld, after}
 use Rattle.sheet.specs.Row.{rowWords}
 use Rattle.sheet.specs.Sheet.{overlay, rowsWords, columnsWords}
-use Rattle.sheet.specs.Slice.{sliceChecks}
+use Rattle.sheet.specs.Slice.{sliceChecks, countedChecks}
 use Rattle.sheet.specs.declared.columns.Column.{Column}
 use Rattle.sheet.specs.declared.columns.Column.the-variants.{Body, Unfit, Lost, Unused}
 use Rattle.sheet.specs.declared.filled.Filled.{Filled}
@@ -90,6 +90,12 @@ slice-fits len hints base e =
     let n = none-holds (sliceChecks len hints base) e in
     let k = count-fits (length hints) (not-false _ (n .0)) in
     record { small = ltb-false largestRegion len (n .1 .1 .0); some = k .0; few = k .1; near = ltb-false largestBase base (n .1 .1 .1 .0) }
+
+pub counted-fits : (len columns base : ℕ) → firstHeld (countedChecks len columns base) ≡ Passed → SliceFits len columns base
+counted-fits len columns base e =
+    let n = none-holds (countedChecks len columns base) e in
+    let k = count-fits columns (not-false _ (n .0)) in
+    record { small = ltb-false largestRegion len (n .1 .0); some = k .0; few = k .1; near = ltb-false largestBase base (n .1 .1 .0) }
 
 -- THE LAW: of known hints each is at most 5
 pub hints-known : (hs : List ℕ) → hintsKnown hs ≡ true → (i : ℕ) → getD hs i 0 ≤ highestHint

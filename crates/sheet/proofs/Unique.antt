@@ -14,6 +14,7 @@ use Rattle.sheet.proofs.hint.hint_count_fits.Reads as hint-count-fits
 use Rattle.sheet.proofs.hint.hints_known.Reads as hints-known
 use Rattle.sheet.proofs.refusal.number.Reads as number
 use Rattle.sheet.proofs.row.words.Reads as row-words
+use Rattle.sheet.proofs.slice.check_counted.Reads as check-counted
 use Rattle.sheet.proofs.slice.check_slice.Reads as check-slice
 
 pub number-fixed : Fixes number.Post
@@ -54,3 +55,6 @@ percent-fixed k a x y s t p q = p ∙ sym q
 
 pub check-slice-fixed : Fixes check-slice.Post
 check-slice-fixed k a x y s t p q = p ∙ sym q
+
+pub check-counted-fixed : Fixes check-counted.Post
+check-counted-fixed k a x y s t p q = p ∙ sym q

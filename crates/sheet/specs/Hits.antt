@@ -1,10 +1,11 @@
--- Rows that were found, with their columns, as words of lent lists; and a call that fills two lists with them, whatever its checks.
+-- Rows that were found, with their columns, as words of lent lists; and what a call promises that fills two lists with them.
 -- Assumes nothing.
 use Prim.Native.Nat.{ℕ, _-_}
+use mathlib.Core.Path.{_≡_}
 use mathlib.Core.List.{List, [], _∷_, _++_}
 use lib.ListN.{length, take}
 use Rattle.sheet.specs.Columns.{unusedWords, roomOf}
-use Rattle.sheet.specs.Filled.{filledBy, numberAfter, writtenAfter}
+use Rattle.sheet.specs.Filled.{filledNumber, filledWritten, filledBy, numberAfter, writtenAfter}
 use Rattle.sheet.specs.Refusal.{after, afterOrKept}
 use Rattle.sheet.specs.Sheet.{overlay, rowsWords, columnsWords}
 use Rattle.sheet.specs.declared.columns.Column.{Column}
@@ -32,20 +33,49 @@ abbrev pub groupsWords : ℕ → List Hit → List ℕ
 groupsWords width [] = []
 groupsWords width (h ∷ hs) = groupWords width h ++ groupsWords width hs
 
--- ---- a call on one page: its checks came to c, and a group is as wide as the hints are many
-abbrev pub pageAnswerOf : Checked → List Hit → ℕ → ℕ → ℕ → Filled
-pageAnswerOf c hits width rows cols = after Barred c (filledBy (length hits) (roomOf rows cols width))
+-- ---- a call that fills two lists with rows and their columns, whatever it carves
 
-abbrev pub pageRowsOf : Checked → List Hit → ℕ → List ℕ → List ℕ → List ℕ
-pageRowsOf c hits width rows cols =
-    afterOrKept c (overlay (rowsWords (rowsOf (take (roomOf (length rows) (length cols) width) hits))) rows) rows
+-- what its answer rests on: what its checks come to, the rows that are there, how many entries a group has, and what the lists hold
+pub record RowFilling : Type 0 where
+  pub checked : Checked
+  pub hits : List Hit
+  pub width : ℕ
+  pub rows : List ℕ
+  pub cols : List ℕ
 
-abbrev pub pageColsOf : Checked → List Hit → ℕ → List ℕ → List ℕ → List ℕ
-pageColsOf c hits width rows cols =
-    afterOrKept c (overlay (groupsWords width (take (roomOf (length rows) (length cols) width) hits)) cols) cols
+abbrev pub rowRoom : RowFilling → ℕ
+rowRoom a = roomOf (length (a .rows)) (length (a .cols)) (a .width)
 
-abbrev pub pageNumberOf : Checked → List Hit → ℕ → ℕ → ℕ → ℕ
-pageNumberOf c hits width rows cols = numberAfter c (length hits) (roomOf rows cols width)
+-- Rule 1.1: what it answers, the number of that, and how many rows it says are written
+unfoldable pub rowsAnswer : RowFilling → Filled
+rowsAnswer a = after Barred (a .checked) (filledBy (length (a .hits)) (rowRoom a))
 
-abbrev pub pageWrittenOf : Checked → List Hit → ℕ → ℕ → ℕ → ℕ
-pageWrittenOf c hits width rows cols = writtenAfter c (length hits) (roomOf rows cols width)
+unfoldable pub rowsNumber : RowFilling → ℕ
+rowsNumber a = numberAfter (a .checked) (length (a .hits)) (rowRoom a)
+
+unfoldable pub rowsWritten : RowFilling → ℕ
+rowsWritten a = writtenAfter (a .checked) (length (a .hits)) (rowRoom a)
+
+-- Rule 1.2: what it leaves in the lists: the first rows, as many as there is room for, over what they held
+unfoldable pub rowsLeft : RowFilling → List ℕ
+rowsLeft a = afterOrKept (a .checked) (overlay (rowsWords (rowsOf (take (rowRoom a) (a .hits)))) (a .rows)) (a .rows)
+
+unfoldable pub entriesLeft : RowFilling → List ℕ
+entriesLeft a = afterOrKept (a .checked) (overlay (groupsWords (a .width) (take (rowRoom a) (a .hits))) (a .cols)) (a .cols)
+
+-- what such a call comes to: its answer, and what the lists hold at exit
+pub record RowOutcome : Type 0 where
+  pub answer : Filled
+  pub rows : List ℕ
+  pub cols : List ℕ
+
+abbrev pub rowOutcome : Filled → List ℕ → List ℕ → RowOutcome
+rowOutcome r rows cols = record { answer = r; rows = rows; cols = cols }
+
+-- what it promises
+pub record FillsRows (a : RowFilling) (x : RowOutcome) : Type 0 where
+  pub answer : x .answer ≡ rowsAnswer a
+  pub number : filledNumber (x .answer) ≡ rowsNumber a
+  pub written : filledWritten (x .answer) ≡ rowsWritten a
+  pub rows : x .rows ≡ rowsLeft a
+  pub entries : x .cols ≡ entriesLeft a

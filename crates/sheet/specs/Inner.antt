@@ -7,13 +7,15 @@ use mathlib.Core.List.{List}
 use lib.Dec.{leb}
 use lib.ListN.{length, take}
 use lib.Seq.{sets}
-use Rattle.sheet.specs.Hits.{Hit, rowsOf, groupsWords, pageAnswerOf, pageRowsOf, pageColsOf}
+use Rattle.sheet.specs.Columns.{roomOf}
+use Rattle.sheet.specs.Filled.{filledBy}
+use Rattle.sheet.specs.Hits.{Hit, rowsOf, groupsWords, RowOutcome}
 use Rattle.sheet.specs.Limits.{wordsPerRow, wordsPerEntry}
-use Rattle.sheet.specs.Sheet.{rowsWords}
+use Rattle.sheet.specs.Sheet.{overlay, rowsWords}
 use Rattle.sheet.specs.declared.filled.Filled.{Filled}
+use Rattle.sheet.specs.declared.filled.Filled.the-variants.{Done, Full}
 use Rattle.sheet.specs.declared.inner.Carved.{Carved}
 use Rattle.sheet.specs.declared.inner.Carved.the-variants.{On as More, Full as NoMore}
-use Rattle.sheet.specs.declared.refusal.Checked.the-variants.{Passed}
 
 -- ---- carving: behind n rows come hits, as many as there is room for
 
@@ -42,8 +44,13 @@ pub record Carves (width room n : ℕ) (hs : List Hit) (full : Bool) (rows cols 
   pub answer : r ≡ carvedTo room n (length hs) full
   pub puts : Puts width room n hs rows cols rows′ cols′
 
--- what carving one page leaves
-pub record FilledIs (hits : List Hit) (width : ℕ) (rows cols : List ℕ) (r : Filled) (rows′ cols′ : List ℕ) : Type 0 where
-  pub answer : r ≡ pageAnswerOf Passed hits width (length rows) (length cols)
-  pub rows-are : rows′ ≡ pageRowsOf Passed hits width rows cols
-  pub cols-are : cols′ ≡ pageColsOf Passed hits width rows cols
+-- ---- a call whose checks have passed
+abbrev pub filledTo : ℕ → Carved → Filled
+filledTo most (More n) = Done n
+filledTo most NoMore = Full most
+
+-- what it leaves
+pub record FilledIs (hits : List Hit) (width : ℕ) (rows cols : List ℕ) (x : RowOutcome) : Type 0 where
+  pub answer : x .answer ≡ filledBy (length hits) (roomOf (length rows) (length cols) width)
+  pub rows-are : x .rows ≡ overlay (rowsWords (rowsOf (take (roomOf (length rows) (length cols) width) hits))) rows
+  pub cols-are : x .cols ≡ overlay (groupsWords width (take (roomOf (length rows) (length cols) width) hits)) cols

@@ -29,6 +29,18 @@ largestBase = 281474976710656
 abbrev pub mostHeader : ℕ
 mostHeader = 512
 
+-- the most bytes that a statement may have
+abbrev pub largestStatement : ℕ
+largestStatement = 65536
+
+-- the most tables that may be lent
+abbrev pub mostTables : ℕ
+mostTables = 1024
+
+-- the most rows to learn from
+abbrev pub mostRows : ℕ
+mostRows = 1024
+
 -- Rule 1.3: the hint codes
 abbrev pub integerHint : ℕ
 integerHint = 0

@@ -17,3 +17,11 @@ sliceChecks len hints base =
     ∷ record { refusal = TooLarge; holds = ltb largestRegion len }
     ∷ record { refusal = BaseTooFar; holds = ltb largestBase base }
     ∷ []
+
+-- the same where columns are only counted
+abbrev pub countedChecks : ℕ → ℕ → ℕ → List Check
+countedChecks len columns base =
+    record { refusal = ColumnCount; holds = not (countFits columns) }
+    ∷ record { refusal = TooLarge; holds = ltb largestRegion len }
+    ∷ record { refusal = BaseTooFar; holds = ltb largestBase base }
+    ∷ []

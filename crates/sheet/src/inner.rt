@@ -3,6 +3,7 @@ use crate::WORDS_PER_ENTRY;
 use crate::WORDS_PER_ROW;
 use crate::columns;
 use crate::columns::Column;
+use crate::filled::Filled;
 use crate::row;
 use crate::row::Row;
 ghost use mathlib.Core.Path.{_≡_};
@@ -10,6 +11,7 @@ ghost use Prim.Native.Nat.{_+_, _*_, _≤_};
 ghost use lib.ListN.{length};
 ghost use lib.Seq.{sets};
 ghost use Rattle.sheet.specs.Columns.{columnWords, unusedWords};
+ghost use Rattle.sheet.specs.Inner.{filledTo};
 ghost use Rattle.sheet.specs.Limits.{wordsPerRow, wordsPerEntry};
 ghost use Rattle.sheet.specs.Row.{rowWords};
 
@@ -17,6 +19,18 @@ ghost use Rattle.sheet.specs.Row.{rowWords};
 pub enum Carved {
     On(usize),
     Full,
+}
+
+impl Carved {
+    // What a call answers that had room for `most` rows.
+    pub fn filled(self, most: usize) -> Filled
+        ensures { λ r. ⌜ r ≡ filledTo most self ⌝ }
+    {
+        match self {
+            Carved::On(n) => Filled::Done(n),
+            Carved::Full => Filled::Full(most),
+        }
+    }
 }
 
 // Rows and entries go through this one loop.

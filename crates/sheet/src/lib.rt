@@ -21,4 +21,13 @@ pub const LARGEST_REGION: usize = 16_777_216;
 // 2 to the power of 48.
 pub const LARGEST_BASE: u64 = 281_474_976_710_656;
 
+// In bytes, and so is the next.
+pub const MOST_HEADER: u64 = 512;
+
+pub const LARGEST_STATEMENT: usize = 65_536;
+
+pub const MOST_TABLES: usize = 1_024;
+// To learn from.
+pub const MOST_ROWS: usize = 1_024;
+
 pub const HIGHEST_HINT: u8 = hint::ANY;

@@ -7,7 +7,7 @@ use crate::refusal::Checked;
 use crate::refusal::Refusal;
 ghost use mathlib.Core.Path.{_≡_};
 ghost use Rattle.sheet.specs.Refusal.{firstHeld};
-ghost use Rattle.sheet.specs.Slice.{sliceChecks};
+ghost use Rattle.sheet.specs.Slice.{sliceChecks, countedChecks};
 
 // In rising order of their numbers.
 pub fn check_slice(len: usize, hints: &[u8], base: u64) -> Checked
@@ -18,6 +18,22 @@ pub fn check_slice(len: usize, hints: &[u8], base: u64) -> Checked
     }
     if !hints_known(hints) {
         return Checked::Refused(Refusal::Malformed);
+    }
+    if len > LARGEST_REGION {
+        return Checked::Refused(Refusal::TooLarge);
+    }
+    if base > LARGEST_BASE {
+        return Checked::Refused(Refusal::BaseTooFar);
+    }
+    Checked::Passed
+}
+
+// The same of a call that is told how many columns there are, and no more of them.
+pub fn check_counted(len: usize, columns: usize, base: u64) -> Checked
+    ensures { λ r. ⌜ r ≡ firstHeld (countedChecks len columns base) ⌝ }
+{
+    if !hint_count_fits(columns) {
+        return Checked::Refused(Refusal::ColumnCount);
     }
     if len > LARGEST_REGION {
         return Checked::Refused(Refusal::TooLarge);

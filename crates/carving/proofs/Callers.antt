@@ -7,7 +7,7 @@ use mathlib.Core.List.{List, _∷_}
 use native.Mathlib.Omega.{arith}
 use lib.Dec.{ltb}
 use lib.ListN.{length, take, drop, length-take, length-drop}
-use Rattle.carving.specs.Calls.{widthBy, tooWide, hitsBy, leafHits, OnPage, onPage, SliceAsked, sliceChecked, sliceHits, sliceAnswer, sliceNumber, sliceWritten, sliceRows, sliceCols, SlicePromises, NumberedAsked, numberedChecks, numberedChecked, numberedHits, numberedAnswer, numberedNumber, numberedWritten, numberedRows, numberedCols, NumberedPromises}
+use Rattle.carving.specs.Calls.{widthBy, tooWide, hitsBy, leafHits, numberedChecks}
 use Rattle.carving.specs.Inner.{Filling}
 use Rattle.carving.specs.declared.inner.Carving.{Carving}
 use Rattle.page.proofs.Laws.{PagedAt}
@@ -16,12 +16,8 @@ use Rattle.sheet.proofs.Laws.{count-fits, slice-fits}
 use Rattle.sheet.specs.Limits.{countFits, hintsKnown}
 use Rattle.sheet.specs.Refusal.{Check, firstHeld}
 use Rattle.sheet.specs.Slice.{sliceChecks}
-use Rattle.sheet.specs.declared.filled.Filled.the-variants.{Refused as Barred}
 use Rattle.sheet.specs.declared.refusal.Checked.the-variants.{Passed, Refused}
-use Rattle.sheet.specs.declared.refusal.Refusal.{Refusal}
 use Rattle.sheet.specs.declared.refusal.Refusal.the-variants.{ColumnCount, Malformed}
-use Rattle.sheet.proofs.Filling.{page-refused, page-passed}
-use Rattle.sheet.specs.Inner.{FilledIs}
 
 -- ---- a table that is too wide for its way refuses, and otherwise the rest of the list decides
 module _ (how : Carving) (columns : ℕ) (rest : List Check) where
@@ -63,30 +59,3 @@ hits-are how db size p hints table start long head s l h = let e : start + long 
 
 pub part-long : (db : List ℕ) (start long : ℕ) → start + long ≤ length db → length (take (start + long - start) (drop start db)) ≡ long
 part-long db start long h = simp (length-take, length-drop) (omega arith)
-
--- ---- the two ways out: a check refused, or the page was carved
-pub slice-refused : (a : SliceAsked) (r : Refusal) → sliceChecked a ≡ Refused r → SlicePromises a (onPage (Barred r) (a .rows) (a .cols))
-unfolding sliceAnswer sliceNumber sliceWritten sliceRows sliceCols
-slice-refused a r e =
-    let p = page-refused (sliceChecked a) (sliceHits a) (length (a .hints)) (a .rows) (a .cols) r e in
-    record { answer = p .0; number = p .1 .1 .1 .0; written = p .1 .1 .1 .1; rows = p .1 .0; entries = p .1 .1 .0 }
-
-pub slice-passed : (a : SliceAsked) (x : OnPage) → sliceChecked a ≡ Passed
-    → FilledIs (sliceHits a) (length (a .hints)) (a .rows) (a .cols) (x .answer) (x .rows) (x .cols) → SlicePromises a x
-unfolding sliceAnswer sliceNumber sliceWritten sliceRows sliceCols
-slice-passed a x e f =
-    let p = page-passed (sliceChecked a) (sliceHits a) (length (a .hints)) (a .rows) (a .cols) (x .answer) (x .rows) (x .cols) e f in
-    record { answer = p .0; number = p .1 .1 .1 .0; written = p .1 .1 .1 .1; rows = p .1 .0; entries = p .1 .1 .0 }
-
-pub numbered-refused : (a : NumberedAsked) (r : Refusal) → numberedChecked a ≡ Refused r → NumberedPromises a (onPage (Barred r) (a .rows) (a .cols))
-unfolding numberedAnswer numberedNumber numberedWritten numberedRows numberedCols
-numbered-refused a r e =
-    let p = page-refused (numberedChecked a) (numberedHits a) (length (a .hints)) (a .rows) (a .cols) r e in
-    record { answer = p .0; number = p .1 .1 .1 .0; written = p .1 .1 .1 .1; rows = p .1 .0; entries = p .1 .1 .0 }
-
-pub numbered-passed : (a : NumberedAsked) (x : OnPage) → numberedChecked a ≡ Passed
-    → FilledIs (numberedHits a) (length (a .hints)) (a .rows) (a .cols) (x .answer) (x .rows) (x .cols) → NumberedPromises a x
-unfolding numberedAnswer numberedNumber numberedWritten numberedRows numberedCols
-numbered-passed a x e f =
-    let p = page-passed (numberedChecked a) (numberedHits a) (length (a .hints)) (a .rows) (a .cols) (x .answer) (x .rows) (x .cols) e f in
-    record { answer = p .0; number = p .1 .1 .1 .0; written = p .1 .1 .1 .1; rows = p .1 .0; entries = p .1 .1 .0 }

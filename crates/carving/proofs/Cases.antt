@@ -7,7 +7,7 @@ use lib.Ieee.{ofBits, ofInt, div, mul, round, toBits}
 use lib.ListN.{length, replicate}
 use Rattle.attempt.specs.Attempt.{headerFits, typesFrom, bodiesFrom, judged, attemptAt}
 use Rattle.attempt.specs.Hints.{isInteger, isReal, isText, isBlob, suits}
-use Rattle.carving.specs.Calls.{hitsBy, leafHits, sliceAsked, sliceAnswer, sliceRows, sliceCols, numberedAsked, numberedAnswer, numberedRows, numberedCols}
+use Rattle.carving.specs.Calls.{hitsBy, leafHits, sliceAsked, sliceFilling, numberedAsked, numberedFilling}
 use Rattle.carving.specs.declared.inner.Carving.{Carving}
 use Rattle.carving.specs.declared.inner.Carving.the-variants.{Freeblocks, Gaps, Payload}
 use Rattle.freeblock.proofs.Cases.{page, row, pair}
@@ -20,6 +20,7 @@ use Rattle.record.specs.Varint.{varintFrom, varintAt}
 use Rattle.sheet.specs.Columns.{columnWords, unusedWords, roomOf}
 use Rattle.sheet.specs.Confidence.{share, freedShare}
 use Rattle.sheet.specs.Filled.{filledNumber, filledWritten}
+use Rattle.sheet.specs.Hits.{RowFilling, rowsAnswer, rowsLeft, entriesLeft}
 use Rattle.sheet.specs.Limits.{countFits, hintsKnown}
 use Rattle.sheet.specs.Row.{rowWords}
 
@@ -32,6 +33,9 @@ pub record Outcome : Type 0 where
 unfoldable pub out : ℕ → ℕ → List ℕ → List ℕ → Outcome
 out n k r c = record { number = n; written = k; rows = r; cols = c }
 
+abbrev outcomeOf : RowFilling → Outcome
+outcomeOf a = out (filledNumber (rowsAnswer a)) (filledWritten (rowsAnswer a)) (rowsLeft a) (entriesLeft a)
+
 -- so many words, as they were
 unfoldable pub kept : ℕ → List ℕ
 kept words = replicate words 7
@@ -43,8 +47,7 @@ data Case : Type 0 where
 computed : Case → Outcome
 computed (slice how hints head words o) =
     let a = sliceAsked how page head 100 hints (kept words) (kept words) in
-    let answer = sliceAnswer a in
-    out (filledNumber answer) (filledWritten answer) (sliceRows a) (sliceCols a)
+    outcomeOf (sliceFilling a)
 
 expected : Case → Outcome
 expected (slice how hints head words o) = o
@@ -68,7 +71,7 @@ cases =
     ∷ []
 
 table : map computed cases ≡ map expected cases
-unfolding cases computed expected kept out page row pair sliceAnswer sliceRows sliceCols hitsBy gapPageHits pageHits freeblocks blocksFrom chainEnds blockHits firstStart firstFrom attemptAt judged bodiesFrom typesFrom headerFits suits isInteger isReal isText isBlob varintAt varintFrom bodyLength bigEndian columnWords unusedWords roomOf share freedShare countFits hintsKnown rowWords ofBits ofInt div mul round toBits
+unfolding cases computed expected kept out page row pair rowsAnswer rowsLeft entriesLeft hitsBy gapPageHits pageHits freeblocks blocksFrom chainEnds blockHits firstStart firstFrom attemptAt judged bodiesFrom typesFrom headerFits suits isInteger isReal isText isBlob varintAt varintFrom bodyLength bigEndian columnWords unusedWords roomOf share freedShare countFits hintsKnown rowWords ofBits ofInt div mul round toBits
 table = refl
 
 -- ---- a database whose second page this is
@@ -80,13 +83,12 @@ first : Carving → ℕ → Outcome
 first how columns =
     let hints : List ℕ = replicate columns 0 in
     let a = numberedAsked how db 512 1 hints (kept 8) (kept 8) in
-    let answer = numberedAnswer a in
-    out (filledNumber answer) (filledWritten answer) (numberedRows a) (numberedCols a)
+    outcomeOf (numberedFilling a)
 
 too-wide : first (Gaps OneByte) 127 ≡ out 1 0 (kept 8) (kept 8)
-unfolding first out kept db page numberedAnswer numberedRows numberedCols
+unfolding first out kept db page rowsAnswer rowsLeft entriesLeft
 too-wide = refl
 
 wide-enough : first (Gaps Exact) 127 ≡ out 0 0 (kept 8) (kept 8)
-unfolding first out kept db page numberedAnswer numberedRows numberedCols leafHits hitsBy gapPageHits gapHits hasGap chain chainFrom gapChainEnds bigEndian sizeFits hasPage roomOf countFits hintsKnown
+unfolding first out kept db page rowsAnswer rowsLeft entriesLeft leafHits hitsBy gapPageHits gapHits hasGap chain chainFrom gapChainEnds bigEndian sizeFits hasPage roomOf countFits hintsKnown
 wide-enough = refl

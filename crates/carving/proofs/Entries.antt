@@ -8,7 +8,7 @@ use native.Mathlib.Omega.{arith}
 use lib.Dec.{lit≤}
 use lib.ListN.{length, take, drop, replicate, length-append, length-take}
 use Rattle.attempt.proofs.ReadBack.{Reads}
-use Rattle.carving.specs.Values.{groupsValues}
+use Rattle.carving.specs.Values.{groupsValues, writtenValues}
 use Rattle.hit.proofs.ReadBack.{HitReads, AllRead}
 use Rattle.record.proofs.Laws.{entry-null}
 use Rattle.record.specs.Entry.{readEntry}
@@ -24,7 +24,8 @@ use Rattle.sheet.specs.Sheet.{columnsWords, entriesIn, AllWithin, overlay}
 use Rattle.sheet.specs.declared.columns.Column.{Column}
 use Rattle.sheet.specs.declared.refusal.Checked.{Checked}
 use Rattle.sheet.specs.declared.refusal.Checked.the-variants.{Passed, Refused as Held}
-use Rattle.sheet.specs.Hits.{Hit, groupsWords}
+use Rattle.sheet.specs.Filled.{filledWritten}
+use Rattle.sheet.specs.Hits.{Hit, groupsWords, RowFilling, rowRoom, RowOutcome, FillsRows, rowsWritten, entriesLeft}
 
 -- ---- columns that read as values are as many
 map-length : {A B : Type 0} (f : A → B) (xs : List A) → length (map f xs) ≡ length xs
@@ -109,8 +110,15 @@ module _ (s : List ℕ) where
       })
 
   -- THE LAW: what a call leaves that writes such rows, as many as there is room for, unless a check refuses
-  pub written-read : (width room : ℕ) (hs : List Hit) (vss : List (List Value)) (cols : List ℕ) (c : Checked) → (c ≡ Passed → AllFit width hs vss)
-      → ReadBack s (afterOr0 c (min room (length hs)) * width) (afterOrKept c (overlay (groupsWords width (take room hs)) cols) cols) (afterOrKept c (groupsValues width (take room vss)) [])
-  written-read width room hs vss cols Passed f =
-      rw (sym (length-take room hs)) (groups-read width (take room hs) (take room vss) (drop (length (groupsWords width (take room hs))) cols) (fit-taken room width hs vss (f refl)))
-  written-read width room hs vss cols (Held k) f = rw (zero-mul width) (record { reads = refl; within = tt })
+  written-read : (a : RowFilling) (vss : List (List Value)) (c : Checked) → (c ≡ Passed → AllFit (a .width) (a .hits) vss)
+      → ReadBack s (afterOr0 c (min (rowRoom a) (length (a .hits))) * a .width) (afterOrKept c (overlay (groupsWords (a .width) (take (rowRoom a) (a .hits))) (a .cols)) (a .cols)) (afterOrKept c (groupsValues (a .width) (take (rowRoom a) vss)) [])
+  written-read a vss Passed f =
+      let written = take (rowRoom a) (a .hits) in
+      rw (sym (length-take (rowRoom a) (a .hits)))
+      (groups-read (a .width) written (take (rowRoom a) vss) (drop (length (groupsWords (a .width) written)) (a .cols)) (fit-taken (rowRoom a) (a .width) (a .hits) vss (f refl)))
+  written-read a vss (Held k) f = rw (zero-mul (a .width)) (record { reads = refl; within = tt })
+
+  pub rows-read : (a : RowFilling) (vss : List (List Value)) (x : RowOutcome) → FillsRows a x → (a .checked ≡ Passed → AllFit (a .width) (a .hits) vss)
+      → ReadBack s (filledWritten (x .answer) * a .width) (x .cols) (writtenValues a vss)
+  unfolding rowsWritten entriesLeft
+  rows-read a vss x p f = rw (p .written, p .entries) (written-read a vss (a .checked) f)

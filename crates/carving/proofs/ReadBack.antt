@@ -12,11 +12,11 @@ use denote.Triple.Clauses.{AtExit}
 use borrow.Author.Tests.{not-false, ltb-false}
 use borrow.Fn.Kinds.{Dens, resT, endedOf}
 use lib.ListN.{length}
-use Rattle.carving.specs.Calls.{widthBy, hitsBy, leafHits, OnPage, SliceAsked, sliceAsked, sliceChecksBy, sliceChecked, sliceHits, sliceCols, sliceWritten, SlicePromises, NumberedAsked, numberedAsked, numberedChecksBy, numberedChecked, numberedHits, numberedCols, numberedWritten, NumberedPromises}
+use Rattle.carving.specs.Calls.{widthBy, hitsBy, leafHits, SliceAsked, sliceAsked, sliceChecksBy, sliceChecked, sliceHits, sliceFilling, NumberedAsked, numberedAsked, numberedChecksBy, numberedChecked, numberedHits, numberedFilling}
 use Rattle.carving.specs.Values.{valuesBy, leafValues, sliceValues, numberedValues}
 use Rattle.carving.specs.declared.inner.Carving.{Carving}
 use Rattle.carving.specs.declared.inner.Carving.the-variants.{Freeblocks, Gaps, Payload}
-use Rattle.carving.proofs.Entries.{AllFit, all-fit, written-read}
+use Rattle.carving.proofs.Entries.{AllFit, all-fit, rows-read}
 use Rattle.carving.proofs.freeblocks.recover_page_freeblocks.Kinds as page-freeblocks-kinds
 use Rattle.carving.proofs.freeblocks.recover_page_freeblocks.Reads as recover-page-freeblocks
 use Rattle.carving.proofs.freeblocks.recover_slice_freeblocks.Kinds as slice-freeblocks-kinds
@@ -37,8 +37,8 @@ use Rattle.page.specs.Page.{startOf, pageOf, headOf}
 use Rattle.record.proofs.Shifts.{PartOf, part-rest, part-taken}
 use Rattle.scan.proofs.ReadBack.{ReadBack}
 use Rattle.sheet.proofs.Laws.{none-holds, count-fits}
-use Rattle.sheet.specs.Columns.{roomOf}
 use Rattle.sheet.specs.Filled.{filledWritten}
+use Rattle.sheet.specs.Hits.{RowOutcome, FillsRows}
 use Rattle.sheet.specs.declared.refusal.Checked.the-variants.{Passed}
 
 -- THE LAW: the rows of a page, whatever the way of carving it, over a slice in which it lies
@@ -59,12 +59,10 @@ slice-fit a e =
     (ltb-false _ _ (n .0)))
 
 -- THE LAW: what the promises leave reads back
-pub slice-reads-back : (a : SliceAsked) (x : OnPage) → SlicePromises a x → ReadBack (a .page) (filledWritten (x .answer) * length (a .hints)) (x .cols) (sliceValues a)
-unfolding sliceCols sliceWritten sliceValues
-slice-reads-back a x p =
-    rw (p .written, p .entries)
-    (written-read (a .page) (length (a .hints)) (roomOf (length (a .rows)) (length (a .cols)) (length (a .hints))) (sliceHits a)
-    (valuesBy (a .how) 0 (a .page) (a .head) (a .hints)) (a .cols) (sliceChecked a) (slice-fit a))
+pub slice-reads-back : (a : SliceAsked) (x : RowOutcome) → FillsRows (sliceFilling a) x
+    → ReadBack (a .page) (filledWritten (x .answer) * length (a .hints)) (x .cols) (sliceValues a)
+unfolding sliceValues
+slice-reads-back a x p = rows-read (a .page) (sliceFilling a) (valuesBy (a .how) 0 (a .page) (a .head) (a .hints)) x p (slice-fit a)
 
 -- ---- a page by its number
 
@@ -87,13 +85,10 @@ numbered-fit a e =
     (leaf-reads (a .how) (a .db) (a .size) 0 (a .page) (a .hints) (omega (arith, range .0)) (t .0) (t .1) (k .0) (ltb-false _ _ (n .0)))
 
 -- THE LAW: what the promises leave reads back
-pub numbered-reads-back : (a : NumberedAsked) (x : OnPage) → NumberedPromises a x
+pub numbered-reads-back : (a : NumberedAsked) (x : RowOutcome) → FillsRows (numberedFilling a) x
     → ReadBack (a .db) (filledWritten (x .answer) * length (a .hints)) (x .cols) (numberedValues a)
-unfolding numberedCols numberedWritten numberedValues
-numbered-reads-back a x p =
-    rw (p .written, p .entries)
-    (written-read (a .db) (length (a .hints)) (roomOf (length (a .rows)) (length (a .cols)) (length (a .hints))) (numberedHits a)
-    (leafValues (a .how) (a .db) (a .size) (a .hints) (a .page)) (a .cols) (numberedChecked a) (numbered-fit a))
+unfolding numberedValues
+numbered-reads-back a x p = rows-read (a .db) (numberedFilling a) (leafValues (a .how) (a .db) (a .size) (a .hints) (a .page)) x p (numbered-fit a)
 
 -- ---- the public calls
 pub recover-slice-freeblocks-reads-back : (k : Lfts 4) (a : Dens k slice-freeblocks-kinds.ps) (x : resT slice-freeblocks-kinds.r k .Denot)

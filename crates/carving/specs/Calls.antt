@@ -1,7 +1,6 @@
 -- The calls that carve one page, by the way in which it is carved: of a page slice, and of a page by its number (rules 9.14, 10.5, 11.8).
 -- Assumes nothing.
 use Prim.Native.Nat.{ℕ}
-use mathlib.Core.Path.{_≡_}
 use mathlib.Core.Bool.{not}
 use mathlib.Core.List.{List, _∷_}
 use lib.Dec.{ltb}
@@ -14,15 +13,12 @@ use Rattle.gap.specs.Gap.{pageHits as gapPageHits}
 use Rattle.hit.specs.declared.inner.Spot.{Spot}
 use Rattle.page.specs.Page.{startOf, pageOf, headOf, pageChecks}
 use Rattle.rebuild.specs.Header.{mostBy}
-use Rattle.sheet.specs.Filled.{filledNumber, filledWritten}
+use Rattle.sheet.specs.Hits.{Hit, RowFilling}
 use Rattle.sheet.specs.Limits.{mostColumns, countFits, hintsKnown}
 use Rattle.sheet.specs.Refusal.{Check, firstHeld}
 use Rattle.sheet.specs.Slice.{sliceChecks}
-use Rattle.sheet.specs.declared.filled.Filled.{Filled}
 use Rattle.sheet.specs.declared.refusal.Checked.{Checked}
 use Rattle.sheet.specs.declared.refusal.Refusal.the-variants.{ColumnCount, Malformed}
-use Rattle.sheet.specs.Hits.{Hit, pageAnswerOf, pageRowsOf, pageColsOf, pageNumberOf, pageWrittenOf}
-use Rattle.walk.specs.Carve.{Carver}
 
 -- ---- ways of carving
 
@@ -44,18 +40,9 @@ hitsBy (Gaps how) page head hints spot = gapPageHits how page head hints spot
 hitsBy (Payload how) page head hints spot = payloadHits how spot 0 page hints
 
 -- a page of a database: offsets and entries are said of the database
-unfoldable pub leafHits : Carving → List ℕ → ℕ → Carver
+unfoldable pub leafHits : Carving → List ℕ → ℕ → ℕ → List ℕ → ℕ → List Hit
 leafHits how db size table hints p =
     hitsBy how (pageOf db size p) (headOf p) hints (record { base = startOf size p; start = startOf size p; table = table })
-
--- ---- what a call on one page leaves: its answer, and what the lists of rows and of entries hold at exit
-pub record OnPage : Type 0 where
-  pub answer : Filled
-  pub rows : List ℕ
-  pub cols : List ℕ
-
-abbrev pub onPage : Filled → List ℕ → List ℕ → OnPage
-onPage r rows cols = record { answer = r; rows = rows; cols = cols }
 
 -- ---- a slice
 
@@ -83,28 +70,9 @@ sliceChecked a = firstHeld (sliceChecksBy (a .how) (length (a .page)) (a .hints)
 abbrev pub sliceHits : SliceAsked → List Hit
 sliceHits a = hitsBy (a .how) (a .page) (a .head) (a .hints) (record { base = a .base; start = 0; table = 0 })
 
-unfoldable pub sliceAnswer : SliceAsked → Filled
-sliceAnswer a = pageAnswerOf (sliceChecked a) (sliceHits a) (length (a .hints)) (length (a .rows)) (length (a .cols))
-
-unfoldable pub sliceNumber : SliceAsked → ℕ
-sliceNumber a = pageNumberOf (sliceChecked a) (sliceHits a) (length (a .hints)) (length (a .rows)) (length (a .cols))
-
-unfoldable pub sliceWritten : SliceAsked → ℕ
-sliceWritten a = pageWrittenOf (sliceChecked a) (sliceHits a) (length (a .hints)) (length (a .rows)) (length (a .cols))
-
-unfoldable pub sliceRows : SliceAsked → List ℕ
-sliceRows a = pageRowsOf (sliceChecked a) (sliceHits a) (length (a .hints)) (a .rows) (a .cols)
-
-unfoldable pub sliceCols : SliceAsked → List ℕ
-sliceCols a = pageColsOf (sliceChecked a) (sliceHits a) (length (a .hints)) (a .rows) (a .cols)
-
--- what it promises
-pub record SlicePromises (a : SliceAsked) (x : OnPage) : Type 0 where
-  pub answer : x .answer ≡ sliceAnswer a
-  pub number : filledNumber (x .answer) ≡ sliceNumber a
-  pub written : filledWritten (x .answer) ≡ sliceWritten a
-  pub rows : x .rows ≡ sliceRows a
-  pub entries : x .cols ≡ sliceCols a
+abbrev pub sliceFilling : SliceAsked → RowFilling
+sliceFilling a =
+    record { checked = sliceChecked a; hits = sliceHits a; width = length (a .hints); rows = a .rows; cols = a .cols }
 
 -- ---- a page of a database
 
@@ -138,25 +106,6 @@ numberedChecked a = firstHeld (numberedChecksBy (a .how) (length (a .db)) (a .si
 abbrev pub numberedHits : NumberedAsked → List Hit
 numberedHits a = leafHits (a .how) (a .db) (a .size) 0 (a .hints) (a .page)
 
-unfoldable pub numberedAnswer : NumberedAsked → Filled
-numberedAnswer a = pageAnswerOf (numberedChecked a) (numberedHits a) (length (a .hints)) (length (a .rows)) (length (a .cols))
-
-unfoldable pub numberedNumber : NumberedAsked → ℕ
-numberedNumber a = pageNumberOf (numberedChecked a) (numberedHits a) (length (a .hints)) (length (a .rows)) (length (a .cols))
-
-unfoldable pub numberedWritten : NumberedAsked → ℕ
-numberedWritten a = pageWrittenOf (numberedChecked a) (numberedHits a) (length (a .hints)) (length (a .rows)) (length (a .cols))
-
-unfoldable pub numberedRows : NumberedAsked → List ℕ
-numberedRows a = pageRowsOf (numberedChecked a) (numberedHits a) (length (a .hints)) (a .rows) (a .cols)
-
-unfoldable pub numberedCols : NumberedAsked → List ℕ
-numberedCols a = pageColsOf (numberedChecked a) (numberedHits a) (length (a .hints)) (a .rows) (a .cols)
-
--- what it promises
-pub record NumberedPromises (a : NumberedAsked) (x : OnPage) : Type 0 where
-  pub answer : x .answer ≡ numberedAnswer a
-  pub number : filledNumber (x .answer) ≡ numberedNumber a
-  pub written : filledWritten (x .answer) ≡ numberedWritten a
-  pub rows : x .rows ≡ numberedRows a
-  pub entries : x .cols ≡ numberedCols a
+abbrev pub numberedFilling : NumberedAsked → RowFilling
+numberedFilling a =
+    record { checked = numberedChecked a; hits = numberedHits a; width = length (a .hints); rows = a .rows; cols = a .cols }

@@ -3,7 +3,7 @@
 use Prim.Native.Nat.{ℕ, _+_, _-_}
 use mathlib.Core.List.{List, [], _∷_, _++_}
 use lib.ListN.{length, take, replicate}
-use Rattle.carving.specs.Calls.{SliceAsked, sliceChecked, NumberedAsked, numberedChecked}
+use Rattle.carving.specs.Calls.{SliceAsked, sliceFilling, NumberedAsked, numberedFilling}
 use Rattle.carving.specs.declared.inner.Carving.{Carving}
 use Rattle.carving.specs.declared.inner.Carving.the-variants.{Freeblocks, Gaps, Payload}
 use Rattle.cells.specs.Values.{payloadValues, inSlice}
@@ -12,7 +12,7 @@ use Rattle.gap.specs.Values.{pageValues}
 use Rattle.page.specs.Page.{startOf, pageOf, headOf}
 use Rattle.record.specs.declared.record.Value.{Value}
 use Rattle.record.specs.declared.record.Value.the-variants.{Null}
-use Rattle.sheet.specs.Columns.{roomOf}
+use Rattle.sheet.specs.Hits.{RowFilling, rowRoom}
 use Rattle.sheet.specs.Refusal.{afterOrKept}
 
 -- row by row, as `hitsBy` has them, said of a slice in which the page begins at `start`
@@ -30,16 +30,13 @@ abbrev pub groupsValues : ℕ → List (List Value) → List Value
 groupsValues width [] = []
 groupsValues width (vs ∷ vss) = (vs ++ replicate (width - length vs) Null) ++ groupsValues width vss
 
--- those of the rows that a call writes: on a slice,
-unfoldable pub sliceValues : SliceAsked → List Value
-sliceValues a =
-    let room = roomOf (length (a .rows)) (length (a .cols)) (length (a .hints)) in
-    let values = valuesBy (a .how) 0 (a .page) (a .head) (a .hints) in
-    afterOrKept (sliceChecked a) (groupsValues (length (a .hints)) (take room values)) []
+-- those of the rows that a call writes, of all that are there
+abbrev pub writtenValues : RowFilling → List (List Value) → List Value
+writtenValues a values = afterOrKept (a .checked) (groupsValues (a .width) (take (rowRoom a) values)) []
 
--- and on a page of a database
+-- on a slice, and on a page of a database
+unfoldable pub sliceValues : SliceAsked → List Value
+sliceValues a = writtenValues (sliceFilling a) (valuesBy (a .how) 0 (a .page) (a .head) (a .hints))
+
 unfoldable pub numberedValues : NumberedAsked → List Value
-numberedValues a =
-    let room = roomOf (length (a .rows)) (length (a .cols)) (length (a .hints)) in
-    let values = leafValues (a .how) (a .db) (a .size) (a .hints) (a .page) in
-    afterOrKept (numberedChecked a) (groupsValues (length (a .hints)) (take room values)) []
+numberedValues a = writtenValues (numberedFilling a) (leafValues (a .how) (a .db) (a .size) (a .hints) (a .page))

@@ -3,8 +3,9 @@ use crate::inner::Carving;
 use crate::single::carve_numbered;
 use crate::single::carve_slice;
 use sheet::filled::Filled;
-ghost use Rattle.carving.specs.Calls.{SlicePromises, sliceAsked, NumberedPromises, numberedAsked, onPage};
+ghost use Rattle.carving.specs.Calls.{sliceAsked, sliceFilling, numberedAsked, numberedFilling};
 ghost use Rattle.carving.specs.declared.inner.Carving.the-variants.{Freeblocks};
+ghost use Rattle.sheet.specs.Hits.{rowOutcome, FillsRows};
 
 pub fn recover_slice_freeblocks(
     page: &[u8],
@@ -14,9 +15,9 @@ pub fn recover_slice_freeblocks(
     rows: &mut [u64],
     cols: &mut [u64],
 ) -> Filled
-    ensures { λ r. ⌜ SlicePromises
-        (sliceAsked Freeblocks (now (page .entry)) head base (now (hints .entry)) (now (rows .entry)) (now (cols .entry)))
-        (onPage r (now (rows .exit)) (now (cols .exit))) ⌝ }
+    ensures { λ r. ⌜ FillsRows (sliceFilling
+        (sliceAsked Freeblocks (now (page .entry)) head base (now (hints .entry)) (now (rows .entry)) (now (cols .entry))))
+        (rowOutcome r (now (rows .exit)) (now (cols .exit))) ⌝ }
 {
     carve_slice(Carving::Freeblocks, page, head, base, hints, rows, cols)
 }
@@ -29,9 +30,9 @@ pub fn recover_page_freeblocks(
     rows: &mut [u64],
     cols: &mut [u64],
 ) -> Filled
-    ensures { λ r. ⌜ NumberedPromises
-        (numberedAsked Freeblocks (now (db .entry)) size page (now (hints .entry)) (now (rows .entry)) (now (cols .entry)))
-        (onPage r (now (rows .exit)) (now (cols .exit))) ⌝ }
+    ensures { λ r. ⌜ FillsRows (numberedFilling
+        (numberedAsked Freeblocks (now (db .entry)) size page (now (hints .entry)) (now (rows .entry)) (now (cols .entry))))
+        (rowOutcome r (now (rows .exit)) (now (cols .exit))) ⌝ }
 {
     carve_numbered(Carving::Freeblocks, db, size, page, hints, rows, cols)
 }

@@ -4,8 +4,9 @@ use crate::single::carve_numbered;
 use crate::single::carve_slice;
 use rebuild::rebuilding::Rebuilding;
 use sheet::filled::Filled;
-ghost use Rattle.carving.specs.Calls.{SlicePromises, sliceAsked, NumberedPromises, numberedAsked, onPage};
+ghost use Rattle.carving.specs.Calls.{sliceAsked, sliceFilling, numberedAsked, numberedFilling};
 ghost use Rattle.carving.specs.declared.inner.Carving.the-variants.{Gaps, Payload};
+ghost use Rattle.sheet.specs.Hits.{rowOutcome, FillsRows};
 
 pub fn scan_single_page_gap(
     rebuilding: Rebuilding,
@@ -16,9 +17,9 @@ pub fn scan_single_page_gap(
     rows: &mut [u64],
     cols: &mut [u64],
 ) -> Filled
-    ensures { λ r. ⌜ SlicePromises
-        (sliceAsked (Gaps rebuilding) (now (page .entry)) head base (now (hints .entry)) (now (rows .entry)) (now (cols .entry)))
-        (onPage r (now (rows .exit)) (now (cols .exit))) ⌝ }
+    ensures { λ r. ⌜ FillsRows (sliceFilling
+        (sliceAsked (Gaps rebuilding) (now (page .entry)) head base (now (hints .entry)) (now (rows .entry)) (now (cols .entry))))
+        (rowOutcome r (now (rows .exit)) (now (cols .exit))) ⌝ }
 {
     carve_slice(
         Carving::Gaps(rebuilding),
@@ -40,9 +41,9 @@ pub fn scan_page_gap(
     rows: &mut [u64],
     cols: &mut [u64],
 ) -> Filled
-    ensures { λ r. ⌜ NumberedPromises
-        (numberedAsked (Gaps rebuilding) (now (db .entry)) size page (now (hints .entry)) (now (rows .entry)) (now (cols .entry)))
-        (onPage r (now (rows .exit)) (now (cols .exit))) ⌝ }
+    ensures { λ r. ⌜ FillsRows (numberedFilling
+        (numberedAsked (Gaps rebuilding) (now (db .entry)) size page (now (hints .entry)) (now (rows .entry)) (now (cols .entry))))
+        (rowOutcome r (now (rows .exit)) (now (cols .exit))) ⌝ }
 {
     carve_numbered(Carving::Gaps(rebuilding), db, size, page, hints, rows, cols)
 }
@@ -55,9 +56,9 @@ pub fn parse_cells_from_freeblock(
     rows: &mut [u64],
     cols: &mut [u64],
 ) -> Filled
-    ensures { λ r. ⌜ SlicePromises
-        (sliceAsked (Payload rebuilding) (now (payload .entry)) 0 base (now (hints .entry)) (now (rows .entry)) (now (cols .entry)))
-        (onPage r (now (rows .exit)) (now (cols .exit))) ⌝ }
+    ensures { λ r. ⌜ FillsRows (sliceFilling
+        (sliceAsked (Payload rebuilding) (now (payload .entry)) 0 base (now (hints .entry)) (now (rows .entry)) (now (cols .entry))))
+        (rowOutcome r (now (rows .exit)) (now (cols .exit))) ⌝ }
 {
     carve_slice(
         Carving::Payload(rebuilding),

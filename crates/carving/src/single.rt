@@ -9,13 +9,13 @@ use sheet::columns::room;
 use sheet::filled::Filled;
 use sheet::hint::hint_count_fits;
 use sheet::hint::hints_known;
-use sheet::inner::Carved;
 use sheet::refusal::Checked;
 use sheet::refusal::Refusal;
 use sheet::slice::check_slice;
 ghost use lib.ListN.{length};
-ghost use Rattle.carving.specs.Calls.{hitsBy, SlicePromises, sliceAsked, NumberedPromises, numberedAsked, onPage};
+ghost use Rattle.carving.specs.Calls.{hitsBy, sliceAsked, sliceFilling, numberedAsked, numberedFilling};
 ghost use Rattle.carving.specs.Inner.{Filling};
+ghost use Rattle.sheet.specs.Hits.{rowOutcome, FillsRows};
 ghost use Rattle.sheet.specs.Inner.{FilledIs};
 
 // Carves one page into lists that hold nothing yet.
@@ -31,15 +31,13 @@ fn fill(
     requires { ⌜ Filling how (length (now page)) (length (now hints)) spot ⌝ }
     ensures { λ r. ⌜ FilledIs (hitsBy how (now (page .entry)) head (now (hints .entry)) spot)
         (length (now (hints .entry))) (now (rows .entry)) (now (cols .entry))
-        r (now (rows .exit)) (now (cols .exit)) ⌝ }
+        (rowOutcome r (now (rows .exit)) (now (cols .exit))) ⌝ }
 {
     let width = hints.len();
     let most = room(rows.len(), cols.len(), width);
     let lent = Lent { width, room: most };
-    let Carved::On(n) = carve_page(how, page, head, hints, spot, lent, 0, rows, cols) else {
-        return Filled::Full(most);
-    };
-    Filled::Done(n)
+    let carved = carve_page(how, page, head, hints, spot, lent, 0, rows, cols);
+    carved.filled(most)
 }
 
 // The page's type is not looked at, here and by number.
@@ -52,9 +50,9 @@ pub fn carve_slice(
     rows: &mut [u64],
     cols: &mut [u64],
 ) -> Filled
-    ensures { λ r. ⌜ SlicePromises
-        (sliceAsked how (now (page .entry)) head base (now (hints .entry)) (now (rows .entry)) (now (cols .entry)))
-        (onPage r (now (rows .exit)) (now (cols .exit))) ⌝ }
+    ensures { λ r. ⌜ FillsRows (sliceFilling
+        (sliceAsked how (now (page .entry)) head base (now (hints .entry)) (now (rows .entry)) (now (cols .entry))))
+        (rowOutcome r (now (rows .exit)) (now (cols .exit))) ⌝ }
 {
     if how.refuses(hints.len()) {
         return Filled::Refused(Refusal::ColumnCount);
@@ -81,9 +79,9 @@ pub fn carve_numbered(
     rows: &mut [u64],
     cols: &mut [u64],
 ) -> Filled
-    ensures { λ r. ⌜ NumberedPromises
-        (numberedAsked how (now (db .entry)) size page (now (hints .entry)) (now (rows .entry)) (now (cols .entry)))
-        (onPage r (now (rows .exit)) (now (cols .exit))) ⌝ }
+    ensures { λ r. ⌜ FillsRows (numberedFilling
+        (numberedAsked how (now (db .entry)) size page (now (hints .entry)) (now (rows .entry)) (now (cols .entry))))
+        (rowOutcome r (now (rows .exit)) (now (cols .exit))) ⌝ }
 {
     if how.refuses(hints.len()) {
         return Filled::Refused(Refusal::ColumnCount);

@@ -9,7 +9,8 @@ use denote.Ref.{now}
 use lib.Dec.{ltb}
 use lib.ListN.{length}
 use Rattle.carving.specs.Calls.{widthBy, numberedChecks, numberedChecksBy}
-use Rattle.carving.proofs.Callers.{wide-refuses, narrow-on, bad-count, bad-hints, page-decides, page-filling, hits-are, part-long, numbered-refused, numbered-passed}
+use Rattle.carving.proofs.Callers.{wide-refuses, narrow-on, bad-count, bad-hints, page-decides, page-filling, hits-are, part-long}
+use Rattle.sheet.proofs.Filling.{rows-refused, rows-filled}
 use Rattle.carving.proofs.single.carve_numbered.Statement.{statement}
 use Rattle.carving.proofs.single.carve_numbered.Tie as tie
 use Rattle.page.proofs.Laws.{paged-refused, paged-at, PagedAt}
@@ -24,7 +25,7 @@ returns : tie.Need-returns
 returns c =
     let a = c .before .before .before .before .before .before .args in
     let hints = now (a .hints) in
-    numbered-refused _ _
+    rows-refused _ _
     (wide-refuses (a .how) (length hints) (numberedChecks (length (now (a .db))) (a .size) (a .page) hints) (sym (c .before .refuses .ensures) ∙ c .if1 .taken))
 
 -- the table is not too wide, so the other checks decide
@@ -42,7 +43,7 @@ hint-count-fits-requires c κs = search needs
 returns-2 : tie.Need-returns-2
 returns-2 c =
     let a = c .before .before .before .before .before .before .before .before .args in
-    numbered-refused _ _
+    rows-refused _ _
     (others (c .before .before) ∙ bad-count (length (now (a .db))) (a .size) (a .page) (now (a .hints)) (sym (c .before .hint-count-fits .ensures) ∙ not-true _ (c .if2 .taken)))
 
 hints-known-requires : tie.Need-hints-known-requires
@@ -55,7 +56,7 @@ fit c = sym (c .before .hint-count-fits .ensures) ∙ not-false _ (c .if2 .left)
 returns-3 : tie.Need-returns-3
 returns-3 c =
     let a = c .before .before .before .before .before .before .before .before .before .before .args in
-    numbered-refused _ _
+    rows-refused _ _
     (others (c .before .before .before .before) ∙ bad-hints (length (now (a .db))) (a .size) (a .page) (now (a .hints)) (fit (c .before .before)) (sym (c .before .hints-known .ensures) ∙ not-true _ (c .if3 .taken)))
 
 get-page-data-requires : tie.Need-get-page-data-requires
@@ -97,7 +98,7 @@ fill-requires c κs =
     rw (part-long (now (c .before .before .before .before .before .before .before .before .before .before .before .before .before .before .before .before .before .args .db)) _ _ (l .inside)) (page-filling _ _ _ (now (c .before .before .before .before .before .before .before .before .before .before .before .before .before .before .before .before .before .args .hints)) (fit (c .before .before .before .before .before .before .before .before .before)) _ (ltb-false _ _ (narrow (c .before .before .before .before .before .before .before .before .before .before .before))) _ _ _ l)
 
 returns-4 : tie.Need-returns-4
-returns-4 c = numbered-refused _ _ (decides (c .before .before .before .before) ∙ paged-refused _ _ _ _ (sym (c .before .before .before .get-page-data .ensures .0) ∙ c .before .refusal .given .1))
+returns-4 c = rows-refused _ _ (decides (c .before .before .before .before) ∙ paged-refused _ _ _ _ (sym (c .before .before .before .get-page-data .ensures .0) ∙ c .before .refusal .given .1))
 
 same-length : tie.Need-same-length
 same-length c = search needs
@@ -110,7 +111,7 @@ returns-5 c =
     let a = c .before .before .before .before .before .before .before .before .before .before .before .before .before .before .before .before .before .before .before .before .before .before .args in
     let l = lies (c .before .before .before .before .before .before .before .before) in
     let h = hits-are (a .how) (now (a .db)) (a .size) (a .page) (now (a .hints)) 0 _ _ _ (l .starts) (l .long) (l .heads) in
-    numbered-passed _ _ (decides (c .before .before .before .before .before .before .before .before .before .before .before .before) ∙ l .passed) (rw h at (c .before .before .before .before .fill .ensures))
+    rows-filled _ _ (decides (c .before .before .before .before .before .before .before .before .before .before .before .before) ∙ l .passed) (rw h at (c .before .before .before .before .fill .ensures))
 
 pub carve-numbered-spec : {M : Type 1} → statement M
 carve-numbered-spec =

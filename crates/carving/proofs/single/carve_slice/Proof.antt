@@ -8,7 +8,8 @@ use denote.Ref.{now}
 use lib.Dec.{ltb}
 use lib.ListN.{length}
 use Rattle.carving.specs.Calls.{widthBy, sliceChecksBy}
-use Rattle.carving.proofs.Callers.{wide-refuses, narrow-on, slice-filling, slice-refused, slice-passed}
+use Rattle.carving.proofs.Callers.{wide-refuses, narrow-on, slice-filling}
+use Rattle.sheet.proofs.Filling.{rows-refused, rows-filled}
 use Rattle.carving.proofs.single.carve_slice.Statement.{statement}
 use Rattle.carving.proofs.single.carve_slice.Tie as tie
 use Rattle.sheet.specs.Refusal.{firstHeld}
@@ -21,7 +22,7 @@ returns : tie.Need-returns
 returns c =
     let a = c .before .before .before .before .before .before .args in
     let hints = now (a .hints) in
-    slice-refused _ _
+    rows-refused _ _
     (wide-refuses (a .how) (length hints) (sliceChecks (length (now (a .page))) hints (a .base)) (sym (c .before .refuses .ensures) ∙ c .if1 .taken))
 
 -- the table is not too wide, so the other checks decide
@@ -48,7 +49,7 @@ fill-requires c κs =
     slice-filling (a .how) (length (now (a .page))) (now (a .hints)) (a .base) (ltb-false _ _ (narrow (c .before .before .before .before .before))) (sym (c .before .before .before .before .check-slice .ensures) ∙ c .before .before .enum-told .given .1)
 
 returns-2 : tie.Need-returns-2
-returns-2 c = slice-refused _ _ (others (c .before .before .before .before) ∙ sym (c .before .before .before .check-slice .ensures) ∙ c .before .refusal .given .1)
+returns-2 c = rows-refused _ _ (others (c .before .before .before .before) ∙ sym (c .before .before .before .check-slice .ensures) ∙ c .before .refusal .given .1)
 
 same-length : tie.Need-same-length
 same-length c = search needs
@@ -57,7 +58,7 @@ same-length-2 : tie.Need-same-length-2
 same-length-2 c = search needs
 
 returns-3 : tie.Need-returns-3
-returns-3 c = slice-passed _ _ (others (c .before .before .before .before .before .before .before .before .before .before) ∙ sym (c .before .before .before .before .before .before .before .before .before .check-slice .ensures) ∙ c .before .before .before .before .before .before .before .enum-told .given .1) (c .before .before .before .before .fill .ensures)
+returns-3 c = rows-filled _ _ (others (c .before .before .before .before .before .before .before .before .before .before) ∙ sym (c .before .before .before .before .before .before .before .before .before .check-slice .ensures) ∙ c .before .before .before .before .before .before .before .enum-told .given .1) (c .before .before .before .before .fill .ensures)
 
 pub carve-slice-spec : {M : Type 1} → statement M
 carve-slice-spec =

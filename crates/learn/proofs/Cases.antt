@@ -9,8 +9,9 @@ use lib.ListN.{length}
 use Rattle.groups.specs.Rows.{rowCount, rowsIn, rowsOf, columnsOf, longest, anyBad, gapped, badRows}
 use Rattle.record.specs.Entry.{badWithin, readEntry}
 use Rattle.record.specs.Value.{bodyLength, bigEndian, twosComplement, valueOf}
-use Rattle.sheet.specs.Limits.{largestRegion, countFits}
-use Rattle.learn.specs.Learn.{mostRows, given, givenAt, columnTypes, hintOf, hintsBelow, hintsOf, learnNumber, learnWritten, learnChecks, learnTypes}
+use Rattle.sheet.specs.Filled.{listNumber, listWritten, listLeft}
+use Rattle.sheet.specs.Limits.{largestRegion, mostRows, countFits}
+use Rattle.learn.specs.Learn.{given, givenAt, columnTypes, hintOf, hintsBelow, hintsOf, learnChecks, learnFilling}
 use Rattle.learn.specs.Types.{widthType, integerType, valueType, countIn, better, bestOf, commonestOf}
 
 -- the paper's number, how many hints are written, and what the list holds
@@ -32,7 +33,9 @@ joined (x ∷ xs) = x ++ joined xs
 
 -- what comes of entries that are words
 came : List ℕ → ℕ → List ℕ → List ℕ → Outcome
-came s width words old = out (learnNumber s width words (length old)) (learnWritten s width words (length old)) (learnTypes s width words old)
+came s width words old =
+    let a = learnFilling s width words old in
+    out (listNumber a) (listWritten a) (listLeft a)
 
 computed : Case → Outcome
 computed (learn s width entries old o) = came s width (joined entries) old
@@ -91,21 +94,21 @@ cases =
     ∷ []
 
 table : map computed cases ≡ map expected cases
-unfolding came cases bytes body unfit lost unused joined out computed expected learnNumber learnWritten learnChecks learnTypes countFits rowsOf rowsIn columnsOf anyBad gapped badRows given givenAt columnTypes hintOf hintsBelow longest hintsOf valueType integerType widthType countIn better bestOf commonestOf badWithin readEntry bodyLength bigEndian twosComplement valueOf
+unfolding came cases bytes body unfit lost unused joined out computed expected listNumber listWritten learnChecks listLeft countFits rowsOf rowsIn columnsOf anyBad gapped badRows given givenAt columnTypes hintOf hintsBelow longest hintsOf valueType integerType widthType countIn better bestOf commonestOf badWithin readEntry bodyLength bigEndian twosComplement valueOf
 table = refl
 
 module _ (s : List ℕ) (width : ℕ) (words old : List ℕ) (fits : countFits width ≡ true) where
   -- bad rows are refusal 2, however large everything is
   bad-first : badRows s (rowsOf width words) ≡ true → came s width words old ≡ out 2 0 old
-  unfolding came learnNumber learnWritten learnChecks learnTypes
+  unfolding came listNumber listWritten learnChecks listLeft
   bad-first bad = simp (fits, bad)
 
   -- good ones are 3 where the slice is too large or there are too many
   module _ (good : badRows s (rowsOf width words) ≡ false) where
     too-long : largestRegion < length s → came s width words old ≡ out 3 0 old
-    unfolding came learnNumber learnWritten learnChecks learnTypes
+    unfolding came listNumber listWritten learnChecks listLeft
     too-long h = simp (fits, good, lt-ltb largestRegion (length s) h)
 
     too-many : mostRows < rowCount width words → came s width words old ≡ out 3 0 old
-    unfolding came learnNumber learnWritten learnChecks learnTypes
+    unfolding came listNumber listWritten learnChecks listLeft
     too-many h = simp (fits, good, lt-ltb mostRows (rowCount width words) h, or-true)

@@ -12,7 +12,8 @@ use Rattle.record.proofs.Numbers.{by-test}
 use Rattle.record.specs.declared.entry.Entry.{Entry}
 use Rattle.sheet.specs.Limits.{countFits}
 use Rattle.sheet.proofs.Laws.{count-fits}
-use Rattle.learn.specs.Learn.{givenAt, columnTypes, hintOf, hintsBelow, hintsOf, learnChecks, learnAnswer, learnTypes}
+use Rattle.sheet.specs.Filled.{listAnswer, listLeft}
+use Rattle.learn.specs.Learn.{givenAt, columnTypes, hintOf, hintsBelow, hintsOf, learnChecks, learnFilling}
 use Rattle.learn.specs.Types.{countIn}
 use Rattle.learn.proofs.Counting.{count-append, commonest-same}
 
@@ -98,18 +99,19 @@ module _ (s : List ℕ) (width i k j l : ℕ) (a p b q c : List ℕ) (ra : Rows 
   wide : countFits width ≡ true → 0 < width
   wide fits = omega (arith, count-fits width fits .0)
 
-  -- THE LAW: the call answers the same,
-  pub answer-exchanged : (room : ℕ) → learnAnswer s width first room ≡ learnAnswer s width second room
-  unfolding learnAnswer learnChecks
-  answer-exchanged room =
-      by-test (countFits width)
-      (λ fits. rw (malformed-exchanged (wide fits), count-exchanged, learned-exchanged (wide fits)))
-      (λ bad. simp bad)
+  module _ (old : List ℕ) where
+    -- THE LAW: the call answers the same,
+    pub answer-exchanged : listAnswer (learnFilling s width first old) ≡ listAnswer (learnFilling s width second old)
+    unfolding listAnswer learnChecks
+    answer-exchanged =
+        by-test (countFits width)
+        (λ fits. rw (malformed-exchanged (wide fits), count-exchanged, learned-exchanged (wide fits)))
+        (λ bad. simp bad)
 
-  -- and leaves the same in the list
-  pub types-exchanged : (old : List ℕ) → learnTypes s width first old ≡ learnTypes s width second old
-  unfolding learnTypes learnChecks
-  types-exchanged old =
-      by-test (countFits width)
-      (λ fits. rw (malformed-exchanged (wide fits), count-exchanged, learned-exchanged (wide fits)))
-      (λ bad. simp bad)
+    -- and leaves the same in the list
+    pub types-exchanged : listLeft (learnFilling s width first old) ≡ listLeft (learnFilling s width second old)
+    unfolding listLeft learnChecks
+    types-exchanged =
+        by-test (countFits width)
+        (λ fits. rw (malformed-exchanged (wide fits), count-exchanged, learned-exchanged (wide fits)))
+        (λ bad. simp bad)

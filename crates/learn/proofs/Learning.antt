@@ -17,8 +17,8 @@ use Rattle.groups.specs.declared.inner.Judged.the-variants.{Columns, Bad}
 use Rattle.groups.proofs.Laws.{rows-of, longest-most, rows-good, rows-bad}
 use Rattle.record.proofs.Numbers.{by-order}
 use Rattle.record.specs.declared.entry.Entry.{Entry}
-use Rattle.sheet.specs.Filled.{filledNumber, filledWritten, filledBy, laid}
-use Rattle.sheet.specs.Limits.{largestRegion, countFits}
+use Rattle.sheet.specs.Filled.{filledBy, laid, listOutcome, FillsList}
+use Rattle.sheet.specs.Limits.{largestRegion, mostRows, countFits}
 use Rattle.sheet.specs.Refusal.{firstHeld}
 use Rattle.sheet.specs.Sheet.{overlay}
 use Rattle.sheet.specs.declared.filled.Filled.{Filled}
@@ -26,8 +26,9 @@ use Rattle.sheet.specs.declared.filled.Filled.the-variants.{Refused}
 use Rattle.sheet.specs.declared.refusal.Checked.the-variants.{Passed, Refused as Stopped}
 use Rattle.sheet.specs.declared.refusal.Refusal.{Refusal}
 use Rattle.sheet.specs.declared.refusal.Refusal.the-variants.{ColumnCount, Malformed, TooLarge}
-use Rattle.sheet.proofs.Laws.{overlay-length, overlay-more, Numbers, filled-numbers}
-use Rattle.learn.specs.Learn.{mostRows, hintOf, hintsBelow, hintsOf, tooLarge, learned, learnNumber, learnWritten, learnChecks, learnAnswer, learnTypes}
+use Rattle.sheet.proofs.Laws.{overlay-length, overlay-more}
+use Rattle.sheet.proofs.Filling.{list-refused, list-filled}
+use Rattle.learn.specs.Learn.{hintOf, hintsBelow, hintsOf, tooLarge, learnChecks, learnFilling}
 
 -- ---- hints, written one behind the other
 put-next : (ws old : List ℕ) (c x : ℕ) → length ws ≡ c → c < length old → set (overlay ws old) c x ≡ overlay (ws ++ (x ∷ [])) old
@@ -88,59 +89,43 @@ module _ (s : List ℕ) (width : ℕ) (words : List ℕ) {columns : ℕ} (good :
   columns-fit = omega (arith, rows-good s (rowsIn (rowCount width words) width words) good .1, longest-most (rowCount width words) width words)
 
 -- ---- the answer
--- THE LAW: its number is that of the first check that holds
-numbers : (s : List ℕ) (width : ℕ) (words : List ℕ) (room : ℕ) →
-    Numbers (learnAnswer s width words room) (learnNumber s width words room) (learnWritten s width words room)
-unfolding learnAnswer learnNumber learnWritten
-numbers s width words room = filled-numbers (firstHeld (learnChecks s width words)) (length (learned s width words)) room
-
-abbrev Answers : List ℕ → ℕ → List ℕ → List ℕ → Filled → List ℕ → Type 0
-Answers s width words old r list =
-    (r ≡ learnAnswer s width words (length old))
-    × ((filledNumber r ≡ learnNumber s width words (length old))
-    × ((filledWritten r ≡ learnWritten s width words (length old)) × (list ≡ learnTypes s width words old)))
-
 module _ (s : List ℕ) (width : ℕ) (words old : List ℕ) where
-  answers : {r : Filled} {list : List ℕ} → r ≡ learnAnswer s width words (length old) → list ≡ learnTypes s width words old → Answers s width words old r list
-  answers e l = let n = numbers s width words (length old) in (e, (ap filledNumber e ∙ n .0, (ap filledWritten e ∙ n .1, l)))
-
-  refused-by : {r : Refusal} → firstHeld (learnChecks s width words) ≡ Stopped r → Answers s width words old (Refused r) old
-  unfolding learnAnswer learnTypes
-  refused-by h = answers (simp h) (simp h)
+  abbrev Answers : Filled → List ℕ → Type 0
+  Answers r list = FillsList (learnFilling s width words old) (listOutcome r list)
 
   -- THE LAW: the first check that holds refuses, and leaves the list as it was
-  pub bad-width : countFits width ≡ false → Answers s width words old (Refused ColumnCount) old
+  pub bad-width : countFits width ≡ false → Answers (Refused ColumnCount) old
   unfolding learnChecks
-  bad-width h = refused-by (simp h)
+  bad-width h = list-refused _ _ (simp h)
 
   -- what judging the rows of a good width came to
   module _ (fits : countFits width ≡ true) where
-    pub bad-rows : Bad ≡ judgedRows s (rowsIn (rowCount width words) width words) → Answers s width words old (Refused Malformed) old
+    pub bad-rows : Bad ≡ judgedRows s (rowsIn (rowCount width words) width words) → Answers (Refused Malformed) old
     unfolding learnChecks
     bad-rows h =
         let bad : badRows s (rowsOf width words) ≡ true = rw (rows-of width words) (rows-bad s (rowsIn (rowCount width words) width words) h) in
-        refused-by (simp (fits, bad))
+        list-refused _ _ (simp (fits, bad))
 
     module _ {columns : ℕ} (good : Columns columns ≡ judgedRows s (rowsIn (rowCount width words) width words)) where
       last-check : (b : Bool) → tooLarge s width words ≡ b → firstHeld (learnChecks s width words) ≡ cond b (Stopped TooLarge) Passed
       unfolding learnChecks
       last-check b h = simp (fits, judged s width words good .0, h)
 
-      pub too-long : largestRegion < length s → Answers s width words old (Refused TooLarge) old
-      too-long h = refused-by (last-check true (simp (lt-ltb largestRegion (length s) h)))
+      pub too-long : largestRegion < length s → Answers (Refused TooLarge) old
+      too-long h = list-refused _ _ (last-check true (simp (lt-ltb largestRegion (length s) h)))
 
-      pub too-many : mostRows < rowCount width words → Answers s width words old (Refused TooLarge) old
-      too-many h = refused-by (last-check true (simp (lt-ltb mostRows (rowCount width words) h, or-true)))
+      pub too-many : mostRows < rowCount width words → Answers (Refused TooLarge) old
+      too-many h = list-refused _ _ (last-check true (simp (lt-ltb mostRows (rowCount width words) h, or-true)))
 
       -- THE LAW: past the checks the first hints are written, and the room decides
       pub all-good : {r : Filled} {list : List ℕ} → length s ≤ largestRegion → rowCount width words ≤ mostRows →
           r ≡ filledBy columns (length old) →
           list ≡ laid (hintsBelow s columns (rowsIn (rowCount width words) width words)) old →
-          Answers s width words old r list
-      unfolding learnAnswer learnTypes hintsOf
+          Answers r list
+      unfolding hintsOf
       all-good small few e l =
           let rows = rowsOf width words in
           let passed = last-check false (simp (le-ltb largestRegion (length s) small, le-ltb mostRows (rowCount width words) few)) in
           let long : columns ≡ longest rows = judged s width words good .1 in
           let size : length (hintsBelow s (longest rows) rows) ≡ columns = hints-length s rows (longest rows) ∙ sym long in
-          answers (rw (passed, size) e) (rw (passed, ← long, rows-of width words) l)
+          list-filled _ _ passed (rw size e) (rw (← long, rows-of width words) l)

@@ -6,8 +6,8 @@ use mathlib.Core.Bool.{Bool, true, false}
 use mathlib.Core.List.{List, [], _∷_, _++_}
 use lib.ListN.{length, getD, take}
 use Rattle.record.specs.declared.entry.Entry.{Entry}
-use Rattle.sheet.specs.Limits.{mostColumns, wordsPerEntry, largestRegion}
-use Rattle.learn.specs.Learn.{mostRows, given}
+use Rattle.sheet.specs.Limits.{mostColumns, wordsPerEntry, largestRegion, mostRows}
+use Rattle.learn.specs.Learn.{given}
 use Rattle.learn.specs.Types.{countIn}
 use Rattle.learn.specs.declared.learn.Leader.{Leader}
 

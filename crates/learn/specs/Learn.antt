@@ -10,17 +10,11 @@ use Rattle.record.specs.Entry.{readEntry}
 use Rattle.record.specs.declared.entry.Entry.{Entry}
 use Rattle.record.specs.declared.entry.EntryRead.{EntryRead}
 use Rattle.record.specs.declared.entry.EntryRead.the-variants.{Of, Refused as Bad}
-use Rattle.sheet.specs.Filled.{filledBy, numberAfter, writtenAfter, laid}
-use Rattle.sheet.specs.Limits.{largestRegion, countFits}
-use Rattle.sheet.specs.Refusal.{Check, firstHeld, after, afterOrKept}
-use Rattle.sheet.specs.declared.filled.Filled.{Filled}
-use Rattle.sheet.specs.declared.filled.Filled.the-variants.{Refused}
+use Rattle.sheet.specs.Filled.{ListFilling}
+use Rattle.sheet.specs.Limits.{largestRegion, mostRows, countFits}
+use Rattle.sheet.specs.Refusal.{Check, firstHeld}
 use Rattle.sheet.specs.declared.refusal.Refusal.the-variants.{ColumnCount, Malformed, TooLarge}
 use Rattle.learn.specs.Types.{valueType, commonestOf}
-
--- the most rows to learn from
-abbrev pub mostRows : ℕ
-mostRows = 1024
 
 -- ---- hints
 
@@ -83,18 +77,7 @@ learnChecks s width words =
     ∷ record { refusal = TooLarge; holds = tooLarge s width words }
     ∷ []
 
--- Rule 13.1: the number that the call answers with, and how many hints it says are written, by the slice, the width, the entries' words
--- and how many cells are lent
-unfoldable pub learnNumber : List ℕ → ℕ → List ℕ → ℕ → ℕ
-learnNumber s width words room = numberAfter (firstHeld (learnChecks s width words)) (length (learned s width words)) room
-
-unfoldable pub learnWritten : List ℕ → ℕ → List ℕ → ℕ → ℕ
-learnWritten s width words room = writtenAfter (firstHeld (learnChecks s width words)) (length (learned s width words)) room
-
--- what the call returns
-unfoldable pub learnAnswer : List ℕ → ℕ → List ℕ → ℕ → Filled
-learnAnswer s width words room = after Refused (firstHeld (learnChecks s width words)) (filledBy (length (learned s width words)) room)
-
--- Rule 13.3: what it leaves in the list, by what the list held
-unfoldable pub learnTypes : List ℕ → ℕ → List ℕ → List ℕ → List ℕ
-learnTypes s width words old = afterOrKept (firstHeld (learnChecks s width words)) (laid (learned s width words) old) old
+-- what its answer rests on: the slice, the width, the entries' words, and the list that is lent
+abbrev pub learnFilling : List ℕ → ℕ → List ℕ → List ℕ → ListFilling
+learnFilling s width words old =
+    record { checked = firstHeld (learnChecks s width words); things = learned s width words; old = old }

@@ -8,6 +8,7 @@ use record::entry::EntryRead;
 use record::entry::UNUSED;
 use record::record::Value;
 use sheet::LARGEST_REGION;
+use sheet::MOST_ROWS;
 use sheet::WORDS_PER_ENTRY;
 use sheet::filled::Filled;
 use sheet::hint::hint_count_fits;
@@ -21,15 +22,14 @@ ghost use lib.IntN.{pos};
 ghost use lib.ListN.{length, getD, set, take};
 ghost use Rattle.groups.specs.Rows.{rowsIn};
 ghost use Rattle.learn.specs.Inner.{counterCount, Lent, OwnType, PutType, Counts, Tallied};
-ghost use Rattle.learn.specs.Learn.{mostRows, given, columnTypes, hintOf, hintsBelow};
-ghost use Rattle.learn.specs.Learn.{learnNumber, learnWritten, learnAnswer, learnTypes};
+ghost use Rattle.learn.specs.Learn.{given, columnTypes, hintOf, hintsBelow};
+ghost use Rattle.learn.specs.Learn.{learnFilling};
 ghost use Rattle.learn.specs.Types.{widthType, integerType, valueType, countIn, better, commonestOf};
 ghost use Rattle.record.specs.Value.{lengthOf};
-ghost use Rattle.sheet.specs.Filled.{filledNumber, filledWritten, filledBy, laid};
-ghost use Rattle.sheet.specs.Limits.{largestRegion};
+ghost use Rattle.sheet.specs.Filled.{filledBy, laid, listOutcome, FillsList};
+ghost use Rattle.sheet.specs.Limits.{largestRegion, mostRows};
 ghost use Rattle.sheet.specs.Sheet.{overlay};
 
-pub const MOST_ROWS: usize = 1_024;
 // Types below it have a counter in a table. Larger ones, texts and blobs of 4 KiB, are rare.
 const COUNTERS: usize = 8_192;
 
@@ -374,11 +374,8 @@ fn learn_columns(
 }
 
 pub fn learn_signatures(bytes: &[u8], width: usize, entries: &[u64], types: &mut [u64]) -> Filled
-    ensures answer { λ r. ⌜ r ≡ learnAnswer (now (bytes .entry)) width (now (entries .entry)) (length (now (types .entry))) ⌝ }
-    ensures number { λ r. ⌜ filledNumber r ≡ learnNumber (now (bytes .entry)) width (now (entries .entry)) (length (now (types .entry))) ⌝ }
-    ensures written { λ r.
-        ⌜ filledWritten r ≡ learnWritten (now (bytes .entry)) width (now (entries .entry)) (length (now (types .entry))) ⌝ }
-    ensures list { λ _. ⌜ now (types .exit) ≡ learnTypes (now (bytes .entry)) width (now (entries .entry)) (now (types .entry)) ⌝ }
+    ensures { λ r. ⌜ FillsList (learnFilling (now (bytes .entry)) width (now (entries .entry)) (now (types .entry)))
+        (listOutcome r (now (types .exit))) ⌝ }
 {
     if !hint_count_fits(width) {
         return Filled::Refused(Refusal::ColumnCount);

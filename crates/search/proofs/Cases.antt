@@ -5,8 +5,9 @@ use mathlib.Core.Path.{_≡_, refl}
 use mathlib.Core.List.{List, [], _∷_, map}
 use borrow.Author.Tests.{lt-ltb}
 use lib.ListN.{length, replicate}
+use Rattle.sheet.specs.Filled.{listNumber, listWritten, listLeft}
 use Rattle.sheet.specs.Limits.{largestRegion}
-use Rattle.search.specs.Search.{matches, standsAt, placeAt, placesBelow, placesOf, searchNumber, searchWritten, searchPlaces}
+use Rattle.search.specs.Search.{matches, standsAt, placeAt, placesBelow, placesOf, searchFilling}
 
 -- the paper's number, how many places are written, and what the list holds
 record Outcome : Type 0 where
@@ -23,7 +24,8 @@ out n k l = record { number = n; written = k; places = l }
 
 found : List ℕ → List ℕ → List ℕ → Outcome
 found haystack pattern old =
-    out (searchNumber haystack pattern (length old)) (searchWritten haystack pattern (length old)) (searchPlaces haystack pattern old)
+    let a = searchFilling haystack pattern old in
+    out (listNumber a) (listWritten a) (listLeft a)
 
 computed : Case → Outcome
 computed (seek haystack pattern old o) = found haystack pattern old
@@ -50,10 +52,10 @@ cases =
     ∷ []
 
 table : map computed cases ≡ map expected cases
-unfolding cases a found out computed expected searchNumber searchWritten searchPlaces placesOf placesBelow placeAt standsAt matches
+unfolding cases a found out computed expected listNumber listWritten listLeft placesOf placesBelow placeAt standsAt matches
 table = refl
 
 -- a haystack above the limit is refusal 3, and the list keeps what it held
 too-large : (haystack pattern old : List ℕ) → largestRegion < length haystack → found haystack pattern old ≡ out 3 0 old
-unfolding found searchNumber searchWritten searchPlaces
+unfolding found listNumber listWritten listLeft
 too-large haystack pattern old h = simp (lt-ltb largestRegion (length haystack) h)

@@ -8,20 +8,21 @@ use mathlib.Core.Logic.{by-cases}
 use native.Mathlib.Decide.{ℕ-discrete, le-ind}
 use native.Mathlib.Numerals.{add-one}
 use native.Mathlib.Omega.{arith}
-use borrow.Author.Tests.{eq-eqb, eqb-true, eqb-false, le-leb, lt-leb}
+use borrow.Author.Tests.{eq-eqb, eqb-true, eqb-false, le-ltb, le-leb, lt-leb}
 use lib.Dec.{eqb}
 use lib.ListN.{length, getD, drop, set, replicate, length-append, length-drop, length-set, length-replicate, getD-replicate}
 use lib.Seq.{sets, length-sets, set-out, getD-set-same, getD-set-other, getD-drop, take-all, take-at}
 use Rattle.record.proofs.Numbers.{by-test}
-use Rattle.sheet.specs.Filled.{filledNumber, filledWritten, filledBy, laid}
+use Rattle.sheet.specs.Filled.{filledBy, laid, listOutcome, FillsList}
 use Rattle.sheet.specs.Limits.{largestRegion}
 use Rattle.sheet.specs.Refusal.{firstHeld}
 use Rattle.sheet.specs.Sheet.{overlay}
 use Rattle.sheet.specs.declared.filled.Filled.{Filled}
 use Rattle.sheet.specs.declared.filled.Filled.the-variants.{Done, Full}
-use Rattle.sheet.proofs.Laws.{overlay-length, overlay-more, Numbers, filled-numbers}
+use Rattle.sheet.proofs.Filling.{list-filled}
+use Rattle.sheet.proofs.Laws.{overlay-length, overlay-more}
 use Rattle.search.specs.Inner.{Tells, AtMost, Entered, lastOf, Staying, Windows, Skips}
-use Rattle.search.specs.Search.{matches, standsAt, placeAt, placesBelow, placesOf, searchChecks, searchNumber, searchWritten, searchAnswer, searchPlaces}
+use Rattle.search.specs.Search.{matches, standsAt, placeAt, placesBelow, placesOf, searchFilling}
 
 -- ---- a match, byte by byte
 matches-fits : (p s : List ℕ) → matches p s ≡ true → length p ≤ length s
@@ -330,16 +331,8 @@ module _ {haystack pattern old places : List ℕ} {at n : ℕ} (s : Seen haystac
         )
 
 -- ---- the answer
--- THE LAW: its number is that of the first check that holds
-numbers : (haystack pattern : List ℕ) (room : ℕ) →
-    Numbers (searchAnswer haystack pattern room) (searchNumber haystack pattern room) (searchWritten haystack pattern room)
-unfolding searchAnswer searchNumber searchWritten
-numbers haystack pattern room = filled-numbers (firstHeld (searchChecks haystack)) (length (placesOf haystack pattern)) room
-
-pub answers : (haystack pattern old : List ℕ) {r : Filled} {list : List ℕ} →
-    (r ≡ searchAnswer haystack pattern (length old)) × (list ≡ searchPlaces haystack pattern old) →
-    (r ≡ searchAnswer haystack pattern (length old))
-    × ((filledNumber r ≡ searchNumber haystack pattern (length old))
-    × ((filledWritten r ≡ searchWritten haystack pattern (length old)) × (list ≡ searchPlaces haystack pattern old)))
-answers haystack pattern old (e, l) =
-    let n = numbers haystack pattern (length old) in (e, (ap filledNumber e ∙ n .0, (ap filledWritten e ∙ n .1, l)))
+-- THE LAW: behind the check it is what the search came to
+pub searched : (haystack pattern old : List ℕ) {r : Filled} {list : List ℕ} → length haystack ≤ largestRegion →
+    (r ≡ filledBy (length (placesOf haystack pattern)) (length old)) × (list ≡ laid (placesOf haystack pattern) old) →
+    FillsList (searchFilling haystack pattern old) (listOutcome r list)
+searched haystack pattern old fits (e, l) = list-filled _ _ (simp (le-ltb largestRegion (length haystack) fits)) e l

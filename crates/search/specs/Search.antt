@@ -5,11 +5,9 @@ use mathlib.Core.Bool.{Bool, true, false, cond, _&&_}
 use mathlib.Core.List.{List, [], _∷_, _++_}
 use lib.Dec.{eqb, ltb}
 use lib.ListN.{length, drop}
-use Rattle.sheet.specs.Filled.{filledBy, numberAfter, writtenAfter, laid}
+use Rattle.sheet.specs.Filled.{ListFilling}
 use Rattle.sheet.specs.Limits.{largestRegion}
-use Rattle.sheet.specs.Refusal.{Check, firstHeld, after, afterOrKept}
-use Rattle.sheet.specs.declared.filled.Filled.{Filled}
-use Rattle.sheet.specs.declared.filled.Filled.the-variants.{Refused}
+use Rattle.sheet.specs.Refusal.{Check, firstHeld}
 use Rattle.sheet.specs.declared.refusal.Refusal.the-variants.{TooLarge}
 
 -- ---- places
@@ -48,17 +46,7 @@ tooLarge haystack = ltb largestRegion (length haystack)
 abbrev pub searchChecks : List ℕ → List Check
 searchChecks haystack = record { refusal = TooLarge; holds = tooLarge haystack } ∷ []
 
--- Rule 1.1: the number that the call answers with, and how many places it says are written, with so many cells lent
-unfoldable pub searchNumber : List ℕ → List ℕ → ℕ → ℕ
-searchNumber haystack pattern room = numberAfter (firstHeld (searchChecks haystack)) (length (placesOf haystack pattern)) room
-
-unfoldable pub searchWritten : List ℕ → List ℕ → ℕ → ℕ
-searchWritten haystack pattern room = writtenAfter (firstHeld (searchChecks haystack)) (length (placesOf haystack pattern)) room
-
--- what a search answers
-unfoldable pub searchAnswer : List ℕ → List ℕ → ℕ → Filled
-searchAnswer haystack pattern room = after Refused (firstHeld (searchChecks haystack)) (filledBy (length (placesOf haystack pattern)) room)
-
--- what it leaves in the list, by what the list held
-unfoldable pub searchPlaces : List ℕ → List ℕ → List ℕ → List ℕ
-searchPlaces haystack pattern old = afterOrKept (firstHeld (searchChecks haystack)) (laid (placesOf haystack pattern) old) old
+-- what its answer rests on, with such a list lent
+abbrev pub searchFilling : List ℕ → List ℕ → List ℕ → ListFilling
+searchFilling haystack pattern old =
+    record { checked = firstHeld (searchChecks haystack); things = placesOf haystack pattern; old = old }

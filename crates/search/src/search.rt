@@ -7,9 +7,9 @@ ghost use Prim.Native.Nat.{_+_, _-_, _≤_, _<_};
 ghost use lib.ListN.{length, getD, set};
 ghost use lib.Seq.{sets};
 ghost use Rattle.search.specs.Inner.{SameFrom, Tells, Entered, AtMost, Windows, Skips, Ends};
-ghost use Rattle.sheet.specs.Filled.{filledNumber, filledWritten, filledBy, laid};
+ghost use Rattle.sheet.specs.Filled.{filledBy, laid, listOutcome, FillsList};
 ghost use Rattle.sheet.specs.Limits.{largestRegion};
-ghost use Rattle.search.specs.Search.{standsAt, placeAt, placesOf, searchNumber, searchWritten, searchAnswer, searchPlaces};
+ghost use Rattle.search.specs.Search.{standsAt, placeAt, placesOf, searchFilling};
 
 // For each byte that a window may end with: how far on the pattern holds it there, too.
 fn shifts(pattern: &[u8]) -> [usize; 256]
@@ -170,11 +170,8 @@ fn slide(haystack: &[u8], pattern: &[u8], places: &mut [u64]) -> Filled
 }
 
 pub fn boyer_moore_search(haystack: &[u8], pattern: &[u8], places: &mut [u64]) -> Filled
-    ensures answer { λ r. ⌜ r ≡ searchAnswer (now (haystack .entry)) (now (pattern .entry)) (length (now (places .entry))) ⌝ }
-    ensures number { λ r. ⌜ filledNumber r ≡ searchNumber (now (haystack .entry)) (now (pattern .entry)) (length (now (places .entry))) ⌝ }
-    ensures written { λ r. ⌜ filledWritten r ≡ searchWritten (now (haystack .entry)) (now (pattern .entry))
-        (length (now (places .entry))) ⌝ }
-    ensures list { λ _. ⌜ now (places .exit) ≡ searchPlaces (now (haystack .entry)) (now (pattern .entry)) (now (places .entry)) ⌝ }
+    ensures { λ r. ⌜ FillsList (searchFilling (now (haystack .entry)) (now (pattern .entry)) (now (places .entry)))
+        (listOutcome r (now (places .exit))) ⌝ }
 {
     if haystack.len() > LARGEST_REGION {
         return Filled::Refused(Refusal::TooLarge);

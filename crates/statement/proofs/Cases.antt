@@ -5,9 +5,10 @@ use Prim.Native.String.{String}
 use mathlib.Core.Path.{_≡_, refl}
 use mathlib.Core.List.{List, [], _∷_, _++_, map}
 use lib.ListN.{length, replicate}
-use Rattle.statement.specs.Statement.{between, hintOf, isRowId, isSkipped, pieceHints, allHints, hintsOf, statementChecks, statementNumber, statementWritten, statementHints}
+use Rattle.statement.specs.Statement.{between, hintOf, isRowId, isSkipped, pieceHints, allHints, hintsOf, statementChecks, statementFilling}
 use Rattle.words.specs.Runs.{isBlank, takeWhile, dropWhile, has, behindFirst, beforeLast}
 use Rattle.words.specs.Words.{bytes, raise, trim, pieces, firstWord, secondWord, startsWith, equals, holds}
+use Rattle.sheet.specs.Filled.{listNumber, listWritten, listLeft}
 use Rattle.sheet.specs.Limits.{countFits}
 
 -- a statement and how many cells are lent, with the answer's number, how many hints are written, and the hints
@@ -20,7 +21,9 @@ cells n = replicate n 99
 
 -- the case as the definitions have it
 computed : Case → Case
-computed (case s room number written hints) = case s room (statementNumber s room) (statementWritten s room) (statementHints s (cells room))
+computed (case s room number written hints) =
+    let a = statementFilling s (cells room) in
+    case s room (listNumber a) (listWritten a) (listLeft a)
 
 -- a list that the hints fill
 abbrev sql : String → List ℕ → Case
@@ -79,5 +82,5 @@ cases : List Case
 cases = given ++ refused ++ roomed ++ counted
 
 table : map computed cases ≡ cases
-unfolding cases given refused roomed counted several computed statementNumber statementWritten statementHints statementChecks hintsOf allHints pieceHints isSkipped isRowId hintOf between equals holds startsWith secondWord firstWord pieces beforeLast behindFirst has trim dropWhile takeWhile raise isBlank countFits
+unfolding cases given refused roomed counted several computed listNumber listWritten listLeft statementChecks hintsOf allHints pieceHints isSkipped isRowId hintOf between equals holds startsWith secondWord firstWord pieces beforeLast behindFirst has trim dropWhile takeWhile raise isBlank countFits
 table = refl

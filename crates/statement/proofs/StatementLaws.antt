@@ -9,13 +9,13 @@ use borrow.Author.Tests.{lt-ltb, le-ltb, le-leb, lt-leb, leb-true, leb-false}
 use lib.Dec.{leb}
 use lib.ListN.{length, take, drop, length-append}
 use lib.Seq.{sets, set-out, take-all, take-nil, take-append-seam, take-append-le, length-take-le}
-use Rattle.statement.specs.Statement.{largestStatement, opening, closing, between, pieceHints, allHints, hintsOf, statementNumber, statementWritten, statementChecks, statementAnswer, statementHints}
+use Rattle.statement.specs.Statement.{opening, closing, between, pieceHints, allHints, hintsOf, statementChecks, statementFilling}
 use Rattle.words.specs.Inner.{Kept, PieceEnds, piecesFrom}
 use Rattle.words.specs.Runs.{isNot, has, behindFirst, beforeLast}
 use Rattle.words.specs.Words.{trim, pieces}
 use Rattle.words.proofs.Laws.{behind-has, kept-has, kept-before, pieces-none}
-use Rattle.sheet.specs.Filled.{filledNumber, filledWritten, laid}
-use Rattle.sheet.specs.Limits.{mostColumns, countFits}
+use Rattle.sheet.specs.Filled.{laid, listOutcome, FillsList}
+use Rattle.sheet.specs.Limits.{mostColumns, largestStatement, countFits}
 use Rattle.sheet.specs.Refusal.{firstHeld}
 use Rattle.sheet.specs.declared.filled.Filled.{Filled}
 use Rattle.sheet.specs.declared.filled.Filled.the-variants.{Done, Full, Refused}
@@ -23,7 +23,8 @@ use Rattle.sheet.specs.declared.refusal.Checked.the-variants.{Passed, Refused a
 use Rattle.sheet.specs.declared.refusal.Refusal.{Refusal}
 use Rattle.sheet.specs.declared.refusal.Refusal.the-variants.{ColumnCount, TooLarge, NoColumnList}
 use Rattle.record.proofs.Numbers.{by-test}
-use Rattle.sheet.proofs.Laws.{overlay-length, overlay-more, Numbers, filled-numbers}
+use Rattle.sheet.proofs.Laws.{overlay-length, overlay-more}
+use Rattle.sheet.proofs.Filling.{list-refused, list-filled}
 
 -- ---- the hints of the pieces from a place on
 pub hints-next : {s : List ℕ} {at e : ℕ} → PieceEnds s at e →
@@ -96,34 +97,20 @@ pub fits-most : (n : ℕ) → countFits n ≡ true → n ≤ mostColumns
 unfolding countFits
 fits-most n h = leb-true n mostColumns (and-eq-true-iff (leb 1 n) (leb n mostColumns) .0 h .1)
 
--- THE LAW: the number is that of the first check that holds
-numbers : (s : List ℕ) (room : ℕ) → Numbers (statementAnswer s room) (statementNumber s room) (statementWritten s room)
-unfolding statementAnswer statementNumber statementWritten
-numbers s room = filled-numbers (firstHeld (statementChecks s)) (length (hintsOf s)) room
-
 abbrev Answers : List ℕ → List ℕ → Filled → List ℕ → Type 0
-Answers s old r hints =
-    (r ≡ statementAnswer s (length old))
-    × ((filledNumber r ≡ statementNumber s (length old)) × ((filledWritten r ≡ statementWritten s (length old)) × (hints ≡ statementHints s old)))
-
-answers : (s old : List ℕ) {r : Filled} {hints : List ℕ} → r ≡ statementAnswer s (length old) → hints ≡ statementHints s old → Answers s old r hints
-answers s old e l = let n = numbers s (length old) in (e, (ap filledNumber e ∙ n .0, (ap filledWritten e ∙ n .1, l)))
-
-refused-by : (s old : List ℕ) {r : Refusal} → firstHeld (statementChecks s) ≡ Stopped r → Answers s old (Refused r) old
-unfolding statementAnswer statementHints
-refused-by s old h = answers s old (simp h) (simp h)
+Answers s old r hints = FillsList (statementFilling s old) (listOutcome r hints)
 
 -- THE LAW: the first check that holds refuses, and leaves the list as it was
 pub too-large : (s old : List ℕ) → largestStatement < length s → Answers s old (Refused TooLarge) old
 unfolding statementChecks
-too-large s old h = refused-by s old (simp (lt-ltb largestStatement (length s) h))
+too-large s old h = list-refused _ _ (simp (lt-ltb largestStatement (length s) h))
 
 pub no-list : (s old rest : List ℕ) (e : ℕ) → length s ≤ largestStatement → rest ≡ behindFirst opening s → Kept (isNot closing) rest e → e ≡ 0 →
     Answers s old (Refused NoColumnList) old
 unfolding statementChecks
 no-list s old rest e small behind k z =
     let none : has closing (behindFirst opening s) ≡ false = rw (← behind) (kept-has closing rest e k ∙ rw z) in
-    refused-by s old (simp (le-ltb largestStatement (length s) small, behind-has opening closing s ∙ ap not none))
+    list-refused _ _ (simp (le-ltb largestStatement (length s) small, behind-has opening closing s ∙ ap not none))
 
 -- a statement of few enough bytes, and the columns that it lists
 pub record Lists (s columns : List ℕ) : Type 0 where
@@ -156,21 +143,19 @@ module _ {s columns : List ℕ} {n : ℕ} (k : Counts s columns n) where
       simp (le-ltb largestStatement (length s) (k .lists .small), behind-has opening closing s ∙ ap not (k .lists .listed), counted)
 
   pub bad-count : (old : List ℕ) → countFits n ≡ false → Answers s old (Refused ColumnCount) old
-  bad-count old h = refused-by s old (last-check ∙ rw h)
+  bad-count old h = list-refused _ _ (last-check ∙ rw h)
 
   -- THE LAW: past the checks the first hints are written, and the room decides
   module _ (old hints : List ℕ) (fits : countFits n ≡ true) (put : hints ≡ laid (allHints (pieces columns)) old) where
     passed : firstHeld (statementChecks s) ≡ Passed
     passed = last-check ∙ rw fits
 
-    written : hints ≡ statementHints s old
-    unfolding statementHints hintsOf
-    written = rw (passed, ← k .lists .are) put
+    written : hints ≡ laid (hintsOf s) old
+    unfolding hintsOf
+    written = rw (← k .lists .are) put
 
     pub full : length old < n → Answers s old (Full (length old)) hints
-    unfolding statementAnswer
-    full h = answers s old (simp (passed, counted, lt-leb n (length old) h)) written
+    full h = list-filled _ _ passed (simp (counted, lt-leb n (length old) h)) written
 
     pub done : n ≤ length old → Answers s old (Done n) hints
-    unfolding statementAnswer
-    done h = answers s old (simp (passed, counted, le-leb n (length old) h)) written
+    done h = list-filled _ _ passed (simp (counted, le-leb n (length old) h)) written

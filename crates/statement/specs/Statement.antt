@@ -8,16 +8,10 @@ use lib.Dec.{ltb, eqb}
 use lib.ListN.{length}
 use Rattle.words.specs.Runs.{has, behindFirst, beforeLast}
 use Rattle.words.specs.Words.{bytes, trim, pieces, secondWord, holds, starting, whole, meetsOne}
-use Rattle.sheet.specs.Filled.{filledBy, numberAfter, writtenAfter, laid}
-use Rattle.sheet.specs.Limits.{integerHint, realHint, textHint, blobHint, anyHint, countFits}
-use Rattle.sheet.specs.Refusal.{Check, firstHeld, after, afterOrKept}
-use Rattle.sheet.specs.declared.filled.Filled.{Filled}
-use Rattle.sheet.specs.declared.filled.Filled.the-variants.{Refused}
+use Rattle.sheet.specs.Filled.{ListFilling}
+use Rattle.sheet.specs.Limits.{integerHint, realHint, textHint, blobHint, anyHint, largestStatement, countFits}
+use Rattle.sheet.specs.Refusal.{Check, firstHeld}
 use Rattle.sheet.specs.declared.refusal.Refusal.the-variants.{ColumnCount, TooLarge, NoColumnList}
-
--- the most bytes that a statement may have
-abbrev pub largestStatement : ℕ
-largestStatement = 65536
 
 -- the bracket before the columns
 abbrev pub opening : ℕ
@@ -100,17 +94,6 @@ statementChecks s =
     ∷ record { refusal = ColumnCount; holds = miscounted s }
     ∷ []
 
--- Rule 6.6: the number that the call answers with, and how many hints it says are written, by the statement and how many cells are lent
-unfoldable pub statementNumber : List ℕ → ℕ → ℕ
-statementNumber s room = numberAfter (firstHeld (statementChecks s)) (length (hintsOf s)) room
-
-unfoldable pub statementWritten : List ℕ → ℕ → ℕ
-statementWritten s room = writtenAfter (firstHeld (statementChecks s)) (length (hintsOf s)) room
-
--- what the call returns
-unfoldable pub statementAnswer : List ℕ → ℕ → Filled
-statementAnswer s room = after Refused (firstHeld (statementChecks s)) (filledBy (length (hintsOf s)) room)
-
--- Rule 6.5: what the call leaves in the list, by the statement and what the list held
-unfoldable pub statementHints : List ℕ → List ℕ → List ℕ
-statementHints s old = afterOrKept (firstHeld (statementChecks s)) (laid (hintsOf s) old) old
+-- what its answer rests on, with such a list lent
+abbrev pub statementFilling : List ℕ → List ℕ → ListFilling
+statementFilling s old = record { checked = firstHeld (statementChecks s); things = hintsOf s; old = old }

@@ -1,4 +1,5 @@
 // The hints of the columns that a CREATE TABLE statement lists, read where the statement lies.
+use sheet::LARGEST_STATEMENT;
 use sheet::MOST_COLUMNS;
 use sheet::filled::Filled;
 use sheet::hint::ANY;
@@ -21,16 +22,15 @@ ghost use mathlib.Core.Path.{_≡_};
 ghost use Prim.Native.Nat.{_+_, _≤_, _<_};
 ghost use lib.ListN.{length};
 ghost use lib.Seq.{sets};
-ghost use Rattle.sheet.specs.Filled.{filledNumber, filledWritten, laid};
+ghost use Rattle.sheet.specs.Filled.{laid, listOutcome, FillsList};
 ghost use Rattle.statement.specs.Inner.{givenHints};
 ghost use Rattle.statement.specs.Statement.{closing, isInteger, isText, isReal, isBlob, hintOf, isRowId, isConstraint, isSkipped};
-ghost use Rattle.statement.specs.Statement.{pieceHints, allHints, statementNumber, statementWritten, statementAnswer, statementHints};
+ghost use Rattle.statement.specs.Statement.{pieceHints, allHints, statementFilling};
 ghost use Rattle.words.specs.Inner.{Kept};
 ghost use Rattle.words.specs.Runs.{isNot};
 ghost use Rattle.words.specs.Words.{trim, pieces};
 
 // In bytes.
-pub const LARGEST_STATEMENT: usize = 65_536;
 
 // What a piece gives.
 enum Given {
@@ -191,10 +191,8 @@ fn list_end(rest: &[u8]) -> usize
 }
 
 pub fn from_create_sql(statement: &[u8], hints: &mut [u8]) -> Filled
-    ensures answer { λ r. ⌜ r ≡ statementAnswer (now (statement .entry)) (length (now (hints .entry))) ⌝ }
-    ensures number { λ r. ⌜ filledNumber r ≡ statementNumber (now (statement .entry)) (length (now (hints .entry))) ⌝ }
-    ensures written { λ r. ⌜ filledWritten r ≡ statementWritten (now (statement .entry)) (length (now (hints .entry))) ⌝ }
-    ensures list { λ _. ⌜ now (hints .exit) ≡ statementHints (now (statement .entry)) (now (hints .entry)) ⌝ }
+    ensures { λ r. ⌜ FillsList (statementFilling (now (statement .entry)) (now (hints .entry)))
+        (listOutcome r (now (hints .exit))) ⌝ }
 {
     if statement.len() > LARGEST_STATEMENT {
         return Filled::Refused(Refusal::TooLarge);

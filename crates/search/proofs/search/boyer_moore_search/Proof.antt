@@ -1,24 +1,22 @@
 -- `search::search::boyer_moore_search` meets its contract: behind the checks it is the sliding window's answer, or there is no place.
 -- Assumes nothing.
-use mathlib.Core.Path.{refl}
 use borrow.Author.Needs.{needs}
-use borrow.Author.Tests.{lt-ltb, le-ltb}
-use Rattle.search.specs.Search.{placesBelow, searchAnswer, searchPlaces}
-use Rattle.search.proofs.Searching.{answers, empty-nowhere, ended, seen-none, seen-all}
+use borrow.Author.Tests.{lt-ltb}
+use Rattle.search.specs.Search.{placesBelow}
+use Rattle.search.proofs.Searching.{searched, empty-nowhere, ended, seen-none, seen-all}
+use Rattle.sheet.proofs.Filling.{list-refused}
 use Rattle.search.proofs.search.boyer_moore_search.Statement.{statement}
 use Rattle.search.proofs.search.boyer_moore_search.Tie as tie
 
 returns : tie.Need-returns
-unfolding searchAnswer searchPlaces
-returns c = answers _ _ _ (simp (lt-ltb _ _ (c .if1 .taken)) (refl, refl))
+returns c = list-refused _ _ (simp (lt-ltb _ _ (c .if1 .taken)))
 
 returns-2 : tie.Need-returns-2
-unfolding searchAnswer searchPlaces placesBelow
-returns-2 c = answers _ _ _ (simp (le-ltb _ _ (c .before .if1 .left)) (seen-all seen-none (empty-nowhere _ _ (c .if2 .taken))))
+unfolding placesBelow
+returns-2 c = searched _ _ _ (c .before .if1 .left) (seen-all seen-none (empty-nowhere _ _ (c .if2 .taken)))
 
 returns-3 : tie.Need-returns-3
-unfolding searchAnswer searchPlaces
-returns-3 c = answers _ _ _ (simp (le-ltb _ _ (c .before .before .if1 .left)) (seen-all seen-none (ended _ _ 0 (search needs) (search needs) (search needs))))
+returns-3 c = searched _ _ _ (c .before .before .if1 .left) (seen-all seen-none (ended _ _ 0 (search needs) (search needs) (search needs)))
 
 slide-requires : tie.Need-slide-requires
 slide-requires c κs = (search needs, (search needs, search needs))
@@ -27,8 +25,7 @@ same-length : tie.Need-same-length
 same-length c = search needs
 
 returns-4 : tie.Need-returns-4
-unfolding searchAnswer searchPlaces
-returns-4 c = answers _ _ _ (simp (le-ltb _ _ (c .before .before .before .before .before .before .if1 .left)) (c .before .before .slide .ensures))
+returns-4 c = searched _ _ _ (c .before .before .before .before .before .before .if1 .left) (c .before .before .slide .ensures)
 
 pub boyer-moore-search-spec : {M : Type 1} → statement M
 boyer-moore-search-spec = tie.close (tie.spec returns returns-2 returns-3 slide-requires same-length returns-4)

@@ -2,7 +2,7 @@
 -- places of the first give the same ones here, too.
 -- Assumes nothing.
 use Prim.Native.Nat.{ℕ}
-use mathlib.Core.Path.{_≡_, sym, _∙_}
+use mathlib.Core.Path.{_≡_, sym, ap, _∙_}
 use contract.Lifetimes.{Lfts}
 use denote.Ref.{now}
 use denote.Triple.Clauses.{AtExit}
@@ -13,6 +13,7 @@ use Rattle.scan.proofs.Leaving.{sheet-left, count-left}
 use Rattle.scan.proofs.SameRun.{same-sheet}
 use Rattle.scan.specs.Sheet.{Sheet, sheetOf, Asked, asked, askedChecked, askedSheet, askedCount, Alike, Counts}
 use Rattle.sheet.specs.declared.refusal.Checked.the-variants.{Passed}
+use Rattle.phsarodil.specs.Returns.{scannedRows}
 use Rattle.phsarodil.proofs.rows.phs_scan_region.Kinds as kinds
 use Rattle.phsarodil.proofs.rows.phs_scan_region.Reads as phs-scan-region
 
@@ -29,11 +30,14 @@ module _ (k : Lfts 5) where
 
   pub sheet-is : (a : Dens k kinds.ps) (x : resT kinds.r k .Denot) (s : AtExit (endedOf 5 kinds.ps kinds.r) k) → phs-scan-region.Post k a x s
       → (sheet a x s ≡ askedSheet (question a)) × (word s 2 ≡ askedCount (question a))
+  unfolding scannedRows
   sheet-is a x s p =
       let rows = now (a .1 .1 .1 .1 .0) in
-      let cols = now (a .1 .1 .1 .1 .1 .0) in (
-        rw (p .0, p .1 .0, p .1 .1 .0, p .1 .1 .1) (sheet-left (now (a .0)) (now (a .1 .0)) (a .1 .1 .0) (a .1 .1 .1 .0) rows cols),
-        rw (p .1 .0) (count-left (now (a .0)) (now (a .1 .0)) (a .1 .1 .0) (a .1 .1 .1 .0) rows cols),
+      let cols = now (a .1 .1 .1 .1 .1 .0) in
+      let out = ap (λ y. y .out) p in (
+        rw (ap (λ y. y .number) p, out, ap (λ y. y .rows) p, ap (λ y. y .cols) p)
+            (sheet-left (now (a .0)) (now (a .1 .0)) (a .1 .1 .0) (a .1 .1 .1 .0) rows cols),
+        rw out (count-left (now (a .0)) (now (a .1 .0)) (a .1 .1 .0) (a .1 .1 .1 .0) rows cols),
       )
 
   pub gives-away : (a b : Dens k kinds.ps) → Alike (question a) (question b) → (x y : resT kinds.r k .Denot) (s t : AtExit (endedOf 5 kinds.ps kinds.r) k)

@@ -17,7 +17,6 @@ use Rattle.record.specs.declared.varint.Read.{Read}
 use Rattle.record.specs.declared.varint.Read.the-variants.{Number, Nothing as Short}
 use Rattle.page.specs.declared.btree.Paged.{Paged}
 use Rattle.page.specs.declared.btree.Paged.the-variants.{At, Refused}
-use Rattle.scan.specs.Scan.{scanWritten, scanPlace, scanCount}
 use Rattle.tagged.specs.Tagged.{tagOf, bitsOf}
 
 -- phs_read_varint: found, value, bytes taken
@@ -49,13 +48,7 @@ entryWords s at Bad = 0 ∷ 0 ∷ 0 ∷ 0 ∷ []
 abbrev pub viewWords : ℕ → List ℕ → List ℕ
 viewWords start shown = cond (eqb (length shown) 0) (0 ∷ 0 ∷ []) (start ∷ length shown ∷ [])
 
--- ---- rows and pages
-
--- phs_scan_region: rows written, place, header bytes read
-abbrev pub scanWords : List ℕ → List ℕ → ℕ → ℕ → ℕ → ℕ → List ℕ
-scanWords s hints base start rows cols =
-    scanWritten s hints base start rows cols ∷ scanPlace s hints base start rows cols ∷ scanCount s hints base start rows cols ∷ []
-
+-- ---- a page
 -- phs_get_page_data: where the page starts, its length, and where its b-tree header stands in it
 abbrev pub pagedWords : Paged → List ℕ
 pagedWords (At start len head) = start ∷ len ∷ head ∷ []

@@ -1,2 +1,3 @@
 pub mod Door
+pub mod Returns
 pub mod Version

@@ -10,14 +10,13 @@ use sheet::hint::hint_count_fits;
 use tables::gaps::scan_page_gaps;
 use walk::inner::checks::counts_fit;
 ghost use mathlib.Core.Path.{_≡_};
-ghost use mathlib.Core.List.{[], _∷_};
 ghost use lib.ListN.{length};
-ghost use Rattle.carving.specs.Calls.{sliceAsked, sliceRows, sliceCols, sliceNumber, sliceWritten, numberedAsked, numberedRows};
-ghost use Rattle.carving.specs.Calls.{numberedCols, numberedNumber, numberedWritten};
+ghost use Rattle.carving.specs.Calls.{sliceAsked, sliceFilling, numberedAsked, numberedFilling};
 ghost use Rattle.carving.specs.declared.inner.Carving.the-variants.{Gaps, Payload};
+ghost use Rattle.phsarodil.specs.Returns.{rowReturn, filledRows, refusedRows, tablesReturn, carvedTables, refusedTables};
 ghost use Rattle.rebuild.specs.Ways.{named as wayNamed, byName, unnamedNumber};
 ghost use Rattle.sheet.specs.Limits.{countFits};
-ghost use Rattle.tables.specs.Calls.{asked, tabledRows, tabledCols, tabledCleared, tabledNumber, tabledWritten};
+ghost use Rattle.tables.specs.Calls.{asked};
 ghost use Rattle.walk.specs.Carve.{countsFit};
 
 #[no_mangle]
@@ -34,25 +33,12 @@ pub extern "C" fn phs_scan_page_gaps(
     cols: &mut [u64],
     out: &mut [u64; 1],
 ) -> u64
-    ensures number { λ r. ⌜ r ≡ byName (wayNamed rebuilding) (λ how. tabledNumber
+    ensures { λ r. ⌜ tablesReturn r (now (out .exit)) (now (flags .exit)) (now (stack .exit)) (now (rows .exit)) (now (cols .exit))
+        ≡ byName (wayNamed rebuilding) (λ how. carvedTables
         (asked (Gaps how) (now (db .entry)) size (now (roots .entry)) (now (counts .entry)) (now (hints .entry))
         (now (flags .entry)) (now (stack .entry)) (now (rows .entry)) (now (cols .entry))))
-        (unnamedNumber (countsFit (now (counts .entry)))) ⌝ }
-    ensures out { λ _. ⌜ now (out .exit) ≡ byName (wayNamed rebuilding) (λ how. tabledWritten
-        (asked (Gaps how) (now (db .entry)) size (now (roots .entry)) (now (counts .entry)) (now (hints .entry))
-        (now (flags .entry)) (now (stack .entry)) (now (rows .entry)) (now (cols .entry)))) 0 ∷ [] ⌝ }
-    ensures rows { λ _. ⌜ now (rows .exit) ≡ byName (wayNamed rebuilding) (λ how. tabledRows
-        (asked (Gaps how) (now (db .entry)) size (now (roots .entry)) (now (counts .entry)) (now (hints .entry))
-        (now (flags .entry)) (now (stack .entry)) (now (rows .entry)) (now (cols .entry)))) (now (rows .entry)) ⌝ }
-    ensures cols { λ _. ⌜ now (cols .exit) ≡ byName (wayNamed rebuilding) (λ how. tabledCols
-        (asked (Gaps how) (now (db .entry)) size (now (roots .entry)) (now (counts .entry)) (now (hints .entry))
-        (now (flags .entry)) (now (stack .entry)) (now (rows .entry)) (now (cols .entry)))) (now (cols .entry)) ⌝ }
-    ensures flags { λ _. ⌜ now (flags .exit) ≡ byName (wayNamed rebuilding) (λ how. tabledCleared
-        (asked (Gaps how) (now (db .entry)) size (now (roots .entry)) (now (counts .entry)) (now (hints .entry))
-        (now (flags .entry)) (now (stack .entry)) (now (rows .entry)) (now (cols .entry))) (now (flags .entry))) (now (flags .entry)) ⌝ }
-    ensures stack { λ _. ⌜ now (stack .exit) ≡ byName (wayNamed rebuilding) (λ how. tabledCleared
-        (asked (Gaps how) (now (db .entry)) size (now (roots .entry)) (now (counts .entry)) (now (hints .entry))
-        (now (flags .entry)) (now (stack .entry)) (now (rows .entry)) (now (cols .entry))) (now (stack .entry))) (now (stack .entry)) ⌝ }
+        (refusedTables (unnamedNumber (countsFit (now (counts .entry)))) (now (flags .entry)) (now (stack .entry))
+        (now (rows .entry)) (now (cols .entry))) ⌝ }
 {
     let Way::By(how) = named(rebuilding) else {
         *out = [0];
@@ -85,18 +71,9 @@ pub extern "C" fn phs_scan_page_gap(
     cols: &mut [u64],
     out: &mut [u64; 1],
 ) -> u64
-    ensures number { λ r. ⌜ r ≡ byName (wayNamed rebuilding) (λ how. numberedNumber
-        (numberedAsked (Gaps how) (now (db .entry)) size page (now (hints .entry)) (now (rows .entry)) (now (cols .entry))))
-        (unnamedNumber (countFits (length (now (hints .entry))))) ⌝ }
-    ensures out { λ _. ⌜ now (out .exit) ≡ byName (wayNamed rebuilding)
-        (λ how. numberedWritten (numberedAsked (Gaps how) (now (db .entry)) size page (now (hints .entry)) (now (rows .entry))
-        (now (cols .entry)))) 0 ∷ [] ⌝ }
-    ensures rows { λ _. ⌜ now (rows .exit) ≡ byName (wayNamed rebuilding)
-        (λ how. numberedRows (numberedAsked (Gaps how) (now (db .entry)) size page (now (hints .entry)) (now (rows .entry))
-        (now (cols .entry)))) (now (rows .entry)) ⌝ }
-    ensures cols { λ _. ⌜ now (cols .exit) ≡ byName (wayNamed rebuilding)
-        (λ how. numberedCols (numberedAsked (Gaps how) (now (db .entry)) size page (now (hints .entry)) (now (rows .entry))
-        (now (cols .entry)))) (now (cols .entry)) ⌝ }
+    ensures { λ r. ⌜ rowReturn r (now (out .exit)) (now (rows .exit)) (now (cols .exit)) ≡ byName (wayNamed rebuilding) (λ how. filledRows (numberedFilling
+        (numberedAsked (Gaps how) (now (db .entry)) size page (now (hints .entry)) (now (rows .entry)) (now (cols .entry)))))
+        (refusedRows (unnamedNumber (countFits (length (now (hints .entry))))) (now (rows .entry)) (now (cols .entry))) ⌝ }
 {
     let Way::By(how) = named(rebuilding) else {
         *out = [0];
@@ -118,18 +95,9 @@ pub extern "C" fn phs_scan_single_page_gap(
     cols: &mut [u64],
     out: &mut [u64; 1],
 ) -> u64
-    ensures number { λ r. ⌜ r ≡ byName (wayNamed rebuilding) (λ how. sliceNumber
-        (sliceAsked (Gaps how) (now (page .entry)) head base (now (hints .entry)) (now (rows .entry)) (now (cols .entry))))
-        (unnamedNumber (countFits (length (now (hints .entry))))) ⌝ }
-    ensures out { λ _. ⌜ now (out .exit) ≡ byName (wayNamed rebuilding)
-        (λ how. sliceWritten (sliceAsked (Gaps how) (now (page .entry)) head base (now (hints .entry)) (now (rows .entry))
-        (now (cols .entry)))) 0 ∷ [] ⌝ }
-    ensures rows { λ _. ⌜ now (rows .exit) ≡ byName (wayNamed rebuilding)
-        (λ how. sliceRows (sliceAsked (Gaps how) (now (page .entry)) head base (now (hints .entry)) (now (rows .entry))
-        (now (cols .entry)))) (now (rows .entry)) ⌝ }
-    ensures cols { λ _. ⌜ now (cols .exit) ≡ byName (wayNamed rebuilding)
-        (λ how. sliceCols (sliceAsked (Gaps how) (now (page .entry)) head base (now (hints .entry)) (now (rows .entry))
-        (now (cols .entry)))) (now (cols .entry)) ⌝ }
+    ensures { λ r. ⌜ rowReturn r (now (out .exit)) (now (rows .exit)) (now (cols .exit)) ≡ byName (wayNamed rebuilding) (λ how. filledRows (sliceFilling
+        (sliceAsked (Gaps how) (now (page .entry)) head base (now (hints .entry)) (now (rows .entry)) (now (cols .entry)))))
+        (refusedRows (unnamedNumber (countFits (length (now (hints .entry))))) (now (rows .entry)) (now (cols .entry))) ⌝ }
 {
     let Way::By(how) = named(rebuilding) else {
         *out = [0];
@@ -150,18 +118,9 @@ pub extern "C" fn phs_parse_cells_from_freeblock(
     cols: &mut [u64],
     out: &mut [u64; 1],
 ) -> u64
-    ensures number { λ r. ⌜ r ≡ byName (wayNamed rebuilding) (λ how. sliceNumber
-        (sliceAsked (Payload how) (now (payload .entry)) 0 base (now (hints .entry)) (now (rows .entry)) (now (cols .entry))))
-        (unnamedNumber (countFits (length (now (hints .entry))))) ⌝ }
-    ensures out { λ _. ⌜ now (out .exit) ≡ byName (wayNamed rebuilding)
-        (λ how. sliceWritten (sliceAsked (Payload how) (now (payload .entry)) 0 base (now (hints .entry)) (now (rows .entry))
-        (now (cols .entry)))) 0 ∷ [] ⌝ }
-    ensures rows { λ _. ⌜ now (rows .exit) ≡ byName (wayNamed rebuilding)
-        (λ how. sliceRows (sliceAsked (Payload how) (now (payload .entry)) 0 base (now (hints .entry)) (now (rows .entry))
-        (now (cols .entry)))) (now (rows .entry)) ⌝ }
-    ensures cols { λ _. ⌜ now (cols .exit) ≡ byName (wayNamed rebuilding)
-        (λ how. sliceCols (sliceAsked (Payload how) (now (payload .entry)) 0 base (now (hints .entry)) (now (rows .entry))
-        (now (cols .entry)))) (now (cols .entry)) ⌝ }
+    ensures { λ r. ⌜ rowReturn r (now (out .exit)) (now (rows .exit)) (now (cols .exit)) ≡ byName (wayNamed rebuilding) (λ how. filledRows (sliceFilling
+        (sliceAsked (Payload how) (now (payload .entry)) 0 base (now (hints .entry)) (now (rows .entry)) (now (cols .entry)))))
+        (refusedRows (unnamedNumber (countFits (length (now (hints .entry))))) (now (rows .entry)) (now (cols .entry))) ⌝ }
 {
     let Way::By(how) = named(rebuilding) else {
         *out = [0];

@@ -2,10 +2,9 @@
 use learn::learn::learn_signatures;
 use unalloc::unalloc::carve_unallocated;
 ghost use mathlib.Core.Path.{_≡_};
-ghost use mathlib.Core.List.{[], _∷_};
-ghost use lib.ListN.{length};
-ghost use Rattle.learn.specs.Learn.{learnNumber, learnWritten, learnTypes};
-ghost use Rattle.unalloc.specs.Learned.{learnedRows, learnedCols, learnedNumber, learnedWritten};
+ghost use Rattle.learn.specs.Learn.{learnFilling};
+ghost use Rattle.phsarodil.specs.Returns.{listReturn, filledList, rowReturn, filledRows};
+ghost use Rattle.unalloc.specs.Learned.{learnedFilling};
 
 #[no_mangle]
 pub extern "C" fn phs_learn_signatures(
@@ -15,10 +14,8 @@ pub extern "C" fn phs_learn_signatures(
     types: &mut [u64],
     out: &mut [u64; 1],
 ) -> u64
-    ensures number { λ r. ⌜ r ≡ learnNumber (now (bytes .entry)) width (now (entries .entry)) (length (now (types .entry))) ⌝ }
-    ensures out { λ _. ⌜ now (out .exit) ≡ learnWritten (now (bytes .entry)) width (now (entries .entry))
-        (length (now (types .entry))) ∷ [] ⌝ }
-    ensures types { λ _. ⌜ now (types .exit) ≡ learnTypes (now (bytes .entry)) width (now (entries .entry)) (now (types .entry)) ⌝ }
+    ensures { λ r. ⌜ listReturn r (now (out .exit)) (now (types .exit)) ≡ filledList
+        (learnFilling (now (bytes .entry)) width (now (entries .entry)) (now (types .entry))) ⌝ }
 {
     let filled = learn_signatures(bytes, width, entries, types);
     *out = [filled.written()];
@@ -34,14 +31,8 @@ pub extern "C" fn phs_carve_unallocated(
     cols: &mut [u64],
     out: &mut [u64; 1],
 ) -> u64
-    ensures number { λ r. ⌜ r ≡ learnedNumber (now (region .entry)) (now (types .entry)) base (length (now (rows .entry)))
-        (length (now (cols .entry))) ⌝ }
-    ensures out { λ _. ⌜ now (out .exit) ≡ learnedWritten (now (region .entry)) (now (types .entry)) base (length (now (rows .entry)))
-        (length (now (cols .entry))) ∷ [] ⌝ }
-    ensures rows { λ _. ⌜ now (rows .exit) ≡ learnedRows (now (region .entry)) (now (types .entry)) base (now (rows .entry))
-        (now (cols .entry)) ⌝ }
-    ensures cols { λ _. ⌜ now (cols .exit) ≡ learnedCols (now (region .entry)) (now (types .entry)) base (now (rows .entry))
-        (now (cols .entry)) ⌝ }
+    ensures { λ r. ⌜ rowReturn r (now (out .exit)) (now (rows .exit)) (now (cols .exit)) ≡ filledRows
+        (learnedFilling (now (region .entry)) (now (types .entry)) base (now (rows .entry)) (now (cols .entry))) ⌝ }
 {
     let filled = carve_unallocated(region, types, base, rows, cols);
     *out = [filled.written()];

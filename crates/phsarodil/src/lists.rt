@@ -2,16 +2,14 @@
 use search::search::boyer_moore_search;
 use statement::statement::from_create_sql;
 ghost use mathlib.Core.Path.{_≡_};
-ghost use mathlib.Core.List.{[], _∷_};
-ghost use lib.ListN.{length};
-ghost use Rattle.search.specs.Search.{searchNumber, searchWritten, searchPlaces};
-ghost use Rattle.statement.specs.Statement.{statementNumber, statementWritten, statementHints};
+ghost use Rattle.phsarodil.specs.Returns.{listReturn, filledList};
+ghost use Rattle.search.specs.Search.{searchFilling};
+ghost use Rattle.statement.specs.Statement.{statementFilling};
 
 #[no_mangle]
 pub extern "C" fn phs_from_create_sql(statement: &[u8], hints: &mut [u8], out: &mut [u64; 1]) -> u64
-    ensures number { λ r. ⌜ r ≡ statementNumber (now (statement .entry)) (length (now (hints .entry))) ⌝ }
-    ensures out { λ _. ⌜ now (out .exit) ≡ statementWritten (now (statement .entry)) (length (now (hints .entry))) ∷ [] ⌝ }
-    ensures hints { λ _. ⌜ now (hints .exit) ≡ statementHints (now (statement .entry)) (now (hints .entry)) ⌝ }
+    ensures { λ r. ⌜ listReturn r (now (out .exit)) (now (hints .exit)) ≡ filledList
+        (statementFilling (now (statement .entry)) (now (hints .entry))) ⌝ }
 {
     let hinted = from_create_sql(statement, hints);
     *out = [hinted.written()];
@@ -25,10 +23,8 @@ pub extern "C" fn phs_boyer_moore_search(
     places: &mut [u64],
     out: &mut [u64; 1],
 ) -> u64
-    ensures number { λ r. ⌜ r ≡ searchNumber (now (haystack .entry)) (now (pattern .entry)) (length (now (places .entry))) ⌝ }
-    ensures out { λ _. ⌜ now (out .exit) ≡ searchWritten (now (haystack .entry)) (now (pattern .entry))
-        (length (now (places .entry))) ∷ [] ⌝ }
-    ensures places { λ _. ⌜ now (places .exit) ≡ searchPlaces (now (haystack .entry)) (now (pattern .entry)) (now (places .entry)) ⌝ }
+    ensures { λ r. ⌜ listReturn r (now (out .exit)) (now (places .exit)) ≡ filledList
+        (searchFilling (now (haystack .entry)) (now (pattern .entry)) (now (places .entry))) ⌝ }
 {
     let searched = boyer_moore_search(haystack, pattern, places);
     *out = [searched.written()];

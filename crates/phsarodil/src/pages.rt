@@ -4,12 +4,11 @@ use page::btree::get_page_data;
 use sheet::refusal::number;
 use walk::walk::collect_leaf_pages;
 ghost use mathlib.Core.Path.{_≡_};
-ghost use mathlib.Core.List.{[], _∷_};
 ghost use lib.ListN.{length};
 ghost use Rattle.page.specs.Page.{pageAnswer, pagedNumber};
 ghost use Rattle.phsarodil.specs.Door.{pagedWords};
-ghost use Rattle.sheet.specs.Refusal.{firstHeld};
-ghost use Rattle.walk.specs.Collect.{walkChecks, collectLeaves, collectNumber, collectWritten, clearedUnless};
+ghost use Rattle.phsarodil.specs.Returns.{leavesReturn, collectedLeaves};
+ghost use Rattle.walk.specs.Collect.{leavesAsked};
 
 #[no_mangle]
 pub extern "C" fn phs_get_page_data(db: &[u8], size: u64, page: u64, out: &mut [u64; 3]) -> u64
@@ -38,16 +37,8 @@ pub extern "C" fn phs_collect_leaf_pages(
     leaves: &mut [u64],
     out: &mut [u64; 1],
 ) -> u64
-    ensures number { λ r. ⌜ r ≡ collectNumber (now (db .entry)) size root (length (now (flags .entry))) (length (now (stack .entry)))
-        (length (now (leaves .entry))) ⌝ }
-    ensures out { λ _. ⌜ now (out .exit) ≡ collectWritten (now (db .entry)) size root (length (now (flags .entry)))
-        (length (now (stack .entry))) (length (now (leaves .entry))) ∷ [] ⌝ }
-    ensures leaves { λ _. ⌜ now (leaves .exit) ≡ collectLeaves (now (db .entry)) size root (length (now (flags .entry)))
-        (length (now (stack .entry))) (now (leaves .entry)) ⌝ }
-    ensures flags { λ _. ⌜ now (flags .exit) ≡ clearedUnless (firstHeld (walkChecks (length (now (db .entry))) size))
-        (now (flags .entry)) ⌝ }
-    ensures stack { λ _. ⌜ now (stack .exit) ≡ clearedUnless (firstHeld (walkChecks (length (now (db .entry))) size))
-        (now (stack .entry)) ⌝ }
+    ensures { λ r. ⌜ leavesReturn r (now (out .exit)) (now (flags .exit)) (now (stack .exit)) (now (leaves .exit)) ≡ collectedLeaves
+        (leavesAsked (now (db .entry)) size root (now (flags .entry)) (now (stack .entry)) (now (leaves .entry))) ⌝ }
 {
     let walked = collect_leaf_pages(db, size, root, flags, stack, leaves);
     *out = [walked.written()];

@@ -4,11 +4,10 @@ use scan::schema_sig::scan_region;
 use scan::schema_sig::try_parse_record;
 ghost use mathlib.Core.Path.{_≡_};
 ghost use mathlib.Core.List.{[], _∷_};
-ghost use lib.ListN.{length};
 ghost use Rattle.attempt.specs.Hints.{compatibleNumber, compatibleWord};
-ghost use Rattle.phsarodil.specs.Door.{scanWords};
-ghost use Rattle.scan.specs.Once.{onceRows, onceCols, onceNumber, onceWritten};
-ghost use Rattle.scan.specs.Scan.{scanRows, scanCols, scanNumber};
+ghost use Rattle.phsarodil.specs.Returns.{rowReturn, attemptedRow, scannedRows};
+ghost use Rattle.scan.specs.Once.{onceFilling};
+ghost use Rattle.scan.specs.Scan.{scanAsked};
 
 #[no_mangle]
 pub extern "C" fn phs_is_compatible(hint: u8, kind: u64, out: &mut [u64; 1]) -> u64
@@ -30,17 +29,11 @@ pub extern "C" fn phs_try_parse_record(
     cols: &mut [u64],
     out: &mut [u64; 3],
 ) -> u64
-    ensures number { λ r. ⌜ r ≡ onceNumber (now (region .entry)) (now (hints .entry)) base offset (length (now (rows .entry)))
-        (length (now (cols .entry))) ⌝ }
-    ensures out { λ _. ⌜ now (out .exit) ≡ onceWritten (now (region .entry)) (now (hints .entry)) base offset
-        (length (now (rows .entry))) (length (now (cols .entry))) ∷ 0 ∷ 0 ∷ [] ⌝ }
-    ensures rows { λ _. ⌜ now (rows .exit) ≡ onceRows (now (region .entry)) (now (hints .entry)) base offset (now (rows .entry))
-        (now (cols .entry)) ⌝ }
-    ensures cols { λ _. ⌜ now (cols .exit) ≡ onceCols (now (region .entry)) (now (hints .entry)) base offset (now (rows .entry))
-        (now (cols .entry)) ⌝ }
+    ensures { λ r. ⌜ rowReturn r (now (out .exit)) (now (rows .exit)) (now (cols .exit)) ≡ attemptedRow
+        (onceFilling (now (region .entry)) (now (hints .entry)) base offset (now (rows .entry)) (now (cols .entry))) ⌝ }
 {
     let answer = try_parse_record(region, hints, base, offset, rows, cols);
-    *out = [answer.written() as u64, 0, 0];
+    *out = [answer.written(), 0, 0];
     answer.number()
 }
 
@@ -54,14 +47,8 @@ pub extern "C" fn phs_scan_region(
     cols: &mut [u64],
     out: &mut [u64; 3],
 ) -> u64
-    ensures number { λ r. ⌜ r ≡ scanNumber (now (region .entry)) (now (hints .entry)) base start (length (now (rows .entry)))
-        (length (now (cols .entry))) ⌝ }
-    ensures out { λ _. ⌜ now (out .exit) ≡ scanWords (now (region .entry)) (now (hints .entry)) base start (length (now (rows .entry)))
-        (length (now (cols .entry))) ⌝ }
-    ensures rows { λ _. ⌜ now (rows .exit) ≡ scanRows (now (region .entry)) (now (hints .entry)) base start (now (rows .entry))
-        (now (cols .entry)) ⌝ }
-    ensures cols { λ _. ⌜ now (cols .exit) ≡ scanCols (now (region .entry)) (now (hints .entry)) base start (now (rows .entry))
-        (now (cols .entry)) ⌝ }
+    ensures { λ r. ⌜ rowReturn r (now (out .exit)) (now (rows .exit)) (now (cols .exit)) ≡ scannedRows
+        (scanAsked (now (region .entry)) (now (hints .entry)) base start (now (rows .entry)) (now (cols .entry))) ⌝ }
 {
     let answer = scan_region(region, hints, base, start, rows, cols);
     let written = answer.written() as u64;

@@ -1,6 +1,7 @@
 -- `phs_recover_freeblocks` meets its contract: number, word and lists are those of the tables.
 -- Assumes nothing.
 use borrow.Author.Needs.{needs}
+use Rattle.phsarodil.proofs.Returning.{tables-returned}
 use Rattle.phsarodil.proofs.freeblocks.phs_recover_freeblocks.Statement.{statement}
 use Rattle.phsarodil.proofs.freeblocks.phs_recover_freeblocks.Tie as tie
 
@@ -26,9 +27,7 @@ same-length-4 : tie.Need-same-length-4
 same-length-4 c = search needs
 
 returns : tie.Need-returns
-returns c =
-    let s = c .before .before .before .before .before .before .before .before .before .before .before .recover-freeblocks .ensures in
-    (rw (← s .number) (c .number .ensures), (rw (c .before .before .written .ensures, s .written), (s .rows, (s .entries, (s .flags, s .stack)))))
+returns c = tables-returned _ _ _ _ (c .before .before .before .before .before .before .before .before .before .before .before .recover-freeblocks .ensures) (c .number .ensures) (c .before .before .written .ensures)
 
 pub phs-recover-freeblocks-spec : {M : Type 1} → statement M
 phs-recover-freeblocks-spec =

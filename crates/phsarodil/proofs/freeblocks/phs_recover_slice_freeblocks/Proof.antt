@@ -1,6 +1,7 @@
 -- `phs_recover_slice_freeblocks` meets its contract: number, word and lists are those of the page slice.
 -- Assumes nothing.
 use borrow.Author.Needs.{needs}
+use Rattle.phsarodil.proofs.Returning.{rows-returned}
 use Rattle.phsarodil.proofs.freeblocks.phs_recover_slice_freeblocks.Statement.{statement}
 use Rattle.phsarodil.proofs.freeblocks.phs_recover_slice_freeblocks.Tie as tie
 
@@ -20,9 +21,7 @@ same-length-2 : tie.Need-same-length-2
 same-length-2 c = search needs
 
 returns : tie.Need-returns
-returns c =
-    let s = c .before .before .before .before .before .before .before .recover-slice-freeblocks .ensures in
-    (rw (← s .number) (c .number .ensures), (rw (c .before .before .written .ensures, s .written), (s .rows, s .entries)))
+returns c = rows-returned _ _ _ _ (c .before .before .before .before .before .before .before .recover-slice-freeblocks .ensures) (c .number .ensures) (c .before .before .written .ensures)
 
 pub phs-recover-slice-freeblocks-spec : {M : Type 1} → statement M
 phs-recover-slice-freeblocks-spec =

@@ -1,7 +1,8 @@
 -- `phs_scan_page_gap` meets its contract: a code that names no way changes nothing, and otherwise number, word and lists are those of the page by its number.
 -- Assumes nothing.
-use mathlib.Core.Path.{refl, sym, _∙_}
+use mathlib.Core.Path.{sym, _∙_}
 use borrow.Author.Needs.{needs}
+use Rattle.phsarodil.proofs.Returning.{rows-returned}
 use Rattle.phsarodil.proofs.gaps.phs_scan_page_gap.Statement.{statement}
 use Rattle.phsarodil.proofs.gaps.phs_scan_page_gap.Tie as tie
 
@@ -23,7 +24,7 @@ unnamed-requires c κs = search needs
 returns : tie.Need-returns
 returns c =
     rw (sym (c .before .before .before .before .before .named .ensures) ∙ c .before .before .before .enum-told .given .1)
-    (rw (c .before .hint-count-fits .ensures) at (c .unnamed .ensures), (refl, (refl, refl)))
+    (rw (c .unnamed .ensures, c .before .hint-count-fits .ensures))
 
 scan-page-gap-requires : tie.Need-scan-page-gap-requires
 scan-page-gap-requires c κs = search needs
@@ -43,9 +44,8 @@ same-length-2 c = search needs
 returns-2 : tie.Need-returns-2
 returns-2 c =
     let at = c .before .before .before .before .before .before .before in
-    let s = at .scan-page-gap .ensures in
     rw (sym (at .before .before .before .before .before .before .named .ensures) ∙ at .before .before .before .before .how .given .1)
-    (rw (← s .number) (c .number .ensures), (rw (c .before .before .written .ensures, s .written), (s .rows, s .entries)))
+    (rows-returned _ _ _ _ (at .scan-page-gap .ensures) (c .number .ensures) (c .before .before .written .ensures))
 
 pub phs-scan-page-gap-spec : {M : Type 1} → statement M
 phs-scan-page-gap-spec =

@@ -1,7 +1,8 @@
 -- `phs_scan_page_gaps` meets its contract: a code that names no way changes nothing, and otherwise number, word and lists are those of the tables.
 -- Assumes nothing.
-use mathlib.Core.Path.{refl, sym, _∙_}
+use mathlib.Core.Path.{sym, _∙_}
 use borrow.Author.Needs.{needs}
+use Rattle.phsarodil.proofs.Returning.{tables-returned}
 use Rattle.phsarodil.proofs.gaps.phs_scan_page_gaps.Statement.{statement}
 use Rattle.phsarodil.proofs.gaps.phs_scan_page_gaps.Tie as tie
 
@@ -23,7 +24,7 @@ unnamed-requires c κs = search needs
 returns : tie.Need-returns
 returns c =
     rw (sym (c .before .before .before .before .before .named .ensures) ∙ c .before .before .before .enum-told .given .1)
-    (rw (c .before .counts-fit .ensures) at (c .unnamed .ensures), (refl, (refl, (refl, (refl, refl)))))
+    (rw (c .unnamed .ensures, c .before .counts-fit .ensures))
 
 scan-page-gaps-requires : tie.Need-scan-page-gaps-requires
 scan-page-gaps-requires c κs = search needs
@@ -49,9 +50,8 @@ same-length-4 c = search needs
 returns-2 : tie.Need-returns-2
 returns-2 c =
     let at = c .before .before .before .before .before .before .before .before .before .before .before in
-    let s = at .scan-page-gaps .ensures in
     rw (sym (at .before .before .before .before .before .before .before .before .named .ensures) ∙ at .before .before .before .before .before .before .how .given .1)
-    (rw (← s .number) (c .number .ensures), (rw (c .before .before .written .ensures, s .written), (s .rows, (s .entries, (s .flags, s .stack)))))
+    (tables-returned _ _ _ _ (at .scan-page-gaps .ensures) (c .number .ensures) (c .before .before .written .ensures))
 
 pub phs-scan-page-gaps-spec : {M : Type 1} → statement M
 phs-scan-page-gaps-spec =

@@ -1,6 +1,7 @@
 -- `phs_carve_unallocated` meets its contract: number, word and lists are those of the region.
 -- Assumes nothing.
 use borrow.Author.Needs.{needs}
+use Rattle.phsarodil.proofs.Returning.{rows-returned}
 use Rattle.phsarodil.proofs.learned.phs_carve_unallocated.Statement.{statement}
 use Rattle.phsarodil.proofs.learned.phs_carve_unallocated.Tie as tie
 
@@ -20,10 +21,7 @@ same-length-2 : tie.Need-same-length-2
 same-length-2 c = search needs
 
 returns : tie.Need-returns
-returns c =
-    let s = c .before .before .before .before .before .before .before .carve-unallocated .ensures .1 in
-    let n = s .1 .1 in
-    (rw (← n .0) (c .number .ensures), (rw (c .before .before .written .ensures, n .1), (s .0, s .1 .0)))
+returns c = rows-returned _ _ _ _ (c .before .before .before .before .before .before .before .carve-unallocated .ensures) (c .number .ensures) (c .before .before .written .ensures)
 
 pub phs-carve-unallocated-spec : {M : Type 1} → statement M
 phs-carve-unallocated-spec =

@@ -1,6 +1,7 @@
 -- `phs_learn_signatures` meets its contract: number, word and list are those of the rows.
 -- Assumes nothing.
 use borrow.Author.Needs.{needs}
+use Rattle.phsarodil.proofs.Returning.{list-returned}
 use Rattle.phsarodil.proofs.learned.phs_learn_signatures.Statement.{statement}
 use Rattle.phsarodil.proofs.learned.phs_learn_signatures.Tie as tie
 
@@ -17,9 +18,7 @@ same-length : tie.Need-same-length
 same-length c = search needs
 
 returns : tie.Need-returns
-returns c =
-    let s = c .before .before .before .before .before .learn-signatures .ensures in
-    (rw (← s .1 .0) (c .number .ensures), (rw (c .before .before .written .ensures, s .1 .1 .0), s .1 .1 .1))
+returns c = list-returned _ _ _ _ (c .before .before .before .before .before .learn-signatures .ensures) (c .number .ensures) (c .before .before .written .ensures)
 
 pub phs-learn-signatures-spec : {M : Type 1} → statement M
 phs-learn-signatures-spec =

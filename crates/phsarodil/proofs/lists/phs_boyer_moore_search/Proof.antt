@@ -1,7 +1,7 @@
 -- `phs_boyer_moore_search` meets its contract: number, word and list are those of the search.
 -- Assumes nothing.
-use mathlib.Core.Path.{_∙_}
 use borrow.Author.Needs.{needs}
+use Rattle.phsarodil.proofs.Returning.{list-returned}
 use Rattle.phsarodil.proofs.lists.phs_boyer_moore_search.Statement.{statement}
 use Rattle.phsarodil.proofs.lists.phs_boyer_moore_search.Tie as tie
 
@@ -18,9 +18,7 @@ same-length : tie.Need-same-length
 same-length c = search needs
 
 returns : tie.Need-returns
-returns c =
-    let s = c .before .before .before .before .before .boyer-moore-search .ensures in
-    (c .number .ensures ∙ s .1 .0, (rw (c .before .before .written .ensures, s .1 .1 .0), s .1 .1 .1))
+returns c = list-returned _ _ _ _ (c .before .before .before .before .before .boyer-moore-search .ensures) (c .number .ensures) (c .before .before .written .ensures)
 
 pub phs-boyer-moore-search-spec : {M : Type 1} → statement M
 phs-boyer-moore-search-spec =

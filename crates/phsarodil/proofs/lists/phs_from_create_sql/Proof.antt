@@ -1,7 +1,7 @@
 -- `phs_from_create_sql` meets its contract: number, word and list are those of the statement.
 -- Assumes nothing.
-use mathlib.Core.Path.{_∙_}
 use borrow.Author.Needs.{needs}
+use Rattle.phsarodil.proofs.Returning.{list-returned}
 use Rattle.phsarodil.proofs.lists.phs_from_create_sql.Statement.{statement}
 use Rattle.phsarodil.proofs.lists.phs_from_create_sql.Tie as tie
 
@@ -18,9 +18,7 @@ same-length : tie.Need-same-length
 same-length c = search needs
 
 returns : tie.Need-returns
-returns c =
-    let s = c .before .before .before .before .before .from-create-sql .ensures in
-    (c .number .ensures ∙ s .1 .0, (rw (c .before .before .written .ensures, s .1 .1 .0), s .1 .1 .1))
+returns c = list-returned _ _ _ _ (c .before .before .before .before .before .from-create-sql .ensures) (c .number .ensures) (c .before .before .written .ensures)
 
 pub phs-from-create-sql-spec : {M : Type 1} → statement M
 phs-from-create-sql-spec =

@@ -1,6 +1,7 @@
 -- `phs_collect_leaf_pages` meets its contract: number, word and lists are those of the walk.
 -- Assumes nothing.
 use borrow.Author.Needs.{needs}
+use Rattle.phsarodil.proofs.Returning.{leaves-returned}
 use Rattle.phsarodil.proofs.pages.phs_collect_leaf_pages.Statement.{statement}
 use Rattle.phsarodil.proofs.pages.phs_collect_leaf_pages.Tie as tie
 
@@ -23,10 +24,7 @@ same-length-3 : tie.Need-same-length-3
 same-length-3 c = search needs
 
 returns : tie.Need-returns
-returns c =
-    let s = c .before .before .before .before .before .before .before .before .before .collect-leaf-pages .ensures .1 in
-    let n = s .1 .1 .1 in
-    (rw (← n .0) (c .number .ensures), (rw (c .before .before .written .ensures, n .1), (s .0, (s .1 .0, s .1 .1 .0))))
+returns c = leaves-returned _ _ _ _ (c .before .before .before .before .before .before .before .before .before .collect-leaf-pages .ensures) (c .number .ensures) (c .before .before .written .ensures)
 
 pub phs-collect-leaf-pages-spec : {M : Type 1} → statement M
 phs-collect-leaf-pages-spec =

@@ -1,6 +1,7 @@
 -- `phs_scan_region` meets its contract: number, words and lists are those of the scan.
 -- Assumes nothing.
 use borrow.Author.Needs.{needs}
+use Rattle.phsarodil.proofs.Returning.{scan-returned}
 use Rattle.phsarodil.proofs.rows.phs_scan_region.Statement.{statement}
 use Rattle.phsarodil.proofs.rows.phs_scan_region.Tie as tie
 
@@ -27,12 +28,9 @@ same-length-2 c = search needs
 
 returns : tie.Need-returns
 returns c =
-    let s = c .before .before .before .before .before .before .before .before .before .scan-region .ensures in
-    let w = c .before .before .before .before .written .ensures in
-    let p = c .before .before .before .place .ensures in
-    let r = c .before .before .read .ensures in
-    let n = s .1 .1 .1 in
-    (rw (← n .0) (c .number .ensures), (rw (w, p, r, n .1 .0, n .1 .1 .0, n .1 .1 .1), (s .1 .0, s .1 .1 .0)))
+    let at = c .before .before in
+    scan-returned _ _ _ _ _ _ (at .before .before .before .before .before .before .before .scan-region .ensures) (c .number .ensures)
+    (at .before .before .written .ensures) (at .before .place .ensures) (at .read .ensures)
 
 pub phs-scan-region-spec : {M : Type 1} → statement M
 phs-scan-region-spec =

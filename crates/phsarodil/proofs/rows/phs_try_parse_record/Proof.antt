@@ -1,6 +1,7 @@
 -- `phs_try_parse_record` meets its contract: number, words and lists are those of the attempt.
 -- Assumes nothing.
 use borrow.Author.Needs.{needs}
+use Rattle.phsarodil.proofs.Returning.{attempt-returned}
 use Rattle.phsarodil.proofs.rows.phs_try_parse_record.Statement.{statement}
 use Rattle.phsarodil.proofs.rows.phs_try_parse_record.Tie as tie
 
@@ -20,10 +21,7 @@ same-length-2 : tie.Need-same-length-2
 same-length-2 c = search needs
 
 returns : tie.Need-returns
-returns c =
-    let s = c .before .before .before .before .before .before .before .try-parse-record .ensures in
-    let n = s .1 .1 .1 in
-    (rw (← n .0) (c .number .ensures), (rw (c .before .before .written .ensures, n .1), (s .1 .0, s .1 .1 .0)))
+returns c = attempt-returned _ _ _ _ (c .before .before .before .before .before .before .before .try-parse-record .ensures) (c .number .ensures) (c .before .before .written .ensures)
 
 pub phs-try-parse-record-spec : {M : Type 1} → statement M
 phs-try-parse-record-spec =

@@ -1,8 +1,9 @@
 -- `phs_carve_freeblock` meets its contract: number, word and lists are those of the block.
 -- Assumes nothing.
 use borrow.Author.Needs.{needs}
-use Rattle.phsarodil.proofs.modes.phs_carve_freeblock.Statement.{statement}
-use Rattle.phsarodil.proofs.modes.phs_carve_freeblock.Tie as tie
+use Rattle.phsarodil.proofs.Returning.{rows-returned}
+use Rattle.phsarodil.proofs.block.phs_carve_freeblock.Statement.{statement}
+use Rattle.phsarodil.proofs.block.phs_carve_freeblock.Tie as tie
 
 carve-freeblock-requires : tie.Need-carve-freeblock-requires
 carve-freeblock-requires c κs = search needs
@@ -20,10 +21,7 @@ same-length-2 : tie.Need-same-length-2
 same-length-2 c = search needs
 
 returns : tie.Need-returns
-returns c =
-    let s = c .before .before .before .before .before .before .before .carve-freeblock .ensures .1 in
-    let n = s .1 .1 in
-    (rw (← n .0) (c .number .ensures), (rw (c .before .before .written .ensures, n .1), (s .0, s .1 .0)))
+returns c = rows-returned _ _ _ _ (c .before .before .before .before .before .before .before .carve-freeblock .ensures) (c .number .ensures) (c .before .before .written .ensures)
 
 pub phs-carve-freeblock-spec : {M : Type 1} → statement M
 phs-carve-freeblock-spec =

@@ -71,7 +71,8 @@ pub extern "C" fn phs_scan_page_gap(
     cols: &mut [u64],
     out: &mut [u64; 1],
 ) -> u64
-    ensures { λ r. ⌜ rowReturn r (now (out .exit)) (now (rows .exit)) (now (cols .exit)) ≡ byName (wayNamed rebuilding) (λ how. filledRows (numberedFilling
+    ensures { λ r. ⌜ rowReturn r (now (out .exit)) (now (rows .exit)) (now (cols .exit))
+        ≡ byName (wayNamed rebuilding) (λ how. filledRows (numberedFilling
         (numberedAsked (Gaps how) (now (db .entry)) size page (now (hints .entry)) (now (rows .entry)) (now (cols .entry)))))
         (refusedRows (unnamedNumber (countFits (length (now (hints .entry))))) (now (rows .entry)) (now (cols .entry))) ⌝ }
 {
@@ -95,7 +96,8 @@ pub extern "C" fn phs_scan_single_page_gap(
     cols: &mut [u64],
     out: &mut [u64; 1],
 ) -> u64
-    ensures { λ r. ⌜ rowReturn r (now (out .exit)) (now (rows .exit)) (now (cols .exit)) ≡ byName (wayNamed rebuilding) (λ how. filledRows (sliceFilling
+    ensures { λ r. ⌜ rowReturn r (now (out .exit)) (now (rows .exit)) (now (cols .exit))
+        ≡ byName (wayNamed rebuilding) (λ how. filledRows (sliceFilling
         (sliceAsked (Gaps how) (now (page .entry)) head base (now (hints .entry)) (now (rows .entry)) (now (cols .entry)))))
         (refusedRows (unnamedNumber (countFits (length (now (hints .entry))))) (now (rows .entry)) (now (cols .entry))) ⌝ }
 {
@@ -118,7 +120,8 @@ pub extern "C" fn phs_parse_cells_from_freeblock(
     cols: &mut [u64],
     out: &mut [u64; 1],
 ) -> u64
-    ensures { λ r. ⌜ rowReturn r (now (out .exit)) (now (rows .exit)) (now (cols .exit)) ≡ byName (wayNamed rebuilding) (λ how. filledRows (sliceFilling
+    ensures { λ r. ⌜ rowReturn r (now (out .exit)) (now (rows .exit)) (now (cols .exit))
+        ≡ byName (wayNamed rebuilding) (λ how. filledRows (sliceFilling
         (sliceAsked (Payload how) (now (payload .entry)) 0 base (now (hints .entry)) (now (rows .entry)) (now (cols .entry)))))
         (refusedRows (unnamedNumber (countFits (length (now (hints .entry))))) (now (rows .entry)) (now (cols .entry))) ⌝ }
 {

@@ -5,4 +5,4 @@ pub mod Matching
 pub mod ReadBack
 mod Running
 pub mod Unique
-mod Walking
+mod Reading

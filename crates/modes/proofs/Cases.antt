@@ -5,7 +5,7 @@ use Prim.Native.Nat.{ℕ, _+_}
 use mathlib.Core.Path.{_≡_, refl}
 use mathlib.Core.List.{List, [], _∷_, _++_, map}
 use lib.Ieee.{ofBits, round, toBits}
-use lib.ListN.{length, replicate}
+use lib.ListN.{replicate}
 use Rattle.modes.specs.Found.{typesFrom, columnAt, columnsFrom, endFrom}
 use Rattle.modes.specs.Modes.{normalAt, headlessIn, firstColMissingIn, normalFrom, normalFound, headlessFound, modesFound, modesFilling}
 use Rattle.record.specs.Value.{bodyLength}

@@ -8,7 +8,7 @@ use native.Mathlib.Omega.{arith}
 use borrow.Author.Tests.{le-leb, lt-leb}
 use lib.Dec.{lit≤}
 use lib.ListN.{length, take, replicate, length-append, length-replicate}
-use Rattle.modes.specs.Found.{Found, behind, columnsFrom, lostColumns, foundHit, foundHits}
+use Rattle.modes.specs.Found.{Found, columnsFrom, lostColumns, foundHit, foundHits}
 use Rattle.modes.specs.Values.{valuesFrom, groupValues, foundValues}
 use Rattle.modes.proofs.Bodies.{column-body, column-out, column-none, columns-nil, columns-cons, columns-count}
 use Rattle.modes.proofs.Writing.{columns-append, lost-length}

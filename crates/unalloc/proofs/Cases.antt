@@ -5,7 +5,7 @@ use Prim.Native.Nat.{ℕ}
 use mathlib.Core.Path.{_≡_, refl}
 use mathlib.Core.List.{List, [], _∷_, _++_, map}
 use lib.Ieee.{ofInt, div, round, toBits}
-use lib.ListN.{length, replicate}
+use lib.ListN.{replicate}
 use Rattle.modes.specs.Found.{typesFrom, columnAt, columnsFrom, endFrom}
 use Rattle.record.specs.Value.{bodyLength}
 use Rattle.record.specs.Varint.{varintFrom, varintAt}

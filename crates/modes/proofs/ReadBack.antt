@@ -12,20 +12,18 @@ use denote.Triple.Clauses.{AtExit}
 use borrow.Fn.Kinds.{Dens, resT, endedOf}
 use lib.ListN.{length, take, drop, length-take}
 use Rattle.modes.specs.Found.{Found, Tried, miss, hit, endOf, foundHit, foundHits}
-use Rattle.modes.specs.Modes.{columnsOnly, listed, orElse, columnsOnlyIn, firstColMissingIn, normalAt, normalFrom, normalFound, headlessFound, modesFound}
-use Rattle.modes.specs.Values.{foundValues, carveValues}
+use Rattle.modes.specs.Modes.{columnsOnly, listed, orElse, columnsOnlyIn, firstColMissingIn, normalAt, normalFrom, normalFound, headlessFound, modesFound, modesFilling}
+use Rattle.modes.specs.Values.{foundValues, writtenValues, carveValues}
 use Rattle.modes.proofs.Entries.{AllFew, few-taken, ReadBack, groups-read}
 use Rattle.modes.proofs.Running.{normal-on, normal-stop, normal-end}
 use Rattle.modes.proofs.Trying.{normal-found, headless-few, missing-found}
 use Rattle.modes.proofs.carver.carve_freeblock.Kinds as kinds
 use Rattle.modes.proofs.carver.carve_freeblock.Reads as carve-freeblock
 use Rattle.record.proofs.Numbers.{by-order}
-use Rattle.sheet.specs.Columns.{roomOf}
 use Rattle.sheet.specs.Filled.{filledWritten}
-use Rattle.sheet.specs.Hits.{Hit, groupsWords, rowsWritten, entriesLeft}
-use Rattle.sheet.specs.Refusal.{firstHeld, afterOr0, afterOrKept}
+use Rattle.sheet.specs.Hits.{Hit, groupsWords, RowFilling, rowRoom, rowsWritten, entriesLeft}
+use Rattle.sheet.specs.Refusal.{afterOr0, afterOrKept}
 use Rattle.sheet.specs.Sheet.{overlay}
-use Rattle.sheet.specs.Slice.{countedChecks}
 use Rattle.sheet.specs.declared.refusal.Checked.{Checked}
 use Rattle.sheet.specs.declared.refusal.Checked.the-variants.{Passed, Refused as Held}
 
@@ -75,24 +73,27 @@ hits-count len base [] = refl
 hits-count len base (x ∷ xs) = ap suc (hits-count len base xs)
 
 -- THE LAW: what a call leaves that writes the rows found, as many as there is room for, unless a check refuses
-pub written-read : (s : List ℕ) (base columns room : ℕ) (xs : List Found) (cols : List ℕ) → AllFew columns xs → (c : Checked)
-    → ReadBack s (afterOr0 c (min room (length (foundHits (length s) base xs))) * columns) (afterOrKept c (overlay (groupsWords columns (take room (foundHits (length s) base xs))) cols) cols)
-    (afterOrKept c (foundValues s columns (take room xs)) [])
-written-read s base columns room xs cols a Passed =
-    let n : min room (length (foundHits (length s) base xs)) ≡ length (take room xs) = rw (hits-count (length s) base xs) (sym (length-take room xs)) in
-    let words = groupsWords columns (foundHits (length s) base (take room xs)) in
-    rw (n, hits-taken (length s) base room xs) (groups-read s base columns (take room xs) (drop (length words) cols) (few-taken columns room xs a))
-written-read s base columns room xs cols a (Held r) = rw (zero-mul columns) (record { reads = refl; within = tt })
+pub written-read : (s : List ℕ) (base : ℕ) (a : RowFilling) (xs : List Found) → a .hits ≡ foundHits (length s) base xs → AllFew (a .width) xs
+    → ReadBack s (rowsWritten a * a .width) (entriesLeft a) (writtenValues s a xs)
+unfolding rowsWritten entriesLeft
+written-read s base a xs e few = go (a .checked)
+  where
+    go : (c : Checked)
+        → ReadBack s (afterOr0 c (min (rowRoom a) (length (a .hits))) * a .width) (afterOrKept c (overlay (groupsWords (a .width) (take (rowRoom a) (a .hits))) (a .cols)) (a .cols))
+        (afterOrKept c (foundValues s (a .width) (take (rowRoom a) xs)) [])
+    go Passed =
+        let room = rowRoom a in
+        let n : min room (length (a .hits)) ≡ length (take room xs) = rw (e, hits-count (length s) base xs) (sym (length-take room xs)) in
+        let words = groupsWords (a .width) (foundHits (length s) base (take room xs)) in
+        rw (n, e, hits-taken (length s) base room xs) (groups-read s base (a .width) (take room xs) (drop (length words) (a .cols)) (few-taken (a .width) room xs few))
+    go (Held r) = rw (zero-mul (a .width)) (record { reads = refl; within = tt })
 
 -- THE LAW: of `carve_freeblock`
 pub carve-reads-back : (k : Lfts 3) (a : Dens k kinds.ps) (x : resT kinds.r k .Denot) (s : AtExit (endedOf 3 kinds.ps kinds.r) k) → carve-freeblock.Post k a x s
-    → ReadBack (now (a .0)) (filledWritten x * a .1 .1 .0) (now (s .1 .1 .1 .1 .0))
-    (carveValues (now (a .0)) (a .1 .0) (a .1 .1 .0) (length (now (a .1 .1 .1 .0))) (length (now (a .1 .1 .1 .1 .0))))
-unfolding rowsWritten entriesLeft carveValues
+    → ReadBack (now (a .0)) (filledWritten x * a .1 .1 .0) (now (s .1 .1 .1 .1 .0)) (carveValues (now (a .0)) (a .1 .0) (a .1 .1 .0) (now (a .1 .1 .1 .0)) (now (a .1 .1 .1 .1 .0)))
+unfolding carveValues
 carve-reads-back k a x s p =
     let bytes = now (a .0) in
     let columns = a .1 .1 .0 in
-    let room = roomOf (length (now (a .1 .1 .1 .0))) (length (now (a .1 .1 .1 .1 .0))) columns in
-    rw (p .written, p .entries)
-    (written-read bytes (a .1 .0) columns room (modesFound bytes columns) (now (a .1 .1 .1 .1 .0)) (few-found bytes columns)
-    (firstHeld (countedChecks (length bytes) columns (a .1 .0))))
+    let asked = modesFilling bytes (a .1 .0) columns (now (a .1 .1 .1 .0)) (now (a .1 .1 .1 .1 .0)) in
+    rw (p .written, p .entries) (written-read bytes (a .1 .0) asked (modesFound bytes columns) refl (few-found bytes columns))

@@ -6,15 +6,14 @@ use mathlib.Core.List.{List, [], _∷_, _++_}
 use lib.Dec.{leb}
 use lib.ListN.{length, take, replicate}
 use Rattle.modes.specs.Found.{Found}
-use Rattle.modes.specs.Modes.{modesFound}
+use Rattle.modes.specs.Modes.{modesFound, modesFilling}
 use Rattle.record.specs.Value.{bodyLength, valueOf}
 use Rattle.record.specs.declared.record.Length.{Length}
 use Rattle.record.specs.declared.record.Length.the-variants.{Bytes, Reserved}
 use Rattle.record.specs.declared.record.Value.{Value}
 use Rattle.record.specs.declared.record.Value.the-variants.{Null}
-use Rattle.sheet.specs.Columns.{roomOf}
-use Rattle.sheet.specs.Refusal.{firstHeld, afterOrKept}
-use Rattle.sheet.specs.Slice.{countedChecks}
+use Rattle.sheet.specs.Hits.{RowFilling, rowRoom}
+use Rattle.sheet.specs.Refusal.{afterOrKept}
 
 -- Rule 12.9: the value of type t at `at`, if its body fits; if not, NULL, and the next one stands at the same place
 abbrev pub valueOn : List ℕ → ℕ → ℕ → (ℕ → List Value) → Length → List Value
@@ -35,8 +34,9 @@ abbrev pub foundValues : List ℕ → ℕ → List Found → List Value
 foundValues s columns [] = []
 foundValues s columns (x ∷ xs) = groupValues s columns x ++ foundValues s columns xs
 
--- those of the rows that the call writes into lists of so many words
-unfoldable pub carveValues : List ℕ → ℕ → ℕ → ℕ → ℕ → List Value
-carveValues s base columns rows cols =
-    afterOrKept (firstHeld (countedChecks (length s) columns base))
-    (foundValues s columns (take (roomOf rows cols columns) (modesFound s columns))) []
+-- those of the rows found that a call writes
+abbrev pub writtenValues : List ℕ → RowFilling → List Found → List Value
+writtenValues s a xs = afterOrKept (a .checked) (foundValues s (a .width) (take (rowRoom a) xs)) []
+
+unfoldable pub carveValues : List ℕ → ℕ → ℕ → List ℕ → List ℕ → List Value
+carveValues s base columns rows cols = writtenValues s (modesFilling s base columns rows cols) (modesFound s columns)

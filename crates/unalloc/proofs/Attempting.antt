@@ -8,11 +8,11 @@ use native.Mathlib.Omega.{arith}
 use borrow.Author.Tests.{le-leb, lt-leb, le-ltb, lt-ltb}
 use lib.Dec.{ltb}
 use lib.ListN.{length, getD}
-use Rattle.carve.proofs.Reading.{typed}
-use Rattle.carve.proofs.Trying.{find-fits, again}
-use Rattle.carve.specs.Found.{Types, cut, read, typesFrom, columnsFrom, Found, miss, hit}
-use Rattle.carve.specs.Inner.{WholeIs, HitIs}
-use Rattle.carve.proofs.Trying.{never}
+use Rattle.modes.proofs.Reading.{typed}
+use Rattle.modes.proofs.Trying.{find-fits, again}
+use Rattle.modes.specs.Found.{Types, cut, read, typesFrom, columnsFrom, Found, miss, hit}
+use Rattle.modes.specs.Inner.{WholeIs, HitIs}
+use Rattle.modes.proofs.Trying.{never}
 use Rattle.record.proofs.Laws.{varint-lies, varint-low, varint-large}
 use Rattle.record.proofs.Numbers.{by-order}
 use Rattle.record.specs.Varint.{varintAt}

@@ -5,16 +5,17 @@ use Prim.Native.Nat.{ℕ}
 use mathlib.Core.Path.{_≡_, refl}
 use mathlib.Core.List.{List, [], _∷_, _++_, map}
 use lib.Ieee.{ofInt, div, round, toBits}
-use lib.ListN.{length, replicate}
-use Rattle.carve.specs.Found.{typesFrom, columnAt, columnsFrom, endFrom}
+use lib.ListN.{replicate}
+use Rattle.modes.specs.Found.{typesFrom, columnAt, columnsFrom, endFrom}
 use Rattle.record.specs.Value.{bodyLength}
 use Rattle.record.specs.Varint.{varintFrom, varintAt}
 use Rattle.sheet.specs.Columns.{columnWords, unusedWords, roomOf}
 use Rattle.sheet.specs.Confidence.{share}
 use Rattle.sheet.specs.Filled.{filledNumber, filledWritten}
+use Rattle.sheet.specs.Hits.{rowsAnswer, rowsLeft, entriesLeft}
 use Rattle.sheet.specs.Limits.{countFits}
 use Rattle.sheet.specs.Row.{rowWords}
-use Rattle.unalloc.specs.Learned.{isInteger, isText, isBlob, matches, judged, attemptAt, rowsFrom, rowsFound, learnedAnswer, learnedRows, learnedCols}
+use Rattle.unalloc.specs.Learned.{isInteger, isText, isBlob, matches, judged, attemptAt, rowsFrom, rowsFound, learnedFilling}
 
 record Outcome : Type 0 where
   number : ℕ
@@ -30,8 +31,8 @@ data Case : Type 0 where
 
 computed : Case → Outcome
 computed (carve s ls words o) =
-    let answer = learnedAnswer s ls 100 words words in
-    out (filledNumber answer) (filledWritten answer) (learnedRows s ls 100 (replicate words 7) (replicate words 7)) (learnedCols s ls 100 (replicate words 7) (replicate words 7))
+    let a = learnedFilling s ls 100 (replicate words 7) (replicate words 7) in
+    out (filledNumber (rowsAnswer a)) (filledWritten (rowsAnswer a)) (rowsLeft a) (entriesLeft a)
 
 expected : Case → Outcome
 expected (carve s ls words o) = o
@@ -73,5 +74,5 @@ cases =
     ∷ []
 
 table : map computed cases ≡ map expected cases
-unfolding cases computed expected out row body unused left hipik learnedAnswer learnedRows learnedCols rowsFound rowsFrom attemptAt judged matches isInteger isText isBlob typesFrom columnsFrom columnAt endFrom varintAt varintFrom bodyLength columnWords unusedWords roomOf share countFits rowWords ofInt div round toBits
+unfolding cases computed expected out row body unused left hipik rowsAnswer rowsLeft entriesLeft rowsFound rowsFrom attemptAt judged matches isInteger isText isBlob typesFrom columnsFrom columnAt endFrom varintAt varintFrom bodyLength columnWords unusedWords roomOf share countFits rowWords ofInt div round toBits
 table = refl

@@ -5,7 +5,7 @@ use mathlib.Core.Path.{_≡_, refl, sym, ap, _∙_}
 use mathlib.Core.List.{List, _∷_}
 use native.Mathlib.Omega.{arith}
 use lib.ListN.{length}
-use Rattle.carve.specs.Found.{Found, Tried, miss, hit, endOf}
+use Rattle.modes.specs.Found.{Found, Tried, miss, hit, endOf}
 use Rattle.record.proofs.Numbers.{by-order}
 use Rattle.unalloc.specs.Learned.{attemptAt, rowsFrom, rowsFound}
 use Rattle.unalloc.proofs.Running.{rows-hit, rows-miss, rows-end, row-ends}

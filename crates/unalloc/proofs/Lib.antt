@@ -3,6 +3,6 @@ mod Cases
 pub mod Fuel
 pub mod Matching
 pub mod ReadBack
+mod Reading
 mod Running
 pub mod Unique
-mod Walking

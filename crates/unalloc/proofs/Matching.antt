@@ -11,7 +11,7 @@ use lib.Dec.{leb, eqb}
 use lib.ListN.{length}
 use Rattle.record.proofs.Numbers.{by-order}
 use Rattle.unalloc.specs.Inner.{matchesAt}
-use Rattle.unalloc.specs.Learned.{isInteger, isText, isBlob, matches, matched, percentOf}
+use Rattle.unalloc.specs.Learned.{isInteger, isText, isBlob, matches, matched, matchedPercent}
 
 -- ---- classes
 integer-small : (t : ℕ) → isInteger t ≡ true → t < 10
@@ -84,5 +84,5 @@ matched-most (l ∷ ls) (t ∷ ts) = go (matches t l) (matched-most ls ts)
     go true h = omega arith
     go false h = omega arith
 
-pub percent-most : (ls ts : List ℕ) → percentOf (matched ls ts) (length ls) ≤ 100
+pub percent-most : (ls ts : List ℕ) → matchedPercent (matched ls ts) (length ls) ≤ 100
 percent-most ls ts = div-le-of-le-mul (length ls) (omega (arith, matched-most ls ts))

@@ -9,13 +9,12 @@ use denote.Ref.{now}
 use denote.Triple.Clauses.{AtExit}
 use borrow.Fn.Kinds.{Dens, resT, endedOf}
 use lib.ListN.{length}
-use Rattle.carve.proofs.Entries.{AllFew, ReadBack}
-use Rattle.carve.proofs.ReadBack.{written-read}
-use Rattle.carve.specs.Found.{Tried, miss, hit, endOf}
+use Rattle.modes.proofs.Entries.{AllFew, ReadBack}
+use Rattle.modes.proofs.ReadBack.{written-read}
+use Rattle.modes.specs.Found.{Tried, miss, hit, endOf}
 use Rattle.record.proofs.Numbers.{by-order}
-use Rattle.sheet.specs.Columns.{roomOf}
 use Rattle.sheet.specs.Filled.{filledWritten}
-use Rattle.unalloc.specs.Learned.{attemptAt, rowsFrom, rowsFound, learnedChecked, learnedCols, learnedWritten}
+use Rattle.unalloc.specs.Learned.{attemptAt, rowsFrom, rowsFound, learnedFilling}
 use Rattle.unalloc.specs.Values.{learnedValues}
 use Rattle.unalloc.proofs.Attempting.{attempt-found}
 use Rattle.unalloc.proofs.Running.{rows-hit, rows-miss, rows-end}
@@ -42,11 +41,10 @@ module _ (s ls : List ℕ) where
 -- THE LAW: of `carve_unallocated`
 pub carve-reads-back : (k : Lfts 4) (a : Dens k kinds.ps) (x : resT kinds.r k .Denot) (s : AtExit (endedOf 4 kinds.ps kinds.r) k) → carve-unallocated.Post k a x s
     → ReadBack (now (a .0)) (filledWritten x * length (now (a .1 .0))) (now (s .1 .1 .1 .1 .0))
-    (learnedValues (now (a .0)) (now (a .1 .0)) (a .1 .1 .0) (length (now (a .1 .1 .1 .0))) (length (now (a .1 .1 .1 .1 .0))))
-unfolding learnedWritten learnedCols learnedValues
+    (learnedValues (now (a .0)) (now (a .1 .0)) (a .1 .1 .0) (now (a .1 .1 .1 .0)) (now (a .1 .1 .1 .1 .0)))
+unfolding learnedValues
 carve-reads-back k a x s p =
     let region = now (a .0) in
     let types = now (a .1 .0) in
-    let room = roomOf (length (now (a .1 .1 .1 .0))) (length (now (a .1 .1 .1 .1 .0))) (length types) in
-    rw (p .1 .1 .1 .1, p .1 .1 .0)
-    (written-read region (a .1 .1 .0) (length types) room (rowsFound region types) (now (a .1 .1 .1 .1 .0)) (few-found region types) (learnedChecked region types (a .1 .1 .0)))
+    let asked = learnedFilling region types (a .1 .1 .0) (now (a .1 .1 .1 .0)) (now (a .1 .1 .1 .1 .0)) in
+    rw (p .written, p .entries) (written-read region (a .1 .1 .0) asked (rowsFound region types) refl (few-found region types))

@@ -5,31 +5,21 @@ use mathlib.Core.Path.{_≡_, refl, ap, _∙_}
 use mathlib.Core.Bool.{false}
 use mathlib.Core.List.{List, [], _∷_}
 use native.Mathlib.Omega.{arith}
-use borrow.Author.Tests.{le-leb, lt-leb, not-false, ltb-false}
+use borrow.Author.Tests.{le-leb, lt-leb}
 use lib.ListN.{length}
 use lib.Seq.{sets}
-use Rattle.carve.proofs.Bodies.{end-inside}
-use Rattle.carve.proofs.Carving.{Carving, carving-start, carving-as, carving-done, carving-over, carving-one}
-use Rattle.carve.proofs.Writing.{few-columns}
-use Rattle.carve.specs.Found.{Found, miss, hit, endOf, hitOf, hitsOf}
-use Rattle.carve.specs.Inner.{foundIn, HitIs, Ready, Filling}
-use Rattle.carve.specs.declared.inner.Find.{Find}
-use Rattle.sheet.proofs.Laws.{none-holds, count-fits}
-use Rattle.sheet.specs.Limits.{wordsPerRow, wordsPerEntry, largestRegion, largestBase}
-use Rattle.sheet.specs.Refusal.{firstHeld}
+use Rattle.modes.proofs.Bodies.{end-inside}
+use Rattle.modes.proofs.Carving.{Carving, carving-start, carving-as, carving-done, carving-over, carving-one}
+use Rattle.modes.proofs.Writing.{few-columns}
+use Rattle.modes.specs.Found.{Found, miss, hit, endOf, foundHit, foundHits}
+use Rattle.modes.specs.Inner.{foundIn, HitIs, Ready}
+use Rattle.modes.specs.declared.inner.Find.{Find}
+use Rattle.sheet.specs.Limits.{wordsPerRow, wordsPerEntry}
 use Rattle.sheet.specs.Row.{rowWords}
-use Rattle.sheet.specs.declared.refusal.Checked.the-variants.{Passed}
-use Rattle.unalloc.specs.Learned.{attemptAt, rowsFrom, rowsFound, learnedChecks}
+use Rattle.unalloc.specs.Learned.{attemptAt, rowsFrom, rowsFound}
 use Rattle.unalloc.proofs.Attempting.{attempt-found}
 use Rattle.sheet.specs.Hits.{Hit as RowHit, groupWords}
 use Rattle.sheet.specs.Inner.{on, over, Carves}
-
--- what passed the checks
-pub filling : (len columns base : ℕ) → firstHeld (learnedChecks len columns base) ≡ Passed → Filling len base columns
-filling len columns base e =
-    let n = none-holds (learnedChecks len columns base) e in
-    let k = count-fits columns (not-false _ (n .0)) in
-    record { small = ltb-false largestRegion len (n .1 .0); near = ltb-false largestBase base (n .1 .1 .0); some = k .0; few = k .1 }
 
 -- ---- from attempt to attempt
 module _ (s ls : List ℕ) (o : ℕ) where
@@ -58,19 +48,19 @@ pub record Rows (s ls : List ℕ) (base room : ℕ) (rows₀ cols₀ rows cols :
   pub fuel : ℕ
   pub enough : length s ≤ o + fuel
   pub inside : o ≤ length s
-  pub carving : Carving (length ls) room (hitsOf (length s) base (rowsFound s ls)) (hitsOf (length s) base (rowsFrom fuel s ls o)) rows₀ cols₀ rows cols n
+  pub carving : Carving (length ls) room (foundHits (length s) base (rowsFound s ls)) (foundHits (length s) base (rowsFrom fuel s ls o)) rows₀ cols₀ rows cols n
 
 module _ (s ls : List ℕ) (base room : ℕ) (rows₀ cols₀ : List ℕ) where
   abbrev all : List RowHit
-  all = hitsOf (length s) base (rowsFound s ls)
+  all = foundHits (length s) base (rowsFound s ls)
 
   pub rows-start : Rows s ls base room rows₀ cols₀ rows₀ cols₀ 0 0
   unfolding rowsFound
-  rows-start = record { fuel = length s; enough = omega arith; inside = omega arith; carving = carving-start (length ls) room (hitsOf (length s) base (rowsFound s ls)) rows₀ cols₀ }
+  rows-start = record { fuel = length s; enough = omega arith; inside = omega arith; carving = carving-start (length ls) room (foundHits (length s) base (rowsFound s ls)) rows₀ cols₀ }
 
   module _ (rows cols : List ℕ) (o n : ℕ) (w : Rows s ls base room rows₀ cols₀ rows cols o n) where
     abbrev later : List RowHit
-    later = hitsOf (length s) base (rowsFrom (w .fuel) s ls o)
+    later = foundHits (length s) base (rowsFrom (w .fuel) s ls o)
 
     pub rows-ready : Ready (length s) base (length ls) room 0 (length rows₀) (length cols₀) → Ready (length s) base (length ls) room n (length rows) (length cols)
     rows-ready r =
@@ -91,23 +81,23 @@ module _ (s ls : List ℕ) (base room : ℕ) (rows₀ cols₀ : List ℕ) where
       pub rows-missed : attemptAt s ls o ≡ miss → Rows s ls base room rows₀ cols₀ rows cols (o + 1) n
       rows-missed e =
           let g = some-fuel in
-          let next : later ≡ hitsOf (length s) base (rowsFrom (g .0) s ls (o + 1)) = ap (λ (f : ℕ). hitsOf (length s) base (rowsFrom f s ls o)) (g .1) ∙ rw (rows-miss s ls o (g .0) h e) in
+          let next : later ≡ foundHits (length s) base (rowsFrom (g .0) s ls (o + 1)) = ap (λ (f : ℕ). foundHits (length s) base (rowsFrom f s ls o)) (g .1) ∙ rw (rows-miss s ls o (g .0) h e) in
           record {
             fuel = g .0;
             enough = omega (arith, w .enough, g .1);
             inside = omega arith;
-            carving = carving-as (length ls) room all later rows₀ cols₀ rows cols n (w .carving) (hitsOf (length s) base (rowsFrom (g .0) s ls (o + 1))) next;
+            carving = carving-as (length ls) room all later rows₀ cols₀ rows cols n (w .carving) (foundHits (length s) base (rowsFrom (g .0) s ls (o + 1))) next;
           }
 
       module _ (x : Find) (f : HitIs s (length ls) (attemptAt s ls o) x) where
         abbrev one : RowHit
-        one = hitOf (length s) base (foundIn s x)
+        one = foundHit (length s) base (foundIn s x)
 
         abbrev rest : List RowHit
-        rest = hitsOf (length s) base (rowsFrom (some-fuel .0) s ls (endOf (length s) (foundIn s x)))
+        rest = foundHits (length s) base (rowsFrom (some-fuel .0) s ls (endOf (length s) (foundIn s x)))
 
         next : later ≡ one ∷ rest
-        next = let g = some-fuel in ap (λ (k : ℕ). hitsOf (length s) base (rowsFrom k s ls o)) (g .1) ∙ rw (rows-hit s ls o (g .0) (foundIn s x) h (f .is))
+        next = let g = some-fuel in ap (λ (k : ℕ). foundHits (length s) base (rowsFrom k s ls o)) (g .1) ∙ rw (rows-hit s ls o (g .0) (foundIn s x) h (f .is))
 
         pub rows-over : room ≤ n → Carves (length ls) room 0 all false rows₀ cols₀ over rows cols
         rows-over full = carving-over (length ls) room all later rows₀ cols₀ rows cols n (w .carving) one rest next full

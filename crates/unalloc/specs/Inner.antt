@@ -5,11 +5,11 @@ use mathlib.Core.Path.{_≡_}
 use mathlib.Core.Bool.{true, false, cond}
 use mathlib.Core.List.{List}
 use lib.ListN.{length, getD}
-use Rattle.carve.specs.Found.{Types, cut, read, columnsFrom}
+use Rattle.modes.specs.Found.{Types, cut, read, columnsFrom}
 use Rattle.sheet.specs.Limits.{mostColumns, largestRegion}
 use Rattle.unalloc.specs.Learned.{matches, matched, allThere}
-use Rattle.unalloc.specs.declared.unalloc.Walk.{Walk}
-use Rattle.unalloc.specs.declared.unalloc.Walk.the-variants.{Whole, Fails}
+use Rattle.unalloc.specs.declared.unalloc.Reading.{Reading}
+use Rattle.unalloc.specs.declared.unalloc.Reading.the-variants.{Whole, Fails}
 
 -- 1 where the type matches the one learned for the column k
 abbrev pub matchesAt : List ℕ → ℕ → ℕ → ℕ
@@ -37,6 +37,6 @@ abbrev pub FailsIs : List ℕ → ℕ → Types → Type 0
 FailsIs s stop cut = Unit
 FailsIs s stop (read ts end) = allThere (columnsFrom (length s) stop ts) ≡ false
 
-abbrev pub Walked : List ℕ → List ℕ → ℕ → Types → Walk → Type 0
-Walked s ls stop w (Whole count n) = AllIs s ls stop w count n
-Walked s ls stop w Fails = FailsIs s stop w
+abbrev pub ReadingIs : List ℕ → List ℕ → ℕ → Types → Reading → Type 0
+ReadingIs s ls stop w (Whole count n) = AllIs s ls stop w count n
+ReadingIs s ls stop w Fails = FailsIs s stop w

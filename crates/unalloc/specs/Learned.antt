@@ -1,27 +1,25 @@
 -- Carving by learned types (rules 14.1 to 14.5): a type is known for each column, and a row is one where types match.
 -- Assumes nothing.
 use Prim.Native.Nat.{ℕ, zero, suc, _+_, _-_, _*_, _/_, _%_}
-use mathlib.Core.Bool.{Bool, true, false, cond, not, _&&_, _||_}
+use mathlib.Core.Bool.{Bool, true, false, cond, _&&_, _||_}
 use mathlib.Core.List.{List, [], _∷_}
 use lib.Dec.{ltb, leb, eqb}
 use lib.ListN.{length}
-use Rattle.carve.specs.Found.{Types, cut, read, typesFrom, columnsFrom, Found, Tried, miss, hit, endOf, hitsOf}
-use Rattle.carve.specs.Modes.{lengthFits}
-use Rattle.carve.specs.declared.inner.Style.{Style}
+use Rattle.modes.specs.Found.{Types, cut, read, typesFrom, columnsFrom, Found, Tried, miss, hit, endOf, foundHits}
+use Rattle.modes.specs.Modes.{lengthFits}
+use Rattle.modes.specs.declared.inner.Style.{Style}
 use Rattle.record.specs.Varint.{varintAt}
 use Rattle.record.specs.declared.varint.Varint.{Varint}
 use Rattle.record.specs.declared.varint.Varint.the-variants.{Value, Short}
 use Rattle.sheet.specs.Confidence.{share}
-use Rattle.sheet.specs.Limits.{largestRegion, largestBase, countFits, mostHeader}
-use Rattle.sheet.specs.Refusal.{Check, firstHeld}
+use Rattle.sheet.specs.Hits.{RowFilling}
+use Rattle.sheet.specs.Limits.{mostHeader}
+use Rattle.sheet.specs.Refusal.{firstHeld}
+use Rattle.sheet.specs.Slice.{countedChecks}
 use Rattle.sheet.specs.declared.columns.Column.{Column}
 use Rattle.sheet.specs.declared.columns.Column.the-variants.{Body, Unfit, Lost, Unused}
-use Rattle.sheet.specs.declared.filled.Filled.{Filled}
-use Rattle.sheet.specs.declared.refusal.Checked.{Checked}
-use Rattle.sheet.specs.declared.refusal.Refusal.the-variants.{ColumnCount, TooLarge, BaseTooFar}
 use Rattle.sheet.specs.declared.row.Mode.the-variants.{Plain}
 use Rattle.sheet.specs.declared.row.Source.the-variants.{CarvedUnalloc}
-use Rattle.sheet.specs.Hits.{Hit, pageAnswerOf, pageRowsOf, pageColsOf, pageNumberOf, pageWrittenOf}
 
 -- ---- Rule 14.1: classes of types, which NULL and a real are not of
 unfoldable pub isInteger : ℕ → Bool
@@ -44,12 +42,12 @@ matched [] (t ∷ ts) = 0
 matched (l ∷ ls) (t ∷ ts) = cond (matches t l) 1 0 + matched ls ts
 
 -- ---- Rule 14.2: what is said of a row of which so many types match
-abbrev pub percentOf : ℕ → ℕ → ℕ
-percentOf n columns = n * 100 / columns
+abbrev pub matchedPercent : ℕ → ℕ → ℕ
+matchedPercent n columns = n * 100 / columns
 
 abbrev pub learnedStyle : ℕ → ℕ → Style
 learnedStyle n columns =
-    record { source = CarvedUnalloc (percentOf n columns); confidence = share (percentOf n columns) 100; mode = Plain; lost = 0 }
+    record { source = CarvedUnalloc (matchedPercent n columns); confidence = share (matchedPercent n columns) 100; mode = Plain; lost = 0 }
 
 -- ---- one attempt
 
@@ -92,45 +90,28 @@ attemptAt s ls o = attemptWith s ls o (varintAt s o)
 -- ---- a region
 
 -- where to go on: behind the row that was found, or by one byte
-abbrev pub goOn : (ℕ → List Found) → ℕ → ℕ → Tried → List Found
-goOn rest len o miss = rest (o + 1)
-goOn rest len o (hit x) = x ∷ rest (endOf len x)
+abbrev pub rowOrNextByte : (ℕ → List Found) → ℕ → ℕ → Tried → List Found
+rowOrNextByte rest len o miss = rest (o + 1)
+rowOrNextByte rest len o (hit x) = x ∷ rest (endOf len x)
 
 -- Rule 14.4: a row is looked for as long as there is room for a header of one byte a type. The first argument bounds the attempts.
 unfoldable pub rowsFrom : ℕ → List ℕ → List ℕ → ℕ → List Found
 rowsFrom zero s ls o = []
 rowsFrom (suc f) s ls o =
-    cond (leb (o + (1 + length ls)) (length s)) (goOn (λ next. rowsFrom f s ls next) (length s) o (attemptAt s ls o)) []
+    cond (leb (o + (1 + length ls)) (length s)) (rowOrNextByte (λ next. rowsFrom f s ls next) (length s) o (attemptAt s ls o)) []
 
 -- Each attempt goes on, so the region's length bounds them, and no larger bound gives other rows (`proofs/Fuel.antt`).
 unfoldable pub rowsFound : List ℕ → List ℕ → List Found
 rowsFound s ls = rowsFrom (length s) s ls 0
 
--- ---- Rule 14.5: the call; of a region of `len` bytes the first has the offset `base`, and a group is as wide as there are learned types
-abbrev pub learnedChecks : ℕ → ℕ → ℕ → List Check
-learnedChecks len columns base =
-    record { refusal = ColumnCount; holds = not (countFits columns) }
-    ∷ record { refusal = TooLarge; holds = ltb largestRegion len }
-    ∷ record { refusal = BaseTooFar; holds = ltb largestBase base }
-    ∷ []
-
-abbrev pub learnedChecked : List ℕ → List ℕ → ℕ → Checked
-learnedChecked s ls base = firstHeld (learnedChecks (length s) (length ls) base)
-
-abbrev pub learnedHits : List ℕ → List ℕ → ℕ → List Hit
-learnedHits s ls base = hitsOf (length s) base (rowsFound s ls)
-
-unfoldable pub learnedAnswer : List ℕ → List ℕ → ℕ → ℕ → ℕ → Filled
-learnedAnswer s ls base rows cols = pageAnswerOf (learnedChecked s ls base) (learnedHits s ls base) (length ls) rows cols
-
-unfoldable pub learnedRows : List ℕ → List ℕ → ℕ → List ℕ → List ℕ → List ℕ
-learnedRows s ls base rows cols = pageRowsOf (learnedChecked s ls base) (learnedHits s ls base) (length ls) rows cols
-
-unfoldable pub learnedCols : List ℕ → List ℕ → ℕ → List ℕ → List ℕ → List ℕ
-learnedCols s ls base rows cols = pageColsOf (learnedChecked s ls base) (learnedHits s ls base) (length ls) rows cols
-
-unfoldable pub learnedNumber : List ℕ → List ℕ → ℕ → ℕ → ℕ → ℕ
-learnedNumber s ls base rows cols = pageNumberOf (learnedChecked s ls base) (learnedHits s ls base) (length ls) rows cols
-
-unfoldable pub learnedWritten : List ℕ → List ℕ → ℕ → ℕ → ℕ → ℕ
-learnedWritten s ls base rows cols = pageWrittenOf (learnedChecked s ls base) (learnedHits s ls base) (length ls) rows cols
+-- ---- Rule 14.5: the call, on a region whose first byte has the offset `base`, with what the lists hold; a group is as wide as there are
+-- learned types
+abbrev pub learnedFilling : List ℕ → List ℕ → ℕ → List ℕ → List ℕ → RowFilling
+learnedFilling s ls base rows cols =
+    record {
+      checked = firstHeld (countedChecks (length s) (length ls) base);
+      hits = foundHits (length s) base (rowsFound s ls);
+      width = length ls;
+      rows = rows;
+      cols = cols;
+    }

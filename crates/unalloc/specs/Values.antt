@@ -1,15 +1,11 @@
 -- The values of the rows that the call writes (rule 14.6): those of rule 12.9, each row's at its own places.
 -- Assumes nothing.
 use Prim.Native.Nat.{ℕ}
-use mathlib.Core.List.{List, []}
-use lib.ListN.{length, take}
-use Rattle.carve.specs.Values.{foundValues}
+use mathlib.Core.List.{List}
+use Rattle.modes.specs.Values.{writtenValues}
 use Rattle.record.specs.declared.record.Value.{Value}
-use Rattle.sheet.specs.Columns.{roomOf}
-use Rattle.sheet.specs.Refusal.{afterOrKept}
-use Rattle.unalloc.specs.Learned.{learnedChecked, rowsFound}
+use Rattle.unalloc.specs.Learned.{rowsFound, learnedFilling}
 
--- Rule 14.6: into lists of so many words
-unfoldable pub learnedValues : List ℕ → List ℕ → ℕ → ℕ → ℕ → List Value
-learnedValues s ls base rows cols =
-    afterOrKept (learnedChecked s ls base) (foundValues s (length ls) (take (roomOf rows cols (length ls)) (rowsFound s ls))) []
+-- Rule 14.6
+unfoldable pub learnedValues : List ℕ → List ℕ → ℕ → List ℕ → List ℕ → List Value
+learnedValues s ls base rows cols = writtenValues s (learnedFilling s ls base rows cols) (rowsFound s ls)

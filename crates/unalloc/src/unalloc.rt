@@ -1,48 +1,42 @@
 // Rows at any byte of a region, by the types that a table's columns were learned to have.
-use carve::inner::Find;
-use carve::inner::Style;
-use carve::inner::Tried;
-use carve::inner::behind;
-use carve::inner::column_at;
-use carve::inner::put_find;
+use modes::inner::Find;
+use modes::inner::Style;
+use modes::inner::Tried;
+use modes::inner::behind;
+use modes::inner::column_at;
+use modes::inner::put_find;
 use record::inner::wide;
 use record::varint::Cursor;
 use record::varint::Varint;
-use sheet::LARGEST_BASE;
-use sheet::LARGEST_REGION;
+use sheet::MOST_HEADER;
 use sheet::columns::Column;
 use sheet::columns::room;
 use sheet::confidence::suited_share;
 use sheet::filled::Filled;
-use sheet::hint::hint_count_fits;
 use sheet::inner::Carved;
 use sheet::refusal::Checked;
-use sheet::refusal::Refusal;
 use sheet::row::Mode;
 use sheet::row::Source;
+use sheet::slice::check_counted;
 ghost use mathlib.Core.Path.{_≡_};
 ghost use mathlib.Core.Bool.{false};
 ghost use Prim.Native.Nat.{_≤_, _<_};
 ghost use lib.ListN.{length};
-ghost use Rattle.carve.specs.Found.{typesFrom, hitsOf};
-ghost use Rattle.carve.specs.Inner.{TriedIs, Ready, Filling};
-ghost use Rattle.sheet.specs.Filled.{filledNumber, filledWritten};
+ghost use Rattle.modes.specs.Found.{typesFrom, foundHits};
+ghost use Rattle.modes.specs.Inner.{TriedIs, Ready};
+ghost use Rattle.sheet.specs.Hits.{FillsRows, rowOutcome};
+ghost use Rattle.sheet.specs.Inner.{carvedAs, Carves};
 ghost use Rattle.sheet.specs.Limits.{mostColumns, largestRegion};
-ghost use Rattle.sheet.specs.Refusal.{firstHeld};
-ghost use Rattle.unalloc.specs.Inner.{matchesAt, Headed, Walked};
+ghost use Rattle.unalloc.specs.Inner.{matchesAt, Headed, ReadingIs};
 ghost use Rattle.unalloc.specs.Learned.{isInteger, isText, isBlob, matches, learnedStyle, isThere, attemptAt, rowsFound};
-ghost use Rattle.unalloc.specs.Learned.{learnedChecks, learnedAnswer, learnedRows, learnedCols, learnedNumber};
-ghost use Rattle.unalloc.specs.Learned.{learnedWritten};
-ghost use Rattle.sheet.specs.Inner.{carvedAs, Carves, FilledIs};
+ghost use Rattle.unalloc.specs.Learned.{learnedFilling};
 
 // What the types of a header come to: how many there are, and how many match.
-enum Walk {
+enum Reading {
     Whole { count: usize, matched: usize },
     // A type runs off the region, or a body does not fit.
     Fails,
 }
-
-const MOST_HEADER: u64 = 512;
 
 fn is_integer(kind: u64) -> bool
     ensures { λ r. ⌜ r ≡ isInteger kind ⌝ }
@@ -107,9 +101,9 @@ fn is_there(column: Column) -> bool
 }
 
 // Reads the types from `from` on, up to the header's end, where their bodies start.
-fn walk_types(region: &[u8], types: &[u64], from: usize, stop: usize) -> Walk
+fn read_and_match(region: &[u8], types: &[u64], from: usize, stop: usize) -> Reading
     requires { ⌜ Headed (now region) (now types) from stop ⌝ }
-    ensures { λ r. ⌜ Walked (now (region .entry)) (now (types .entry)) stop
+    ensures { λ r. ⌜ ReadingIs (now (region .entry)) (now (types .entry)) stop
         (typesFrom (length (now (types .entry))) (now (region .entry)) from stop) r ⌝ }
 {
     let mut at = from;
@@ -118,22 +112,22 @@ fn walk_types(region: &[u8], types: &[u64], from: usize, stop: usize) -> Walk
     let mut matched: usize = 0;
     while count < types.len() {
         if at >= stop {
-            return Walk::Whole { count, matched };
+            return Reading::Whole { count, matched };
         }
         let c = Cursor { at };
         let Varint::Value(kind, next) = c.serial_type(region) else {
-            return Walk::Fails;
+            return Reading::Fails;
         };
         let column = column_at(region.len(), end, kind);
         if !is_there(column) {
-            return Walk::Fails;
+            return Reading::Fails;
         }
         matched = matched + matches_at(types, count, kind);
         end = behind(end, column);
         count = count + 1;
         at = next.at;
     }
-    Walk::Whole { count, matched }
+    Reading::Whole { count, matched }
 }
 
 // What is said of a row of which so many types match.
@@ -172,7 +166,7 @@ fn try_parse_record(region: &[u8], types: &[u64], o: usize) -> Tried
         return Tried::Miss;
     }
     let start = o + head;
-    let Walk::Whole { count, matched } = walk_types(region, types, from, start) else {
+    let Reading::Whole { count, matched } = read_and_match(region, types, from, start) else {
         return Tried::Miss;
     };
     if matched == 0 {
@@ -214,7 +208,7 @@ fn carve_rows(
 ) -> Carved
     requires { ⌜ Ready (length (now region)) base (length (now types)) room 0 (length (now rows)) (length (now cols)) ⌝ }
     ensures { λ r. ⌜ Carves (length (now (types .entry))) room 0
-        (hitsOf (length (now (region .entry))) base (rowsFound (now (region .entry)) (now (types .entry)))) false (now (rows .entry))
+        (foundHits (length (now (region .entry))) base (rowsFound (now (region .entry)) (now (types .entry)))) false (now (rows .entry))
         (now (cols .entry)) (carvedAs r) (now (rows .exit)) (now (cols .exit)) ⌝ }
 {
     let least = 1 + types.len();
@@ -237,34 +231,6 @@ fn carve_rows(
     Carved::On(n)
 }
 
-fn fill(region: &[u8], types: &[u64], base: u64, rows: &mut [u64], cols: &mut [u64]) -> Filled
-    requires { ⌜ Filling (length (now region)) base (length (now types)) ⌝ }
-    ensures { λ r. ⌜ FilledIs (hitsOf (length (now (region .entry))) base (rowsFound (now (region .entry)) (now (types .entry))))
-        (length (now (types .entry))) (now (rows .entry)) (now (cols .entry)) r (now (rows .exit)) (now (cols .exit)) ⌝ }
-{
-    let most = room(rows.len(), cols.len(), types.len());
-    let Carved::On(n) = carve_rows(region, types, base, most, rows, cols) else {
-        return Filled::Full(most);
-    };
-    Filled::Done(n)
-}
-
-// The checks, in rising order of their numbers.
-fn check(len: usize, columns: usize, base: u64) -> Checked
-    ensures { λ r. ⌜ r ≡ firstHeld (learnedChecks len columns base) ⌝ }
-{
-    if !hint_count_fits(columns) {
-        return Checked::Refused(Refusal::ColumnCount);
-    }
-    if len > LARGEST_REGION {
-        return Checked::Refused(Refusal::TooLarge);
-    }
-    if base > LARGEST_BASE {
-        return Checked::Refused(Refusal::BaseTooFar);
-    }
-    Checked::Passed
-}
-
 // `types` are the learned ones, one a column.
 pub fn carve_unallocated(
     region: &[u8],
@@ -273,19 +239,14 @@ pub fn carve_unallocated(
     rows: &mut [u64],
     cols: &mut [u64],
 ) -> Filled
-    ensures answer { λ r. ⌜ r ≡ learnedAnswer (now (region .entry)) (now (types .entry)) base (length (now (rows .entry)))
-        (length (now (cols .entry))) ⌝ }
-    ensures rows { λ _. ⌜ now (rows .exit) ≡ learnedRows (now (region .entry)) (now (types .entry)) base (now (rows .entry))
-        (now (cols .entry)) ⌝ }
-    ensures cols { λ _. ⌜ now (cols .exit) ≡ learnedCols (now (region .entry)) (now (types .entry)) base (now (rows .entry))
-        (now (cols .entry)) ⌝ }
-    ensures number { λ r. ⌜ filledNumber r ≡ learnedNumber (now (region .entry)) (now (types .entry)) base (length (now (rows .entry)))
-        (length (now (cols .entry))) ⌝ }
-    ensures written { λ r. ⌜ filledWritten r ≡ learnedWritten (now (region .entry)) (now (types .entry)) base
-        (length (now (rows .entry))) (length (now (cols .entry))) ⌝ }
+    ensures { λ r. ⌜ FillsRows (learnedFilling (now (region .entry)) (now (types .entry)) base (now (rows .entry)) (now (cols .entry)))
+        (rowOutcome r (now (rows .exit)) (now (cols .exit))) ⌝ }
 {
-    match check(region.len(), types.len(), base) {
+    match check_counted(region.len(), types.len(), base) {
         Checked::Refused(refusal) => Filled::Refused(refusal),
-        Checked::Passed => fill(region, types, base, rows, cols),
+        Checked::Passed => {
+            let most = room(rows.len(), cols.len(), types.len());
+            carve_rows(region, types, base, most, rows, cols).filled(most)
+        }
     }
 }

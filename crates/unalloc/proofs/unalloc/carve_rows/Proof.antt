@@ -5,8 +5,8 @@ use native.Mathlib.Omega.{arith}
 use borrow.Author.Needs.{needs}
 use denote.Ref.{now}
 use lib.ListN.{length}
-use Rattle.carve.proofs.Writing.{fitting}
-use Rattle.carve.specs.Inner.{HitIs}
+use Rattle.modes.proofs.Writing.{fitting}
+use Rattle.modes.specs.Inner.{HitIs}
 use Rattle.unalloc.proofs.Running.{row-ends, Rows, rows-start, rows-ready, rows-done, rows-missed, rows-over, rows-one}
 use Rattle.unalloc.proofs.unalloc.carve_rows.Statement.{statement}
 use Rattle.unalloc.proofs.unalloc.carve_rows.Tie as tie

@@ -2,14 +2,13 @@
 -- Assumes nothing.
 use mathlib.Core.Path.{sym, _∙_}
 use borrow.Author.Needs.{needs}
-use Rattle.unalloc.proofs.Running.{filling}
+use Rattle.modes.proofs.Writing.{ready}
 use Rattle.unalloc.proofs.unalloc.carve_unallocated.Statement.{statement}
 use Rattle.unalloc.proofs.unalloc.carve_unallocated.Tie as tie
-use Rattle.unalloc.specs.Learned.{learnedAnswer, learnedRows, learnedCols, learnedNumber, learnedWritten}
-use Rattle.sheet.proofs.Filling.{page-refused, page-passed}
+use Rattle.sheet.proofs.Filling.{carved-filled, rows-refused, rows-filled}
 
-check-requires : tie.Need-check-requires
-check-requires c κs = search needs
+check-counted-requires : tie.Need-check-counted-requires
+check-counted-requires c κs = search needs
 
 enum-known-refusal : tie.Need-enum-known-refusal
 enum-known-refusal c = search needs
@@ -17,12 +16,17 @@ enum-known-refusal c = search needs
 enum-told : tie.Need-enum-told
 enum-told c = search needs
 
-fill-requires : tie.Need-fill-requires
-fill-requires c κs = filling _ _ _ (sym (c .before .before .before .before .check .ensures) ∙ c .before .before .enum-told .given .1)
+room-requires : tie.Need-room-requires
+room-requires c κs = search needs
+
+carve-rows-requires : tie.Need-carve-rows-requires
+carve-rows-requires c κs = ready _ _ _ _ _ _ (sym (c .before .before .before .before .before .check-counted .ensures) ∙ c .before .before .before .enum-told .given .1) (c .before .before .room .ensures)
+
+filled-requires : tie.Need-filled-requires
+filled-requires c κs = search needs
 
 returns : tie.Need-returns
-unfolding learnedAnswer learnedRows learnedCols learnedNumber learnedWritten
-returns c = page-refused _ _ _ _ _ _ (sym (c .before .before .before .check .ensures) ∙ c .before .refusal .given .1)
+returns c = rows-refused _ _ (sym (c .before .before .before .check-counted .ensures) ∙ c .before .refusal .given .1)
 
 same-length : tie.Need-same-length
 same-length c = search needs
@@ -31,17 +35,20 @@ same-length-2 : tie.Need-same-length-2
 same-length-2 c = search needs
 
 returns-2 : tie.Need-returns-2
-unfolding learnedAnswer learnedRows learnedCols learnedNumber learnedWritten
-returns-2 c = page-passed _ _ _ _ _ _ _ _ (sym (c .before .before .before .before .before .before .before .before .before .check .ensures) ∙ c .before .before .before .before .before .before .before .enum-told .given .1) (c .before .before .before .before .fill .ensures)
+returns-2 c =
+    let q = c .before .before .before .before .before .carve-rows in
+    rows-filled _ _ (sym (c .before .before .before .before .before .before .before .before .before .before .before .check-counted .ensures) ∙ c .before .before .before .before .before .before .before .before .before .enum-told .given .1) (rw (c .filled .ensures) (carved-filled _ _ _ _ _ _ _ (c .before .before .before .before .before .before .before .before .room .ensures) (q .result) (q .ensures)))
 
 pub carve-unallocated-spec : {M : Type 1} → statement M
 carve-unallocated-spec =
     tie.close
     (tie.spec
-    check-requires
+    check-counted-requires
     enum-known-refusal
     enum-told
-    fill-requires
+    room-requires
+    carve-rows-requires
+    filled-requires
     returns
     same-length
     same-length-2

@@ -49,8 +49,8 @@ returns-4 c = attempt-bad _ _ _ _ _ (read (c .before .before .before)) (λ p q r
 add-start : tie.Need-add-start
 add-start c = search needs
 
-walk-types-requires : tie.Need-walk-types-requires
-walk-types-requires c κs = headed _ _ _ _ _ (read (c .before .before .before)) (c .before .before .if1 .left) (c .if3 .left) (c .before .if2 .left) (c .before .before .before .before .before .before .before .before .before .pre .0 .1) (c .before .before .before .before .before .before .before .before .before .pre .1 .1)
+read-and-match-requires : tie.Need-read-and-match-requires
+read-and-match-requires c κs = headed _ _ _ _ _ (read (c .before .before .before)) (c .before .before .if1 .left) (c .if3 .left) (c .before .if2 .left) (c .before .before .before .before .before .before .before .before .before .pre .0 .1) (c .before .before .before .before .before .before .before .before .before .pre .1 .1)
 
 enum-known-count : tie.Need-enum-known-count
 enum-known-count c = search needs
@@ -59,20 +59,20 @@ enum-told-2 : tie.Need-enum-told-2
 enum-told-2 c = search needs
 
 returns-5 : tie.Need-returns-5
-returns-5 c = attempt-fails _ _ _ _ _ (read (c .before .before .before .before .before .before)) (c .before .before .before .before .before .if1 .left) (c .before .before .before .if3 .left) (c .before .before .before .before .if2 .left) (rw (c .enum-told2 .given .1) at (c .before .before .walk-types .ensures))
+returns-5 c = attempt-fails _ _ _ _ _ (read (c .before .before .before .before .before .before)) (c .before .before .before .before .before .if1 .left) (c .before .before .before .if3 .left) (c .before .before .before .before .if2 .left) (rw (c .enum-told2 .given .1) at (c .before .before .read-and-match .ensures))
 
 returns-6 : tie.Need-returns-6
-returns-6 c = attempt-none _ _ _ _ _ (read (c .before .before .before .before .before .before .before .before)) (c .before .before .before .before .before .before .before .if1 .left) (c .before .before .before .before .before .if3 .left) (c .before .before .before .before .before .before .if2 .left) _ _ (rw (c .before .before .count .given .1) at (c .before .before .before .before .walk-types .ensures)) (c .if4 .taken)
+returns-6 c = attempt-none _ _ _ _ _ (read (c .before .before .before .before .before .before .before .before)) (c .before .before .before .before .before .before .before .if1 .left) (c .before .before .before .before .before .if3 .left) (c .before .before .before .before .before .before .if2 .left) _ _ (rw (c .before .before .count .given .1) at (c .before .before .before .before .read-and-match .ensures)) (c .if4 .taken)
 
 learned-requires : tie.Need-learned-requires
 learned-requires c κs =
-    let few = few-match _ _ _ _ _ (read (c .before .before .before .before .before .before .before .before)) (c .before .before .before .before .before .before .before .if1 .left) (c .before .before .before .before .before .if3 .left) (c .before .before .before .before .before .before .if2 .left) _ _ (rw (c .before .before .count .given .1) at (c .before .before .before .before .walk-types .ensures)) in
+    let few = few-match _ _ _ _ _ (read (c .before .before .before .before .before .before .before .before)) (c .before .before .before .before .before .before .before .if1 .left) (c .before .before .before .before .before .if3 .left) (c .before .before .before .before .before .before .if2 .left) _ _ (rw (c .before .before .count .given .1) at (c .before .before .before .before .read-and-match .ensures)) in
     (omega (arith, few, c .before .before .before .before .before .before .before .before .before .before .before .before .before .before .pre .1 .1), c .before .before .before .before .before .before .before .before .before .before .before .before .before .before .pre .1 .0)
 
 returns-7 : tie.Need-returns-7
 returns-7 c =
     rw (c .learned .ensures)
-    (attempt-hit _ _ _ _ _ (read (c .before .before .before .before .before .before .before .before .before)) (c .before .before .before .before .before .before .before .before .if1 .left) (c .before .before .before .before .before .before .if3 .left) (c .before .before .before .before .before .before .before .if2 .left) _ _ (rw (c .before .before .before .count .given .1) at (c .before .before .before .before .before .walk-types .ensures)) (omega (arith, c .before .if4 .left)))
+    (attempt-hit _ _ _ _ _ (read (c .before .before .before .before .before .before .before .before .before)) (c .before .before .before .before .before .before .before .before .if1 .left) (c .before .before .before .before .before .before .if3 .left) (c .before .before .before .before .before .before .before .if2 .left) _ _ (rw (c .before .before .before .count .given .1) at (c .before .before .before .before .before .read-and-match .ensures)) (omega (arith, c .before .if4 .left)))
 
 pub try-parse-record-spec : {M : Type 1} → statement M
 try-parse-record-spec =
@@ -88,7 +88,7 @@ try-parse-record-spec =
     sub-if3
     returns-4
     add-start
-    walk-types-requires
+    read-and-match-requires
     enum-known-count
     enum-told-2
     returns-5

@@ -1,0 +1,105 @@
+-- `unalloc::unalloc::read_and_match` meets its contract: what the loop has read, with what is left, comes to the whole (`ReadSoFar`).
+-- Assumes nothing.
+use Prim.Native.Nat.{_-_, _≤_}
+use mathlib.Core.Path.{_≡_, sym, _∙_}
+use native.Mathlib.Omega.{arith}
+use borrow.Author.Needs.{needs}
+use borrow.Author.Tests.{not-true, not-false}
+use denote.Ref.{now}
+use lib.ListN.{length}
+use Rattle.modes.specs.Found.{typesFrom}
+use Rattle.record.specs.Varint.{varintAt}
+use Rattle.record.specs.declared.varint.Varint.the-variants.{Value}
+use Rattle.unalloc.proofs.Reading.{ReadSoFar, reading-start, reading-cut, reading-out, reading-on, reading-past, reading-all}
+use Rattle.unalloc.proofs.unalloc.read_and_match.Statement.{statement}
+use Rattle.unalloc.proofs.unalloc.read_and_match.Tie as tie
+
+abbrev Inv-loop : tie.InvT-loop
+Inv-loop region types from stop at₀ end₀ count₀ matched₀ at end count matched =
+    (count ≤ length types) × ReadSoFar region types stop (typesFrom (length types) region from stop) at end count matched
+
+abbrev μ-loop : tie.MeasureT-loop
+μ-loop region types from stop at₀ end₀ count₀ matched₀ at end count matched = length types - count
+
+loop-holds : tie.Need-loop-holds Inv-loop μ-loop
+loop-holds c = (omega arith, reading-start _ _ _ _ (c .before .before .pre .within))
+
+returns : tie.Need-returns Inv-loop μ-loop
+returns c = reading-past _ _ _ _ _ _ _ _ (c .before .before .loop .inv .1) (c .if1 .taken)
+
+serial-type-requires : tie.Need-serial-type-requires Inv-loop μ-loop
+serial-type-requires c κs = search needs
+
+enum-known-kind : tie.Need-enum-known-kind Inv-loop μ-loop
+enum-known-kind c = search needs
+
+enum-told : tie.Need-enum-told Inv-loop μ-loop
+enum-told c = search needs
+
+returns-2 : tie.Need-returns-2 Inv-loop μ-loop
+returns-2 c = reading-cut _ _ _ _ _ _ _ _ (c .before .before .before .before .before .loop .inv .1) (c .before .before .before .before .loop-test .taken) (c .before .before .before .if1 .left) (sym (c .before .before .serial-type .ensures) ∙ c .enum-told .given .1)
+
+-- the type that was read
+read : (c : tie.After-known-told Inv-loop μ-loop) → varintAt (now (c .before .before .before .before .before .before .before .before .before .args .region)) (c .before .before .before .before .before .before .loop .at) ≡ Value (c .before .kind .given .0 .0) (c .before .kind .given .0 .1 .0)
+read c = sym (c .before .before .before .serial-type .ensures) ∙ c .before .kind .given .1
+
+column-at-requires : tie.Need-column-at-requires Inv-loop μ-loop
+column-at-requires c κs = c .before .before .before .before .before .before .loop .inv .1 .inside
+
+is-there-requires : tie.Need-is-there-requires Inv-loop μ-loop
+is-there-requires c κs = search needs
+
+returns-3 : tie.Need-returns-3 Inv-loop μ-loop
+returns-3 c =
+    let x = c .before .before .column-at in
+    reading-out _ _ _ _ _ _ _ _ (c .before .before .before .before .before .before .before .before .before .loop .inv .1) (c .before .before .before .before .before .before .before .before .loop-test .taken) (c .before .before .before .before .before .before .before .if1 .left) _ _ (read (c .before .before .before)) (rw (x .ensures .0) at (sym (c .before .is-there .ensures) ∙ not-true _ (c .if2 .taken)))
+
+matches-at-requires : tie.Need-matches-at-requires Inv-loop μ-loop
+matches-at-requires c κs = c .before .before .before .before .before .before .before .before .loop-test .taken
+
+add-matched : tie.Need-add-matched Inv-loop μ-loop
+add-matched c = let w = c .before .before .before .before .before .before .before .before .before .before .loop .inv in omega (arith, w .0, w .1 .few, c .matches-at .ensures .1, c .before .before .before .before .before .before .before .before .before .loop-test .taken, c .before .before .before .before .before .before .before .before .before .before .before .before .before .pre .few)
+
+behind-requires : tie.Need-behind-requires Inv-loop μ-loop
+behind-requires c κs = omega (arith, c .before .before .before .column-at .ensures .1, c .before .before .before .before .before .before .before .before .before .before .before .before .before .pre .small)
+
+add-count : tie.Need-add-count Inv-loop μ-loop
+add-count c = search needs
+
+loop-less : tie.Need-loop-less Inv-loop μ-loop
+loop-less c = search needs
+
+loop-again : tie.Need-loop-again Inv-loop μ-loop
+loop-again c =
+    let x = c .before .before .before .before .column-at in
+    let m = c .before .matches-at in (
+      search needs,
+      rw (c .behind .ensures, x .ensures .0)
+          (reading-on _ _ _ _ _ _ _ _ (c .before .before .before .before .before .before .before .before .before .before .before .loop .inv .1) (c .before .before .before .before .before .before .before .before .before .before .loop-test .taken) (c .before .before .before .before .before .before .before .before .before .if1 .left) _ _ (read (c .before .before .before .before .before)) (rw (x .ensures .0) at (sym (c .before .before .before .is-there .ensures) ∙ not-false _ (c .before .before .if2 .left))) _ (m .ensures .0) (m .ensures .1)),
+    )
+
+returns-4 : tie.Need-returns-4 Inv-loop μ-loop
+returns-4 c = reading-all _ _ _ _ _ _ _ _ (c .before .loop .inv .1) (c .loop-test .left)
+
+pub read-and-match-spec : {M : Type 1} → statement M
+read-and-match-spec =
+    tie.close
+    (tie.spec
+    Inv-loop
+    μ-loop
+    loop-holds
+    returns
+    serial-type-requires
+    enum-known-kind
+    enum-told
+    returns-2
+    column-at-requires
+    is-there-requires
+    returns-3
+    matches-at-requires
+    add-matched
+    behind-requires
+    add-count
+    loop-less
+    loop-again
+    returns-4)

@@ -15,7 +15,7 @@ use Rattle.filter.specs.Inner.{Passed, ThroughIs}
 use Rattle.record.proofs.Numbers.{by-order}
 use Rattle.scan.specs.Inner.{Ran}
 use Rattle.attempt.specs.Places.{attemptPlaces}
-use Rattle.scan.specs.Scan.{Run, through, noRoom, missed, found, scanFrom, rowOf, rowsOf, rowCount, entriesOf, finishedPlaces, endOf, answerOf}
+use Rattle.scan.specs.Scan.{Run, through, noRoom, missed, found, scanFrom, rowOf, rowsOf, rowCount, entriesOf, finishedPlaces, endOf, answerOf, scanOutcome}
 use Rattle.sheet.specs.Sheet.{columnsWords}
 use Rattle.scan.specs.declared.schema_sig.Scanned.{Scanned}
 use Rattle.scan.specs.declared.schema_sig.Scanned.the-variants.{Done, Full}
@@ -166,7 +166,7 @@ module _ (s hints : List ℕ) (base start room : ℕ) (rows₀ cols₀ rows cols
     -- nothing is left to come
     ran : (t : Run) (a : Scanned) → rowsOf base (length hints) t ≡ [] → entriesOf t ≡ [] → rowCount t ≡ 0 → length (finishedPlaces s t) ≡ 0 → endOf (length s) n read t ≡ a
         → Going s base (length hints) (wordsPerEntry * length hints) (scanFrom (length s) s hints room start 0) rows₀ cols₀ t rows cols n read
-        → Ran s hints base start room rows₀ cols₀ a rows cols
+        → Ran s hints base start room rows₀ cols₀ (scanOutcome a rows cols)
     ran t a er ec z r d g =
         let t₀ = scanFrom (length s) s hints room start 0 in
         let c : rowCount t₀ ≡ n = omega (arith, g .counts) in
@@ -182,12 +182,12 @@ module _ (s hints : List ℕ) (base start room : ℕ) (rows₀ cols₀ rows cols
           cols-are = rc ∙ laid-over (entriesOf t₀) cols₀ (omega (arith, g .words));
         }
 
-    pub on-end : length s - 2 ≤ o → On s hints base start room rows₀ cols₀ rows cols o n read → Ran s hints base start room rows₀ cols₀ (Done n (length s) read) rows cols
+    pub on-end : length s - 2 ≤ o → On s hints base start room rows₀ cols₀ rows cols o n read → Ran s hints base start room rows₀ cols₀ (scanOutcome (Done n (length s) read) rows cols)
     unfolding On
     on-end h (f, q, g) = ran through (Done n (length s) read) refl refl refl refl refl (rw (scan-end f s hints room o n h) at g)
 
     pub on-full : (x : Found) → o < length s - 2 → attemptAt s hints o ≡ hit x → room ≤ n → On s hints base start room rows₀ cols₀ rows cols o n read
-        → Ran s hints base start room rows₀ cols₀ (Full n o read) rows cols
+        → Ran s hints base start room rows₀ cols₀ (scanOutcome (Full n o read) rows cols)
     unfolding On
     on-full x h e m (zero, q, g) = absurd (omega arith)
     on-full x h e m (suc f, q, g) = ran (noRoom o) (Full n o read) refl refl refl refl refl (rw (scan-full f s hints room o n h x e m) at g)

@@ -1,13 +1,13 @@
 -- What a call leaves at the front of its lists is the sheet of its rules.
 -- Assumes nothing.
 use Prim.Native.Nat.{ℕ, _*_}
-use mathlib.Core.Path.{_≡_, refl, sym, ap, _∙_}
-use mathlib.Core.List.{List, [], _++_}
+use mathlib.Core.Path.{_≡_, refl, ap, _∙_}
+use mathlib.Core.List.{List, []}
 use native.Mathlib.Nat.{zero-mul}
 use lib.ListN.{length, take, drop}
 use lib.Seq.{take-append-seam}
 use Rattle.scan.specs.Scan.{Run, rowsOf, rowCount, entriesOf, runNumber, runPlace, scanChecked, ScanAsked, scanAsked, scanRun, scanRows, scanCols, scanNumber, scanWritten, scanPlace, scanCount}
-use Rattle.scan.specs.Sheet.{Sheet, runSheet, emptySheet, asked, askedSheet, askedCount, sheetOf}
+use Rattle.scan.specs.Sheet.{runSheet, emptySheet, asked, askedSheet, askedCount, sheetOf}
 use Rattle.scan.proofs.RunValues.{run-reads}
 use Rattle.scan.proofs.Running.{rows-count}
 use Rattle.sheet.proofs.Laws.{rows-words-length}

@@ -1,8 +1,8 @@
 -- One attempt as a call: what each way out leaves, and that it is the first step of a scan.
 -- Assumes nothing.
-use Prim.Native.Nat.{ℕ, zero, suc, zero-le, _+_, _-_, _*_, _≤_, _<_}
-use mathlib.Core.Path.{_≡_, refl, sym, ap, _∙_}
-use mathlib.Core.List.{List, [], _∷_, _++_, append-nil}
+use Prim.Native.Nat.{ℕ, zero, suc, zero-le, _+_, _-_, _*_, _<_}
+use mathlib.Core.Path.{_≡_, refl}
+use mathlib.Core.List.{List, [], _∷_, append-nil}
 use native.Mathlib.Nat.{sub-self, zero-mul}
 use native.Mathlib.Omega.{arith}
 use lib.ListN.{length, take}
@@ -17,7 +17,7 @@ use Rattle.sheet.proofs.Filling.{carved-filled}
 use Rattle.sheet.specs.Columns.{unusedWords, roomOf}
 use Rattle.sheet.specs.Hits.{Hit, rowsOf as hitRows, groupWords, groupsWords, rowOutcome}
 use Rattle.sheet.specs.Inner.{FilledIs}
-use Rattle.sheet.specs.Limits.{wordsPerRow, wordsPerEntry}
+use Rattle.sheet.specs.Limits.{wordsPerEntry}
 use Rattle.sheet.specs.Row.{rowWords}
 use Rattle.sheet.specs.Sheet.{columnsWords}
 use Rattle.sheet.specs.declared.filled.Filled.the-variants.{Done, Full}

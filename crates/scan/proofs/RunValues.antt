@@ -1,9 +1,9 @@
 -- What the entries of a run read as: each is the value of its type at its place.
 -- Assumes nothing.
 use Prim.Native.Nat.{ℕ, zero, suc, _+_, _-_, _*_, _<_}
-use mathlib.Core.Path.{_≡_, refl, sym, ap, _∙_}
-use mathlib.Core.List.{List, [], _∷_, _++_, map, append-nil, append-assoc, map-append}
-use native.Mathlib.Nat.{suc-mul, zero-mul, add-comm}
+use mathlib.Core.Path.{_≡_, refl, sym}
+use mathlib.Core.List.{List, [], _++_, map, append-assoc, map-append}
+use native.Mathlib.Nat.{suc-mul, zero-mul}
 use native.Mathlib.Omega.{arith}
 use lib.ListN.{length, length-append}
 use Rattle.attempt.proofs.ReadBack.{hit-reads}
@@ -11,9 +11,8 @@ use Rattle.attempt.specs.Attempt.{Found, Tried, miss, hit, attemptAt}
 use Rattle.attempt.specs.Values.{rowValues}
 use Rattle.record.proofs.Numbers.{by-order}
 use Rattle.record.specs.Entry.{readEntry}
-use Rattle.record.specs.declared.entry.EntryRead.{EntryRead}
 use Rattle.record.specs.declared.entry.EntryRead.the-variants.{Of}
-use Rattle.scan.specs.Scan.{Run, through, noRoom, missed, found, scanFrom, rowCount, entriesOf}
+use Rattle.scan.specs.Scan.{Run, through, noRoom, found, scanFrom, rowCount, entriesOf}
 use Rattle.scan.specs.Sheet.{runValues}
 use Rattle.scan.proofs.Running.{scan-none, scan-missed, scan-found, scan-full, scan-end}
 use Rattle.sheet.proofs.Laws.{columns-words-length}

@@ -1,10 +1,9 @@
 -- `scan::schema_sig::once` meets its contract: each way out is a law of `proofs/OneAttempt.antt`.
 -- Assumes nothing.
-use Prim.Native.Nat.{_+_, _<_}
-use mathlib.Core.Path.{_≡_, sym, _∙_}
+use Prim.Native.Nat.{_<_}
+use mathlib.Core.Path.{sym, _∙_}
 use native.Mathlib.Nat.{zero-mul}
 use native.Mathlib.Omega.{arith}
-use lib.ListN.{length}
 use denote.Ref.{now}
 use Rattle.attempt.specs.Attempt.{attemptAt}
 use Rattle.attempt.specs.Inner.{HitIs}

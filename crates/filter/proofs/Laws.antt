@@ -5,7 +5,6 @@ use mathlib.Core.Path.{_≡_, refl}
 use mathlib.Core.List.{List}
 use native.Mathlib.Nat.{zero-add}
 use native.Mathlib.Omega.{arith}
-use lib.ListN.{length}
 use Rattle.attempt.specs.Places.{mostPlaces}
 use Rattle.record.proofs.Numbers.{by-order}
 use Rattle.filter.specs.Inner.{IsHigh, MissAt, MissFrom, MissBetween, PassedOverIs}

@@ -1,12 +1,9 @@
 -- `filter::inner::next_row` meets its contract: the offsets before `at` are passed over (`PassedOverIs`), and the step there is known.
 -- Assumes nothing.
-use Prim.Native.Nat.{_+_, _-_, _*_, _≤_, _<_}
-use mathlib.Core.Path.{_≡_}
+use Prim.Native.Nat.{_+_, _-_}
 use native.Mathlib.Omega.{arith}
 use borrow.Author.Needs.{needs}
 use denote.Ref.{now}
-use lib.ListN.{length}
-use Rattle.record.proofs.Numbers.{by-order}
 use Rattle.filter.specs.Inner.{PassedOverIs, OnIs, StepSays}
 use Rattle.filter.proofs.Laws.{passed-none, passed-on, passed-few}
 use Rattle.filter.proofs.inner.next_row.Statement.{statement}

@@ -1,11 +1,8 @@
 -- `filter::inner::one_step` meets its contract.
 -- Assumes nothing.
-use Prim.Native.Nat.{_+_, _-_, _*_, _≤_, _<_}
-use mathlib.Core.Path.{_≡_}
+use Prim.Native.Nat.{_-_}
 use native.Mathlib.Omega.{arith}
 use borrow.Author.Needs.{needs}
-use denote.Ref.{now}
-use lib.ListN.{length}
 use Rattle.filter.proofs.Laws.{passed-none, passed-first}
 use Rattle.filter.proofs.inner.one_step.Statement.{statement}
 use Rattle.filter.proofs.inner.one_step.Tie as tie

@@ -1,11 +1,9 @@
 -- `filter::inner::pass_header` meets its contract: each way out is a law of `proofs/Headers.antt`.
 -- Assumes nothing.
-use Prim.Native.Nat.{_+_, _-_, _*_, _≤_, _<_}
-use mathlib.Core.Path.{_≡_}
+use Prim.Native.Nat.{_-_}
 use native.Mathlib.Omega.{arith}
 use borrow.Author.Needs.{needs}
 use denote.Ref.{now}
-use lib.ListN.{length}
 use Rattle.filter.proofs.Headers.{one-past, one-never}
 use Rattle.filter.proofs.Laws.{passed-none, passed-first}
 use Rattle.filter.proofs.inner.pass_header.Statement.{statement}

@@ -1,9 +1,8 @@
-use Prim.Native.Nat.{_+_, _-_, _*_, _≤_, _<_, min}
-use mathlib.Core.Path.{_≡_, refl, sym, _∙_}
+use Prim.Native.Nat.{_-_, _≤_}
+use mathlib.Core.Path.{refl, sym, _∙_}
 use native.Mathlib.Omega.{arith}
 use borrow.Author.Needs.{needs}
 use denote.Ref.{now}
-use lib.ListN.{length, getD}
 use Rattle.filter.specs.Inner.{PassedOverIs, MissAt}
 use Rattle.filter.proofs.Headers.{large-not}
 use Rattle.filter.proofs.Laws.{passed-none, passed-one, passed-few}

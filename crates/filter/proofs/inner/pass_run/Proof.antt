@@ -1,11 +1,8 @@
 -- `filter::inner::pass_run` meets its contract: the first byte decides.
 -- Assumes nothing.
-use Prim.Native.Nat.{_+_, _-_, _*_, _≤_, _<_}
-use mathlib.Core.Path.{_≡_}
+use Prim.Native.Nat.{_-_}
 use native.Mathlib.Omega.{arith}
 use borrow.Author.Needs.{needs}
-use denote.Ref.{now}
-use lib.ListN.{length}
 use Rattle.filter.proofs.Laws.{passed-none, passed-wider}
 use Rattle.filter.proofs.inner.pass_run.Statement.{statement}
 use Rattle.filter.proofs.inner.pass_run.Tie as tie

@@ -1,11 +1,10 @@
 -- `filter::inner::pass_seen` meets its contract: the offsets before o are passed over (`PassedOverIs`).
 -- Assumes nothing.
-use Prim.Native.Nat.{_+_, _-_, _*_, _≤_, _<_}
-use mathlib.Core.Path.{_≡_, refl}
+use Prim.Native.Nat.{_-_}
+use mathlib.Core.Path.{refl}
 use native.Mathlib.Omega.{arith}
 use borrow.Author.Needs.{needs}
-use denote.Ref.{now}
-use Rattle.filter.specs.Inner.{PassedOverIs, MissAt}
+use Rattle.filter.specs.Inner.{PassedOverIs}
 use Rattle.filter.proofs.Headers.{too-low}
 use Rattle.filter.proofs.Laws.{passed-none, passed-one, passed-few}
 use Rattle.filter.proofs.inner.pass_seen.Statement.{statement}

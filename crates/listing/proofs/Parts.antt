@@ -7,7 +7,7 @@ use lib.ListN.{length, replicate, length-replicate}
 use Rattle.listing.specs.Part.{rowSpace, colSpace, partAnswer, partText}
 use Rattle.listing.specs.Text.{rowsText}
 use Rattle.scan.proofs.Laws.{scan-bounded, same-answer, Bounded}
-use Rattle.scan.specs.Scan.{writtenOf, ScanAsked, scanAsked, scanRows, scanCols, ScanOutcome, ScansRegion}
+use Rattle.scan.specs.Scan.{writtenOf, scanAsked, ScanOutcome, ScansRegion}
 use Rattle.sheet.specs.Columns.{roomOf}
 
 module _ (s hints : List ℕ) (start : ℕ) where

@@ -37,7 +37,7 @@ module _ (s hints : List ℕ) (base o : ℕ) where
   unfolding onceHits
   once-one x e = rw e
 
-  -- ---- the ways out
+  -- ---- what is left where there is no row, where it finds no room, and where it is written
   module _ (rows cols : List ℕ) where
     abbrev room : ℕ
     room = roomOf (length rows) (length cols) (length hints)
@@ -61,7 +61,7 @@ module _ (s hints : List ℕ) (base o : ℕ) where
           (carved-filled (length hints) room (h ∷ []) rows cols rows′ cols′ refl (More 1)
           (carves-one (length hints) room 0 rows cols h rows′ cols′ p (omega arith) er (rw (z, group-whole (length hints) h as-many) ec)))
 
-  -- ---- THE LAW: the rows and the words of one attempt are those of a scan that has room for as many and makes one attempt there
+  -- THE LAW: where a scan tries the offset, the rows and the entries that one attempt writes are those of a scan from there that makes no second attempt
   pub first-step : (room : ℕ) → o < length s - 2 →
       let t = scanFrom 1 s hints room o 0 in
       let hits = take room (onceHits s hints base o) in

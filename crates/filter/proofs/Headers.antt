@@ -7,9 +7,9 @@ use mathlib.Core.List.{List}
 use native.Mathlib.Omega.{arith}
 use lib.ListN.{length, getD}
 use Rattle.attempt.proofs.Judging.{fits, fits-not, attempt-short, attempt-bad, attempt-is, places-is, headed, read-all, judge-never}
-use Rattle.attempt.specs.Attempt.{kinds, isWhole, typesFrom, headerFits, attemptAt}
+use Rattle.attempt.specs.Attempt.{kinds, isWhole, headerFits}
 use Rattle.attempt.specs.Inner.{reach, headerTypes, Headed, Ends}
-use Rattle.filter.specs.Inner.{MissAt, IsHigh, Holds, AllLow, SoonEnds, MayHave}
+use Rattle.filter.specs.Inner.{MissAt, Holds, AllLow, SoonEnds, MayHave}
 use Rattle.filter.specs.declared.inner.high.High.{High}
 use Rattle.attempt.proofs.Skipping.{Skipped, skipped-start, skipped-step, skipped-more, skip-past, ends-start, ends-pass, ends-step, ends-end, unfitting}
 use Rattle.record.proofs.Laws.{varint-low, varint-large, varint-through}

@@ -12,7 +12,7 @@ use Rattle.attempt.specs.declared.inner.Find.{Find}
 use Rattle.filter.specs.declared.inner.high.High.{High}
 use Rattle.filter.specs.declared.inner.Next.{Next}
 use Rattle.filter.specs.declared.inner.Next.the-variants.{Row, Through}
-use Rattle.filter.specs.declared.inner.Over.{Over}
+use Rattle.filter.specs.declared.inner.PassedWithRun.{PassedWithRun}
 use Rattle.filter.specs.declared.inner.Step.{Step}
 use Rattle.filter.specs.declared.inner.Step.the-variants.{Row as Stands, On}
 
@@ -78,26 +78,27 @@ abbrev pub MissFrom : List ℕ → List ℕ → ℕ → ℕ → ℕ → Type 0
 MissFrom s hints o zero read = read ≡ 0
 MissFrom s hints o (suc k) read = (sum r : ℕ) × MissFrom s hints o k sum × MissAt s hints (o + k) r × (read ≡ sum + r)
 
--- offsets from `start` to `to` are passed over
-pub record Passed (s hints : List ℕ) (start to read : ℕ) : Type 0 where
+-- the attempts from `start` up to `to` fail, and read so many
+pub record MissBetween (s hints : List ℕ) (start to read : ℕ) : Type 0 where
   pub count : ℕ
   pub to-is : to ≡ start + count
-  pub over : MissFrom s hints start count read
+  pub each-fails : MissFrom s hints start count read
   pub few : read ≤ mostPlaces * count
 
--- and none from `last` on
-pub record Went (s hints : List ℕ) (start last to read : ℕ) : Type 0 where
-  pub passed : Passed s hints start to read
+-- offsets from `start` to `to` are passed over, and none from `last` on
+pub record PassedOverIs (s hints : List ℕ) (start last to read : ℕ) : Type 0 where
+  pub misses : MissBetween s hints start to read
   pub near : start < last → to ≤ last
   pub early : last ≤ start → (to ≡ start) × (read ≡ 0)
 
-pub record Met (s hints : List ℕ) (start last : ℕ) (r : Over) : Type 0 where
-  pub went : Went s hints start last (r .to) (r .read)
+-- and the run that was met last is one
+pub record PassedWithRunIs (s hints : List ℕ) (start last : ℕ) (r : PassedWithRun) : Type 0 where
+  pub passed : PassedOverIs s hints start last (r .to) (r .read)
   pub run-is : IsHigh s (r .run)
 
 -- ---- the next row, behind offsets that are passed over
 pub record RowIs (s hints : List ℕ) (start last at : ℕ) (x : Find) (read : ℕ) (run : High) : Type 0 where
-  pub passed : Passed s hints start at read
+  pub misses : MissBetween s hints start at read
   pub below : at < last
   pub found : HitIs s hints at (attemptAt s hints at) (attemptPlaces s at) x
   pub run-is : IsHigh s run
@@ -105,17 +106,17 @@ pub record RowIs (s hints : List ℕ) (start last at : ℕ) (x : Find) (read : �
 -- or all are passed over
 pub record ThroughIs (s hints : List ℕ) (start last read : ℕ) : Type 0 where
   pub to : ℕ
-  pub went : Went s hints start last to read
+  pub passed : PassedOverIs s hints start last to read
   pub there : last ≤ to
 
 -- or one step on
-pub record OnIs (s hints : List ℕ) (o last : ℕ) (over : Over) : Type 0 where
-  pub met : Met s hints o last over
-  pub further : o < last → o < over .to
+pub record OnIs (s hints : List ℕ) (o last : ℕ) (x : PassedWithRun) : Type 0 where
+  pub step : PassedWithRunIs s hints o last x
+  pub further : o < last → o < x .to
 
 abbrev pub StepSays : List ℕ → List ℕ → ℕ → ℕ → Step → Type 0
 StepSays s hints o last (Stands x run) = (o < last) × HitIs s hints o (attemptAt s hints o) (attemptPlaces s o) x × IsHigh s run
-StepSays s hints o last (On over) = OnIs s hints o last over
+StepSays s hints o last (On x) = OnIs s hints o last x
 
 abbrev pub NextSays : List ℕ → List ℕ → ℕ → ℕ → Next → Type 0
 NextSays s hints start last (Row at x read run) = RowIs s hints start last at x read run

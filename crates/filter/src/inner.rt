@@ -18,17 +18,17 @@ use record::inner::wide;
 ghost use mathlib.Core.Path.{_≡_};
 ghost use Prim.Native.Nat.{_+_, _-_, _≤_, _<_};
 ghost use lib.ListN.{length, getD};
-ghost use Rattle.filter.specs.Inner.{IsHigh, Holds, Dismissed, Went, Met, StepSays, NextSays};
+ghost use Rattle.filter.specs.Inner.{IsHigh, Holds, Dismissed, PassedOverIs, PassedWithRunIs, StepSays, NextSays};
 ghost use Rattle.sheet.specs.Limits.{mostColumns, largestRegion};
 
 // Up to where offsets are passed over, and the header bytes that attempts there read.
-struct Gone {
+struct PassedOver {
     to: usize,
     read: usize,
 }
 
 // The same, and the run of high bytes that was met last.
-struct Over {
+struct PassedWithRun {
     to: usize,
     read: usize,
     run: High,
@@ -37,7 +37,7 @@ struct Over {
 // A row that starts here, with the run that was met last, or how far it is passed over.
 enum Step {
     Row { find: Find, run: High },
-    On(Over),
+    On(PassedWithRun),
 }
 
 // The next row, and the header bytes that attempts before it read; or there is none.
@@ -94,9 +94,9 @@ fn look(bytes: &[u8], hints: &[u8], o: usize) -> usize
 }
 
 // Passes over offsets at which this is soon seen. A first byte below 2 is too short a header.
-fn pass_seen(bytes: &[u8], hints: &[u8], start: usize, last: usize) -> Gone
+fn pass_seen(bytes: &[u8], hints: &[u8], start: usize, last: usize) -> PassedOver
     requires { ⌜ (last ≤ length (now bytes) - 2) × (length (now bytes) ≤ largestRegion) × (length (now hints) ≤ mostColumns) ⌝ }
-    ensures { λ r. ⌜ Went (now (bytes .entry)) (now (hints .entry)) start last (r .to) (r .read) ⌝ }
+    ensures { λ r. ⌜ PassedOverIs (now (bytes .entry)) (now (hints .entry)) start last (r .to) (r .read) ⌝ }
 {
     let mut o = start;
     let mut read: usize = 0;
@@ -108,42 +108,42 @@ fn pass_seen(bytes: &[u8], hints: &[u8], start: usize, last: usize) -> Gone
         }
         let r = look(bytes, hints, o);
         if r == 0 {
-            return Gone { to: o, read };
+            return PassedOver { to: o, read };
         }
         read = read + r;
         o = o + 1;
     }
-    Gone { to: o, read }
+    PassedOver { to: o, read }
 }
 
 // The same of first bytes from 133 up in a run: they begin numbers above 512.
-fn pass_high(bytes: &[u8], hints: &[u8], start: usize, last: usize, run: High) -> Gone
+fn pass_high(bytes: &[u8], hints: &[u8], start: usize, last: usize, run: High) -> PassedOver
     requires { ⌜ (last ≤ length (now bytes)) × (length (now bytes) ≤ largestRegion) ⌝ }
     requires { ⌜ Holds (now bytes) start run ⌝ }
-    ensures { λ r. ⌜ Went (now (bytes .entry)) (now (hints .entry)) start last (r .to) (r .read) ⌝ }
+    ensures { λ r. ⌜ PassedOverIs (now (bytes .entry)) (now (hints .entry)) start last (r .to) (r .read) ⌝ }
 {
     let end = lesser(run.to, last);
     let mut o = start;
     let mut read: usize = 0;
     while o < end {
         if bytes[o] < 133 {
-            return Gone { to: o, read };
+            return PassedOver { to: o, read };
         }
         read = read + (varint_end(bytes.len(), run.to, o) - o);
         o = o + 1;
     }
-    Gone { to: o, read }
+    PassedOver { to: o, read }
 }
 
 // A header of 2 to 127 bytes that ends in a run.
-fn pass_header(bytes: &[u8], hints: &[u8], o: usize, head: usize, run: High) -> Over
+fn pass_header(bytes: &[u8], hints: &[u8], o: usize, head: usize, run: High) -> PassedWithRun
     requires { ⌜ (o < length (now bytes)) × (head ≡ getD (now bytes) o 0) × (2 ≤ head) × (head < 128) ⌝ }
     requires { ⌜ (length (now bytes) ≤ largestRegion) × (length (now hints) ≤ mostColumns) ⌝ }
     requires { ⌜ IsHigh (now bytes) run ⌝ }
-    ensures { λ r. ⌜ Met (now (bytes .entry)) (now (hints .entry)) o (o + 1) r ⌝ }
+    ensures { λ r. ⌜ PassedWithRunIs (now (bytes .entry)) (now (hints .entry)) o (o + 1) r ⌝ }
 {
     if head > bytes.len() - o {
-        return Over {
+        return PassedWithRun {
             to: o,
             read: 0,
             run,
@@ -151,21 +151,21 @@ fn pass_header(bytes: &[u8], hints: &[u8], o: usize, head: usize, run: High) -> 
     }
     let last = o + head - 1;
     if bytes[last] < 128 {
-        return Over {
+        return PassedWithRun {
             to: o,
             read: 0,
             run,
         };
     }
     if may_stand(hints.len(), bytes, o, head) {
-        return Over {
+        return PassedWithRun {
             to: o,
             read: 0,
             run,
         };
     }
     let around = run_around(bytes, last, run);
-    Over {
+    PassedWithRun {
         to: o + 1,
         read: types_end(bytes, o, head, around) - o,
         run: around,
@@ -173,14 +173,14 @@ fn pass_header(bytes: &[u8], hints: &[u8], o: usize, head: usize, run: High) -> 
 }
 
 // Offsets at which a run of high bytes decides.
-fn pass_run(bytes: &[u8], hints: &[u8], o: usize, last: usize, run: High) -> Over
+fn pass_run(bytes: &[u8], hints: &[u8], o: usize, last: usize, run: High) -> PassedWithRun
     requires { ⌜ (o < last) × (last ≤ length (now bytes)) × (length (now bytes) ≤ largestRegion) × (length (now hints) ≤ mostColumns) ⌝ }
     requires { ⌜ IsHigh (now bytes) run ⌝ }
-    ensures { λ r. ⌜ Met (now (bytes .entry)) (now (hints .entry)) o last r ⌝ }
+    ensures { λ r. ⌜ PassedWithRunIs (now (bytes .entry)) (now (hints .entry)) o last r ⌝ }
 {
     let first = wide(bytes[o]);
     if first < 2 {
-        return Over {
+        return PassedWithRun {
             to: o,
             read: 0,
             run,
@@ -190,10 +190,10 @@ fn pass_run(bytes: &[u8], hints: &[u8], o: usize, last: usize, run: High) -> Ove
         return pass_header(bytes, hints, o, first as usize, run);
     }
     let around = run_around(bytes, o, run);
-    let gone = pass_high(bytes, hints, o, last, around);
-    Over {
-        to: gone.to,
-        read: gone.read,
+    let passed = pass_high(bytes, hints, o, last, around);
+    PassedWithRun {
+        to: passed.to,
+        read: passed.read,
         run: around,
     }
 }
@@ -205,21 +205,21 @@ fn one_step(bytes: &[u8], hints: &[u8], o: usize, last: usize, run: High) -> Ste
     ensures { λ r. ⌜ StepSays (now (bytes .entry)) (now (hints .entry)) o last r ⌝ }
 {
     if o >= last {
-        return Step::On(Over {
+        return Step::On(PassedWithRun {
             to: o,
             read: 0,
             run,
         });
     }
-    let over = pass_run(bytes, hints, o, last, run);
-    if over.to > o {
-        return Step::On(over);
+    let passed = pass_run(bytes, hints, o, last, run);
+    if passed.to > o {
+        return Step::On(passed);
     }
     // The run is kept, or each offset in it would look for its ends anew.
-    let met = over.run;
+    let met = passed.run;
     match attempt(bytes, hints, o) {
         Verdict::Hit(find) => Step::Row { find, run: met },
-        Verdict::Miss(read) => Step::On(Over {
+        Verdict::Miss(read) => Step::On(PassedWithRun {
             to: o + 1,
             read,
             run: met,
@@ -254,10 +254,10 @@ pub fn next_row(bytes: &[u8], hints: &[u8], start: usize, last: usize, run: High
                     run: high,
                 };
             }
-            Step::On(over) => {
-                let met = over.run;
-                let seen = pass_seen(bytes, hints, over.to, last);
-                read = read + over.read + seen.read;
+            Step::On(passed) => {
+                let met = passed.run;
+                let seen = pass_seen(bytes, hints, passed.to, last);
+                read = read + passed.read + seen.read;
                 at = seen.to;
                 if at >= last {
                     return Next::Through(read);

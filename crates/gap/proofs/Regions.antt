@@ -10,8 +10,8 @@ use Rattle.attempt.proofs.Laws.{hit-takes}
 use Rattle.attempt.specs.Attempt.{Found, miss, hit, attemptAt}
 use Rattle.attempt.specs.Inner.{foundAt}
 use Rattle.attempt.specs.declared.inner.Find.{Find}
-use Rattle.filter.proofs.Laws.{passed-keeps}
-use Rattle.filter.specs.Inner.{Passed, ThroughIs}
+use Rattle.filter.proofs.Laws.{misses-keep}
+use Rattle.filter.specs.Inner.{MissBetween, ThroughIs}
 use Rattle.gap.specs.Gap.{regionHit, runHits, regionHits}
 use Rattle.cells.proofs.Along.{Along, along-start, along-end, along-on, along-full}
 use Rattle.hit.proofs.Laws.{headAt, there-is}
@@ -111,13 +111,13 @@ module _ (s : List ℕ) (from : ℕ) (hints : List ℕ) (spot : Spot) where
 
     -- offsets that are passed over are attempts that failed
     module _ (rows cols : List ℕ) (o m last read : ℕ) (e : last ≡ length s - 2) (w : Scanning lent n₀ rows₀ cols₀ rows cols o m) where
-      pub scanning-passed : (to : ℕ) → to ≤ last → Passed s hints o to read → Scanning lent n₀ rows₀ cols₀ rows cols to m
+      pub scanning-passed : (to : ℕ) → to ≤ last → MissBetween s hints o to read → Scanning lent n₀ rows₀ cols₀ rows cols to m
       scanning-passed to le p =
-          passed-keeps s hints o last (λ a _. Scanning lent n₀ rows₀ cols₀ rows cols a m)
+          misses-keep s hints o last (λ a _. Scanning lent n₀ rows₀ cols₀ rows cols a m)
           (λ a _ r lt miss x. scanning-missed rows cols a m x (omega arith) (miss .misses)) to 0 read le p w
 
       pub scanning-through : ThroughIs s hints o last read → Carves (lent .width) (lent .room) n₀ (regionHits spot from s hints) false rows₀ cols₀ (on m) rows cols
       scanning-through t =
           by-order o last
-          (λ lt. scanning-end rows cols (t .to) m (scanning-passed (t .to) (t .went .near lt) (t .went .passed)) (omega (arith, t .there)))
+          (λ lt. scanning-end rows cols (t .to) m (scanning-passed (t .to) (t .passed .near lt) (t .passed .misses)) (omega (arith, t .there)))
           (λ ge. scanning-end rows cols o m w (omega arith))

@@ -15,7 +15,7 @@ use Rattle.record.specs.Varint.{varintFrom, varintAt}
 use Rattle.attempt.specs.Attempt.{headerFits, typesFrom, bodiesFrom, judged, attemptAt}
 use Rattle.attempt.specs.Hints.{isInteger, isReal, isText, isBlob, suits}
 use Rattle.attempt.specs.Places.{typePlaces, attemptPlaces}
-use Rattle.scan.specs.Scan.{scanFrom, scanAnswer, scanRows, scanCols}
+use Rattle.scan.specs.Scan.{scanFrom, scanAsked, scanAnswer, scanRows, scanCols}
 use Rattle.sheet.specs.Columns.{columnWords, roomOf}
 use Rattle.sheet.specs.Confidence.{share}
 use Rattle.sheet.specs.Limits.{countFits, hintsKnown}
@@ -30,7 +30,7 @@ printedIf s (Refused r) = refusalLine (refusalNumber r)
 printedIf s Passed =
     let parts = partsOf (regionOf s) (hintsOf s) in
     heading
-    ++ partText (regionOf s) (hintsOf s) 0 (replicate rowSpace 0) (replicate colSpace 0)
+    ++ partText (scanAsked (regionOf s) (hintsOf s) 0 0 (replicate rowSpace 0) (replicate colSpace 0))
     ++ totalsLine (rowsSum parts) (readSum parts)
 
 printed : List ℕ → List ℕ

@@ -1,31 +1,29 @@
 -- One part: what the scan found, as the definitions have it.
 -- Assumes nothing.
 use Prim.Native.Nat.{ℕ, _≤_}
-use mathlib.Core.Path.{_≡_}
+use mathlib.Core.Path.{_≡_, sym, _∙_}
 use mathlib.Core.List.{List}
-use lib.ListN.{length}
+use lib.ListN.{length, replicate, length-replicate}
 use Rattle.listing.specs.Part.{rowSpace, colSpace, partAnswer, partText}
 use Rattle.listing.specs.Text.{rowsText}
-use Rattle.scan.proofs.Laws.{scan-bounded, Bounded}
-use Rattle.scan.specs.Scan.{scanAnswer, scanRows, scanCols, writtenOf}
-use Rattle.scan.specs.declared.schema_sig.Scanned.{Scanned}
+use Rattle.scan.proofs.Laws.{scan-bounded, same-answer, Bounded}
+use Rattle.scan.specs.Scan.{writtenOf, scanAsked, ScanOutcome, ScansRegion}
 use Rattle.sheet.specs.Columns.{roomOf}
 
 module _ (s hints : List ℕ) (start : ℕ) where
   pub part-bounded : Bounded (length s) start (roomOf rowSpace colSpace (length hints)) (partAnswer s hints start)
   unfolding partAnswer
-  part-bounded = scan-bounded s hints 0 start rowSpace colSpace
+  part-bounded = rw (length-replicate {0} {A = ℕ} rowSpace 0, length-replicate {0} {A = ℕ} colSpace 0) at (scan-bounded (scanAsked s hints 0 start (replicate rowSpace 0) (replicate colSpace 0)))
 
-  module _ (rows cols : List ℕ) (lr : length rows ≡ rowSpace) (lc : length cols ≡ colSpace) (found : Scanned)
-      (e : found ≡ scanAnswer s hints 0 start (length rows) (length cols)) where
-    pub part-answer : found ≡ partAnswer s hints start
+  module _ (rows cols : List ℕ) (lr : length rows ≡ rowSpace) (lc : length cols ≡ colSpace) (x : ScanOutcome) (p : ScansRegion (scanAsked s hints 0 start rows cols) x) where
+    pub part-answer : x .answer ≡ partAnswer s hints start
     unfolding partAnswer
-    part-answer = rw (lr, lc) at e
+    part-answer =
+        p .answer ∙ same-answer s hints 0 start rows cols (replicate rowSpace 0) (replicate colSpace 0) (lr ∙ sym (length-replicate {0} {A = ℕ} rowSpace 0)) (lc ∙ sym (length-replicate {0} {A = ℕ} colSpace 0))
 
-    pub part-text : (rows′ cols′ : List ℕ) (n : ℕ) → rows′ ≡ scanRows s hints 0 start rows cols → cols′ ≡ scanCols s hints 0 start rows cols
-        → n ≡ writtenOf found → rowsText rows′ cols′ (length hints) n ≡ partText s hints start rows cols
+    pub part-text : (n : ℕ) → n ≡ writtenOf (x .answer) → rowsText (x .rows) (x .cols) (length hints) n ≡ partText (scanAsked s hints 0 start rows cols)
     unfolding partText
-    part-text rows′ cols′ n er ec en = rw (er, ec, en, part-answer)
+    part-text n en = rw (p .rows, p .entries, en, part-answer)
 
-    pub part-room : (n : ℕ) → n ≡ writtenOf found → n ≤ roomOf rowSpace colSpace (length hints)
+    pub part-room : (n : ℕ) → n ≡ writtenOf (x .answer) → n ≤ roomOf rowSpace colSpace (length hints)
     part-room n en = rw (en, part-answer) (part-bounded .rows-fit)

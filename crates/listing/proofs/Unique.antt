@@ -1,12 +1,13 @@
 -- A contract fixes what a call leaves: any two outcomes that it allows for the same arguments are equal. `Post` is the function's own postcondition.
 -- Assumes nothing.
 use Prim.Native.Nat.{ℕ}
-use mathlib.Core.Path.{_≡_, sym, ap, _∙_}
+use mathlib.Core.Path.{_≡_, sym, _∙_}
+use mathlib.Core.List.{List}
 use denote.Ref.{now}
 use lib.ListN.{length}
-use Rattle.listing.specs.declared.part.Part.{Part}
+use Rattle.listing.specs.Part.{PartOutcome, partOutcome, ListsPart}
 use Rattle.record.proofs.Unique.{Fixes, FixesSeen}
-use Rattle.scan.specs.declared.schema_sig.Scanned.{Scanned}
+use Rattle.scan.specs.Scan.{ScanAsked}
 use Rattle.listing.proofs.input.count_of.Reads as count-of
 use Rattle.listing.proofs.input.judge.Reads as judge
 use Rattle.listing.proofs.part.col_space.Reads as col-space
@@ -52,19 +53,13 @@ col-space-length k a x y s t p q = sym p ∙ q
 pub text-space-length : FixesSeen text-space.Post (λ k r s. length r)
 text-space-length k a x y s t p q = sym p ∙ q
 
--- the part itself, and its text, rows and columns at exit
-part-same : (x y : Part) → x .found ≡ y .found → x .len ≡ y .len → x ≡ y
-part-same x y e d =
-    ap (λ (f : Scanned). record { found = f; len = x .len }) e ∙ ap (λ (n : ℕ). record { found = y .found; len = n }) d
+-- the part itself, and its rows, columns and text at exit
+part-same : (a : ScanAsked) (old : List ℕ) (x y : PartOutcome) → ListsPart a old x → ListsPart a old y → x ≡ y
+part-same a old x y p q =
+    same (p .answer ∙ sym (q .answer)) (p .len ∙ sym (q .len)) (p .rows ∙ sym (q .rows)) (p .entries ∙ sym (q .entries)) (p .text ∙ sym (q .text))
+  where
+    same : x .part .found ≡ y .part .found → x .part .len ≡ y .part .len → x .rows ≡ y .rows → x .cols ≡ y .cols → x .out ≡ y .out → x ≡ y
+    same e f g h i = rw (e, f, g, h, i)
 
-pub list-part-fixed : Fixes list-part.Post
-list-part-fixed k a x y s t p q = part-same x y (p .0 ∙ sym (q .0)) (p .1 .0 ∙ sym (q .1 .0))
-
-pub list-part-text : FixesSeen list-part.Post (λ k r s. now (s .1 .1 .1 .1 .1 .0))
-list-part-text k a x y s t p q = p .1 .1 .1 .0 ∙ sym (q .1 .1 .1 .0)
-
-pub list-part-rows : FixesSeen list-part.Post (λ k r s. now (s .1 .1 .1 .0))
-list-part-rows k a x y s t p q = p .1 .1 .1 .1 .0 ∙ sym (q .1 .1 .1 .1 .0)
-
-pub list-part-cols : FixesSeen list-part.Post (λ k r s. now (s .1 .1 .1 .1 .0))
-list-part-cols k a x y s t p q = p .1 .1 .1 .1 .1 ∙ sym (q .1 .1 .1 .1 .1)
+pub list-part-fixed : FixesSeen list-part.Post (λ k r s. partOutcome r (now (s .1 .1 .1 .0)) (now (s .1 .1 .1 .1 .0)) (now (s .1 .1 .1 .1 .1 .0)))
+list-part-fixed k a x y s t p q = part-same _ _ _ _ (p .0) (q .0)

@@ -8,10 +8,9 @@ use sheet::WORDS_PER_ENTRY;
 use sheet::WORDS_PER_ROW;
 ghost use mathlib.Core.Path.{_≡_};
 ghost use lib.ListN.{length};
-ghost use lib.Seq.{sets};
-ghost use Rattle.listing.specs.Part.{rowSpace, colSpace, textSpace, partAnswer, partText};
+ghost use Rattle.listing.specs.Part.{rowSpace, colSpace, textSpace, partOutcome, ListsPart};
 ghost use Rattle.io.specs.Counts.{Counts};
-ghost use Rattle.scan.specs.Scan.{scanRows, scanCols};
+ghost use Rattle.scan.specs.Scan.{scanAsked};
 
 // How many rows a part has at the most, with their words, their groups and their lines.
 const PART_ROWS: usize = 8;
@@ -60,17 +59,10 @@ pub fn list_part(
     cols: &mut [u64; COL_WORDS],
     out: &mut [u8; TEXT_BYTES],
 ) -> Part
-    ensures answer { λ r. ⌜ r .found ≡ partAnswer (now (region .entry)) (now (hints .entry)) start ⌝ }
-    ensures length { λ r. ⌜ r .len
-        ≡ length (partText (now (region .entry)) (now (hints .entry)) start (now (rows .entry)) (now (cols .entry))) ⌝ }
+    ensures { λ r. ⌜ ListsPart
+        (scanAsked (now (region .entry)) (now (hints .entry)) 0 start (now (rows .entry)) (now (cols .entry))) (now (out .entry))
+        (partOutcome r (now (rows .exit)) (now (cols .exit)) (now (out .exit))) ⌝ }
     ensures within { λ r. ⌜ Counts (r .len) (now (out .exit)) ⌝ }
-    ensures text { λ _. ⌜ now (out .exit)
-        ≡ sets (now (out .entry)) 0
-        (partText (now (region .entry)) (now (hints .entry)) start (now (rows .entry)) (now (cols .entry))) ⌝ }
-    ensures rows { λ _. ⌜ now (rows .exit)
-        ≡ scanRows (now (region .entry)) (now (hints .entry)) 0 start (now (rows .entry)) (now (cols .entry)) ⌝ }
-    ensures cols { λ _. ⌜ now (cols .exit)
-        ≡ scanCols (now (region .entry)) (now (hints .entry)) 0 start (now (rows .entry)) (now (cols .entry)) ⌝ }
 {
     let found = scan_region(region, hints, 0, start, rows, cols);
     let len = put_rows(out, rows, cols, hints.len(), found.written());

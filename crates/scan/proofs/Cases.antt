@@ -12,7 +12,7 @@ use Rattle.record.specs.Varint.{varintFrom, varintAt, readVarint}
 use Rattle.attempt.specs.Attempt.{headerFits, typesFrom, bodiesFrom, judged, attemptAt}
 use Rattle.attempt.specs.Hints.{isInteger, isReal, isText, isBlob, suits}
 use Rattle.attempt.specs.Places.{typePlaces, attemptPlaces}
-use Rattle.scan.specs.Scan.{scanFrom, scanAnswer, scanRows, scanCols}
+use Rattle.scan.specs.Scan.{scanFrom, scanAsked, scanAnswer, scanRows, scanCols}
 use Rattle.scan.specs.declared.schema_sig.Scanned.{Scanned}
 use Rattle.scan.specs.declared.schema_sig.Scanned.the-variants.{Done}
 use Rattle.sheet.specs.Columns.{columnWords, roomOf}
@@ -35,7 +35,9 @@ expected (scan hints s answer rows cols) = left answer rows cols
 
 computed : Case → Answer
 computed (below c) = plain (computedBelow c)
-computed (scan hints s answer rows cols) = left (scanAnswer s hints 0 0 16 16) (scanRows s hints 0 0 (replicate 16 0) (replicate 16 0)) (scanCols s hints 0 0 (replicate 16 0) (replicate 16 0))
+computed (scan hints s answer rows cols) =
+    let a = scanAsked s hints 0 0 (replicate 16 0) (replicate 16 0) in
+    left (scanAnswer a) (scanRows a) (scanCols a)
 
 nothing : List ℕ
 nothing = replicate 16 0

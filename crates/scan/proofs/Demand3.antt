@@ -29,10 +29,9 @@ module _ (k : Lfts 4) where
       → (sheet a x s ≡ askedSheet (question a)) × (readOf x ≡ askedCount (question a))
   sheet-is a x s p =
       let rows = now (a .1 .1 .1 .1 .0) in
-      let cols = now (a .1 .1 .1 .1 .1 .0) in
-      let n = p .1 .1 .1 in (
-        rw (n .0, n .1 .0, n .1 .1 .0, p .1 .0, p .1 .1 .0) (sheet-left (now (a .0)) (now (a .1 .0)) (a .1 .1 .0) (a .1 .1 .1 .0) rows cols),
-        n .1 .1 .1 ∙ count-left (now (a .0)) (now (a .1 .0)) (a .1 .1 .0) (a .1 .1 .1 .0) rows cols,
+      let cols = now (a .1 .1 .1 .1 .1 .0) in (
+        rw (p .number, p .written, p .place, p .rows, p .entries) (sheet-left (now (a .0)) (now (a .1 .0)) (a .1 .1 .0) (a .1 .1 .1 .0) rows cols),
+        p .count ∙ count-left (now (a .0)) (now (a .1 .0)) (a .1 .1 .0) (a .1 .1 .1 .0) rows cols,
       )
 
   pub gives-away : (a b : Dens k kinds.ps) → Alike (question a) (question b) → (x y : resT kinds.r k .Denot) (s t : AtExit (endedOf 4 kinds.ps kinds.r) k)

@@ -9,13 +9,12 @@ use Rattle.attempt.proofs.Laws.{hit-takes}
 use Rattle.attempt.specs.Attempt.{Tried, miss, hit, attemptAt}
 use Rattle.attempt.specs.Places.{mostPlaces}
 use Rattle.record.proofs.Numbers.{by-order}
-use Rattle.scan.specs.Scan.{Run, through, noRoom, missed, found, scanFrom, rowCount, finishedPlaces, triedOffsets, endOf, answerOf, scanChecked, scanAnswer, writtenOf, readOf}
+use Rattle.scan.specs.Scan.{Run, through, noRoom, missed, found, scanFrom, rowCount, finishedPlaces, triedOffsets, endOf, answerOf, writtenOf, readOf, ScanAsked, scanAsked, callChecked, callRoom, scanAnswer}
 use Rattle.scan.specs.Sheet.{Asked, askedChecked, askedRun, askedCount, Counts}
 use Rattle.scan.specs.declared.schema_sig.Scanned.{Scanned}
 use Rattle.scan.specs.declared.schema_sig.Scanned.the-variants.{Full, Refused}
 pub use Rattle.scan.proofs.Running.{scan-none, scan-missed, scan-found, scan-full, scan-end}
 use Rattle.scan.proofs.SameRun.{finished-few}
-use Rattle.sheet.specs.Columns.{roomOf}
 use Rattle.sheet.specs.Refusal.{after}
 use Rattle.sheet.specs.declared.refusal.Checked.{Checked}
 use Rattle.sheet.specs.declared.refusal.Checked.the-variants.{Passed, Refused as Held}
@@ -88,17 +87,24 @@ module _ (len start room : ℕ) (rows read : ℕ) (fits : rows ≤ room) (few : 
   end-bounded (found o x t) p = end-bounded t p
 
 -- THE LAW
-pub scan-bounded : (s hints : List ℕ) (base start rows cols : ℕ) → Bounded (length s) start (roomOf rows cols (length hints)) (scanAnswer s hints base start rows cols)
+pub scan-bounded : (a : ScanAsked) → Bounded (length (a .region)) (a .start) (callRoom a) (scanAnswer a)
 unfolding scanAnswer
-scan-bounded s hints base start rows cols = go (scanChecked s hints base) (roomOf rows cols (length hints))
+scan-bounded a = go (a .region) (a .hints) (a .start) (callChecked a) (callRoom a)
   where
-    go : (c : Checked) (room : ℕ) → Bounded (length s) start room (after Refused c (answerOf s (scanFrom (length s) s hints room start 0)))
-    go Passed room =
+    go : (s hints : List ℕ) (start : ℕ) (c : Checked) (room : ℕ) → Bounded (length s) start room (after Refused c (answerOf s (scanFrom (length s) s hints room start 0)))
+    go s hints start Passed room =
         let t = scanFrom (length s) s hints room start 0 in
         let g = goes s hints room (length s) start 0 0 (omega arith) (omega arith) in
         end-bounded (length s) start room (rowCount t) (length (finishedPlaces s t)) (omega (arith, g .rows-fit))
         (omega (arith, g .few, finished-few s t)) t (λ r. goes-past s hints room (length s) start r)
-    go (Held r) room = record { rows-fit = omega arith; read-few = omega arith; past = λ n q k e. absurd (let z : _≡_ {A = ℕ} 0 1 = cc in omega arith) }
+    go s hints start (Held r) room =
+        record { rows-fit = omega arith; read-few = omega arith; past = λ n q k e. absurd (let z : _≡_ {A = ℕ} 0 1 = cc in omega arith) }
+
+-- THE LAW: what the lists hold is no matter to the answer, only how long they are
+pub same-answer : (s hints : List ℕ) (base start : ℕ) (rows cols rows′ cols′ : List ℕ) → length rows ≡ length rows′ → length cols ≡ length cols′
+    → scanAnswer (scanAsked s hints base start rows cols) ≡ scanAnswer (scanAsked s hints base start rows′ cols′)
+unfolding scanAnswer
+same-answer s hints base start rows cols rows′ cols′ e f = rw (e, f)
 
 -- ---- the count of a call that no check refuses
 pub count-passed : (a : Asked) (count : ℕ) → count ≡ askedCount a → askedChecked a ≡ Passed → Counts a count

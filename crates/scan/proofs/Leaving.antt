@@ -1,13 +1,13 @@
 -- What a call leaves at the front of its lists is the sheet of its rules.
 -- Assumes nothing.
 use Prim.Native.Nat.{ℕ, _*_}
-use mathlib.Core.Path.{_≡_, refl, sym, ap, _∙_}
-use mathlib.Core.List.{List, [], _++_}
+use mathlib.Core.Path.{_≡_, refl, ap, _∙_}
+use mathlib.Core.List.{List, []}
 use native.Mathlib.Nat.{zero-mul}
 use lib.ListN.{length, take, drop}
 use lib.Seq.{take-append-seam}
-use Rattle.scan.specs.Scan.{Run, rowsOf, rowCount, entriesOf, runNumber, runPlace, scanChecked, scanRun, scanRows, scanCols, scanNumber, scanWritten, scanPlace, scanCount}
-use Rattle.scan.specs.Sheet.{Sheet, runSheet, emptySheet, asked, askedSheet, askedCount, sheetOf}
+use Rattle.scan.specs.Scan.{Run, rowsOf, rowCount, entriesOf, runNumber, runPlace, scanChecked, ScanAsked, scanAsked, scanRun, scanRows, scanCols, scanNumber, scanWritten, scanPlace, scanCount}
+use Rattle.scan.specs.Sheet.{runSheet, emptySheet, asked, askedSheet, askedCount, sheetOf}
 use Rattle.scan.proofs.RunValues.{run-reads}
 use Rattle.scan.proofs.Running.{rows-count}
 use Rattle.sheet.proofs.Laws.{rows-words-length}
@@ -23,13 +23,15 @@ front : (n : ℕ) (ws old : List ℕ) → length ws ≡ n → take n (overlay ws
 front n ws old e = rw (← e) (take-append-seam ws (drop (length ws) old))
 
 module _ (s hints : List ℕ) (base start : ℕ) (rows cols : List ℕ) where
+  abbrev call : ScanAsked
+  call = scanAsked s hints base start rows cols
+
   abbrev t : Run
-  t = scanRun s hints start (length rows) (length cols)
+  t = scanRun call
 
   -- THE LAW
   pub sheet-left :
-      sheetOf (length hints) (scanNumber s hints base start (length rows) (length cols)) (scanWritten s hints base start (length rows) (length cols))
-      (scanPlace s hints base start (length rows) (length cols)) (scanRows s hints base start rows cols) (scanCols s hints base start rows cols)
+      sheetOf (length hints) (scanNumber call) (scanWritten call) (scanPlace call) (scanRows call) (scanCols call)
       ≡ askedSheet (asked s hints base start rows cols)
   unfolding scanNumber scanWritten scanPlace scanRows scanCols askedSheet
   sheet-left = go (scanChecked s hints base)
@@ -46,6 +48,6 @@ module _ (s hints : List ℕ) (base start : ℕ) (rows cols : List ℕ) where
       go (Held r) = rw (zero-mul (wordsPerEntry * length hints))
 
   -- THE LAW: and the count is theirs
-  pub count-left : scanCount s hints base start (length rows) (length cols) ≡ askedCount (asked s hints base start rows cols)
+  pub count-left : scanCount call ≡ askedCount (asked s hints base start rows cols)
   unfolding scanCount askedCount
   count-left = refl

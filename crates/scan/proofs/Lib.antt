@@ -5,7 +5,7 @@ pub mod Demand3
 pub mod Fuel
 pub mod Laws
 pub mod Leaving
-mod OneAttempt
+pub mod OneAttempt
 pub mod ReadBack
 mod Running
 mod RunValues

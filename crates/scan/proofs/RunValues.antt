@@ -1,21 +1,18 @@
 -- What the entries of a run read as: each is the value of its type at its place.
 -- Assumes nothing.
 use Prim.Native.Nat.{ℕ, zero, suc, _+_, _-_, _*_, _<_}
-use mathlib.Core.Path.{_≡_, refl, sym, ap, _∙_}
-use mathlib.Core.Bool.{Bool, true, false, cond}
-use mathlib.Core.List.{List, [], _∷_, _++_, map, append-nil, append-assoc, map-append}
-use native.Mathlib.Nat.{suc-mul, zero-mul, add-comm}
+use mathlib.Core.Path.{_≡_, refl, sym}
+use mathlib.Core.List.{List, [], _++_, map, append-assoc, map-append}
+use native.Mathlib.Nat.{suc-mul, zero-mul}
 use native.Mathlib.Omega.{arith}
-use lib.Dec.{ltb}
 use lib.ListN.{length, length-append}
 use Rattle.attempt.proofs.ReadBack.{hit-reads}
 use Rattle.attempt.specs.Attempt.{Found, Tried, miss, hit, attemptAt}
 use Rattle.attempt.specs.Values.{rowValues}
 use Rattle.record.proofs.Numbers.{by-order}
 use Rattle.record.specs.Entry.{readEntry}
-use Rattle.record.specs.declared.entry.EntryRead.{EntryRead}
 use Rattle.record.specs.declared.entry.EntryRead.the-variants.{Of}
-use Rattle.scan.specs.Scan.{Run, through, noRoom, missed, found, goOn, scanFrom, rowCount, entriesOf}
+use Rattle.scan.specs.Scan.{Run, through, noRoom, found, scanFrom, rowCount, entriesOf}
 use Rattle.scan.specs.Sheet.{runValues}
 use Rattle.scan.proofs.Running.{scan-none, scan-missed, scan-found, scan-full, scan-end}
 use Rattle.sheet.proofs.Laws.{columns-words-length}
@@ -66,12 +63,3 @@ module _ (s hints : List ℕ) where
           by-order n room
           (λ in′. rw (scan-found f s hints room o n lt x e in′) (reads-found o x _ e (rest (o + x .consumed) (n + 1))))
           (λ out. rw (scan-full f s hints room o n lt x e out) (reads-none (noRoom o) refl refl refl))
-
-  -- and one attempt
-  pub once-reads : (room o : ℕ) (v : Tried) → attemptAt s hints o ≡ v → RunReads s (length hints) (goOn room o 0 (λ o′ n. through) v)
-  once-reads room o miss e = reads-none (missed o through) refl refl refl
-  once-reads room o (hit x) e = go (ltb 0 room)
-    where
-      go : (b : Bool) → RunReads s (length hints) (cond b (found o x through) (noRoom o))
-      go true = reads-found o x through e (reads-none through refl refl refl)
-      go false = reads-none (noRoom o) refl refl refl

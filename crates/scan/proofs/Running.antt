@@ -2,29 +2,27 @@
 -- Assumes nothing.
 use Prim.Native.Nat.{ℕ, zero, suc, zero-le, _+_, _-_, _*_, _≤_, _<_}
 use mathlib.Core.Path.{_≡_, refl, sym, ap, _∙_}
-use mathlib.Core.List.{List, [], _∷_, _++_}
+use mathlib.Core.List.{List, []}
 use native.Mathlib.Nat.{add-mul, one-mul, suc-mul, zero-mul}
 use native.Mathlib.Omega.{arith}
-use lib.ListN.{length, drop, length-append}
+use lib.ListN.{length, length-append}
 use lib.Seq.{sets}
 use borrow.Author.Tests.{lt-ltb, le-ltb}
 use Rattle.attempt.specs.Attempt.{Found, miss, hit, attemptAt}
-use Rattle.attempt.specs.Inner.{columnsAt, bodySize}
-use Rattle.filter.proofs.Laws.{passed-keeps}
-use Rattle.filter.specs.Inner.{Passed, ThroughIs}
+use Rattle.filter.proofs.Laws.{misses-keep}
+use Rattle.filter.specs.Inner.{MissBetween, ThroughIs}
 use Rattle.record.proofs.Numbers.{by-order}
 use Rattle.scan.specs.Inner.{Ran}
 use Rattle.attempt.specs.Places.{attemptPlaces}
-use Rattle.scan.specs.Scan.{Run, through, noRoom, missed, found, scanFrom, rowOf, rowsOf, rowCount, entriesOf, finishedPlaces, endOf, answerOf}
+use Rattle.scan.specs.Scan.{Run, through, noRoom, missed, found, scanFrom, rowOf, rowsOf, rowCount, entriesOf, finishedPlaces, endOf, scanOutcome}
 use Rattle.sheet.specs.Sheet.{columnsWords}
 use Rattle.scan.specs.declared.schema_sig.Scanned.{Scanned}
 use Rattle.scan.specs.declared.schema_sig.Scanned.the-variants.{Done, Full}
-use Rattle.sheet.proofs.Laws.{columns-words-length, row-words-length, column-words-length, rows-words-length, sets-append, room-rows, room-cols, laid-over}
-use Rattle.sheet.specs.Columns.{columnWords, roomOf}
+use Rattle.sheet.proofs.Laws.{columns-words-length, row-words-length, rows-words-length, sets-append, room-rows, room-cols, laid-over}
+use Rattle.sheet.specs.Columns.{roomOf}
 use Rattle.sheet.specs.Limits.{wordsPerRow, wordsPerEntry}
 use Rattle.sheet.specs.Row.{rowWords}
-use Rattle.sheet.specs.Sheet.{overlay, rowsWords}
-use Rattle.sheet.specs.declared.columns.Column.{Column}
+use Rattle.sheet.specs.Sheet.{rowsWords}
 
 -- ---- one attempt further
 module _ (f : ℕ) (s hints : List ℕ) (room o n : ℕ) (h : o < length s - 2) where
@@ -166,7 +164,7 @@ module _ (s hints : List ℕ) (base start room : ℕ) (rows₀ cols₀ rows cols
     -- nothing is left to come
     ran : (t : Run) (a : Scanned) → rowsOf base (length hints) t ≡ [] → entriesOf t ≡ [] → rowCount t ≡ 0 → length (finishedPlaces s t) ≡ 0 → endOf (length s) n read t ≡ a
         → Going s base (length hints) (wordsPerEntry * length hints) (scanFrom (length s) s hints room start 0) rows₀ cols₀ t rows cols n read
-        → Ran s hints base start room rows₀ cols₀ a rows cols
+        → Ran s hints base start room rows₀ cols₀ (scanOutcome a rows cols)
     ran t a er ec z r d g =
         let t₀ = scanFrom (length s) s hints room start 0 in
         let c : rowCount t₀ ≡ n = omega (arith, g .counts) in
@@ -182,12 +180,12 @@ module _ (s hints : List ℕ) (base start room : ℕ) (rows₀ cols₀ rows cols
           cols-are = rc ∙ laid-over (entriesOf t₀) cols₀ (omega (arith, g .words));
         }
 
-    pub on-end : length s - 2 ≤ o → On s hints base start room rows₀ cols₀ rows cols o n read → Ran s hints base start room rows₀ cols₀ (Done n (length s) read) rows cols
+    pub on-end : length s - 2 ≤ o → On s hints base start room rows₀ cols₀ rows cols o n read → Ran s hints base start room rows₀ cols₀ (scanOutcome (Done n (length s) read) rows cols)
     unfolding On
     on-end h (f, q, g) = ran through (Done n (length s) read) refl refl refl refl refl (rw (scan-end f s hints room o n h) at g)
 
     pub on-full : (x : Found) → o < length s - 2 → attemptAt s hints o ≡ hit x → room ≤ n → On s hints base start room rows₀ cols₀ rows cols o n read
-        → Ran s hints base start room rows₀ cols₀ (Full n o read) rows cols
+        → Ran s hints base start room rows₀ cols₀ (scanOutcome (Full n o read) rows cols)
     unfolding On
     on-full x h e m (zero, q, g) = absurd (omega arith)
     on-full x h e m (suc f, q, g) = ran (noRoom o) (Full n o read) refl refl refl refl refl (rw (scan-full f s hints room o n h x e m) at g)
@@ -195,12 +193,12 @@ module _ (s hints : List ℕ) (base start room : ℕ) (rows₀ cols₀ rows cols
 -- ---- offsets that are passed over are attempts that failed
 module _ (s hints : List ℕ) (base start room : ℕ) (rows₀ cols₀ rows cols : List ℕ) (o n read last r : ℕ) (e : last ≡ length s - 2)
     (on : On s hints base start room rows₀ cols₀ rows cols o n read) where
-  pub on-passed : (to : ℕ) → to ≤ last → Passed s hints o to r → On s hints base start room rows₀ cols₀ rows cols to n (read + r)
+  pub on-passed : (to : ℕ) → to ≤ last → MissBetween s hints o to r → On s hints base start room rows₀ cols₀ rows cols to n (read + r)
   on-passed to le p =
-      passed-keeps s hints o last (λ a k. On s hints base start room rows₀ cols₀ rows cols a n k)
+      misses-keep s hints o last (λ a k. On s hints base start room rows₀ cols₀ rows cols a n k)
       (λ a k m lt miss x. on-missed s hints base start room rows₀ cols₀ rows cols a n k m (omega arith) (miss .misses) (miss .counts) x) to read r le p on
 
   pub on-through : ThroughIs s hints o last r → (to : ℕ) × (length s - 2 ≤ to) × On s hints base start room rows₀ cols₀ rows cols to n (read + r)
   on-through t =
-      by-order o last (λ lt. (t .to, omega (arith, t .there), on-passed (t .to) (t .went .near lt) (t .went .passed)))
-      (λ ge. let z : read + r ≡ read = omega (arith, t .went .early ge .1) in (o, omega arith, rw z on))
+      by-order o last (λ lt. (t .to, omega (arith, t .there), on-passed (t .to) (t .passed .near lt) (t .passed .misses)))
+      (λ ge. let z : read + r ≡ read = omega (arith, t .passed .early ge .1) in (o, omega arith, rw z on))

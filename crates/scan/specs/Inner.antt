@@ -4,10 +4,7 @@ use Prim.Native.Nat.{ℕ, _+_, _*_, _≤_}
 use mathlib.Core.Path.{_≡_}
 use mathlib.Core.List.{List}
 use lib.ListN.{length}
-use Rattle.scan.specs.Once.{onceRun, onceOf}
-use Rattle.scan.specs.Scan.{scanFrom, answerOf, rowsOf, entriesOf}
-use Rattle.scan.specs.declared.schema_sig.Attempted.{Attempted}
-use Rattle.scan.specs.declared.schema_sig.Scanned.{Scanned}
+use Rattle.scan.specs.Scan.{scanFrom, answerOf, rowsOf, entriesOf, ScanOutcome}
 use Rattle.sheet.specs.Limits.{mostColumns, wordsPerRow, wordsPerEntry, largestRegion, largestBase}
 use Rattle.sheet.specs.Sheet.{overlay, rowsWords}
 
@@ -24,13 +21,7 @@ pub record RoomFor (n columns rows cols : ℕ) : Type 0 where
   pub group : n * (wordsPerEntry * columns) + wordsPerEntry * columns ≤ cols
 
 -- what a scan leaves
-pub record Ran (s hints : List ℕ) (base start room : ℕ) (rows cols : List ℕ) (r : Scanned) (rows′ cols′ : List ℕ) : Type 0 where
-  pub answer : r ≡ answerOf s (scanFrom (length s) s hints room start 0)
-  pub rows-are : rows′ ≡ overlay (rowsWords (rowsOf base (length hints) (scanFrom (length s) s hints room start 0))) rows
-  pub cols-are : cols′ ≡ overlay (entriesOf (scanFrom (length s) s hints room start 0)) cols
-
--- what one attempt leaves
-pub record Once (s hints : List ℕ) (base o : ℕ) (rows cols : List ℕ) (r : Attempted) (rows′ cols′ : List ℕ) : Type 0 where
-  pub answer : r ≡ onceOf (onceRun s hints o (length rows) (length cols))
-  pub rows-are : rows′ ≡ overlay (rowsWords (rowsOf base (length hints) (onceRun s hints o (length rows) (length cols)))) rows
-  pub cols-are : cols′ ≡ overlay (entriesOf (onceRun s hints o (length rows) (length cols))) cols
+pub record Ran (s hints : List ℕ) (base start room : ℕ) (rows cols : List ℕ) (x : ScanOutcome) : Type 0 where
+  pub answer : x .answer ≡ answerOf s (scanFrom (length s) s hints room start 0)
+  pub rows-are : x .rows ≡ overlay (rowsWords (rowsOf base (length hints) (scanFrom (length s) s hints room start 0))) rows
+  pub cols-are : x .cols ≡ overlay (entriesOf (scanFrom (length s) s hints room start 0)) cols

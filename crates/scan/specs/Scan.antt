@@ -1,6 +1,7 @@
 -- The region scan (rules 4.8 to 4.11).
 -- Assumes nothing.
 use Prim.Native.Nat.{ℕ, zero, suc, _+_, _-_}
+use mathlib.Core.Path.{_≡_}
 use mathlib.Core.Bool.{cond}
 use mathlib.Core.List.{List, [], _∷_, _++_}
 use lib.ListN.{length}
@@ -120,23 +121,6 @@ answerOf s t = endOf (length s) (rowCount t) (length (finishedPlaces s t)) t
 abbrev pub scanChecked : List ℕ → List ℕ → ℕ → Checked
 scanChecked s hints base = firstHeld (sliceChecks (length s) hints base)
 
--- the run of a call whose lists have so many words
-abbrev pub scanRun : List ℕ → List ℕ → ℕ → ℕ → ℕ → Run
-scanRun s hints start rows cols = scanFrom (length s) s hints (roomOf rows cols (length hints)) start 0
-
-unfoldable pub scanAnswer : List ℕ → List ℕ → ℕ → ℕ → ℕ → ℕ → Scanned
-scanAnswer s hints base start rows cols = after Refused (scanChecked s hints base) (answerOf s (scanRun s hints start rows cols))
-
-unfoldable pub scanRows : List ℕ → List ℕ → ℕ → ℕ → List ℕ → List ℕ → List ℕ
-scanRows s hints base start rows cols =
-    afterOrKept (scanChecked s hints base)
-    (overlay (rowsWords (rowsOf base (length hints) (scanRun s hints start (length rows) (length cols)))) rows)
-    rows
-
-unfoldable pub scanCols : List ℕ → List ℕ → ℕ → ℕ → List ℕ → List ℕ → List ℕ
-scanCols s hints base start rows cols =
-    afterOrKept (scanChecked s hints base) (overlay (entriesOf (scanRun s hints start (length rows) (length cols))) cols) cols
-
 -- the paper's number of an answer, with 0 for none, then rows written, place and count
 abbrev pub numberOf : Scanned → ℕ
 numberOf (Done rows place read) = 0
@@ -158,15 +142,69 @@ readOf (Done rows place read) = read
 readOf (Full rows place read) = read
 readOf (Refused r) = 0
 
--- and these four by the rules, with no answer between
-unfoldable pub scanNumber : List ℕ → List ℕ → ℕ → ℕ → ℕ → ℕ → ℕ
-scanNumber s hints base start rows cols = after refusalNumber (scanChecked s hints base) (runNumber (scanRun s hints start rows cols))
+-- what it is asked: a region, hints, where the region lies, where to start, and what the lists hold
+pub record ScanAsked : Type 0 where
+  pub region : List ℕ
+  pub hints : List ℕ
+  pub base : ℕ
+  pub start : ℕ
+  pub rows : List ℕ
+  pub cols : List ℕ
 
-unfoldable pub scanWritten : List ℕ → List ℕ → ℕ → ℕ → ℕ → ℕ → ℕ
-scanWritten s hints base start rows cols = afterOr0 (scanChecked s hints base) (rowCount (scanRun s hints start rows cols))
+abbrev pub scanAsked : List ℕ → List ℕ → ℕ → ℕ → List ℕ → List ℕ → ScanAsked
+scanAsked s hints base start rows cols =
+    record { region = s; hints = hints; base = base; start = start; rows = rows; cols = cols }
 
-unfoldable pub scanPlace : List ℕ → List ℕ → ℕ → ℕ → ℕ → ℕ → ℕ
-scanPlace s hints base start rows cols = afterOr0 (scanChecked s hints base) (runPlace (length s) (scanRun s hints start rows cols))
+-- what its checks come to, how many rows there is room for, and its run
+abbrev pub callChecked : ScanAsked → Checked
+callChecked a = scanChecked (a .region) (a .hints) (a .base)
 
-unfoldable pub scanCount : List ℕ → List ℕ → ℕ → ℕ → ℕ → ℕ → ℕ
-scanCount s hints base start rows cols = afterOr0 (scanChecked s hints base) (length (finishedPlaces s (scanRun s hints start rows cols)))
+abbrev pub callRoom : ScanAsked → ℕ
+callRoom a = roomOf (length (a .rows)) (length (a .cols)) (length (a .hints))
+
+abbrev pub scanRun : ScanAsked → Run
+scanRun a = scanFrom (length (a .region)) (a .region) (a .hints) (callRoom a) (a .start) 0
+
+-- what it answers,
+unfoldable pub scanAnswer : ScanAsked → Scanned
+scanAnswer a = after Refused (callChecked a) (answerOf (a .region) (scanRun a))
+
+-- the four numbers by the rules, with no answer between,
+unfoldable pub scanNumber : ScanAsked → ℕ
+scanNumber a = after refusalNumber (callChecked a) (runNumber (scanRun a))
+
+unfoldable pub scanWritten : ScanAsked → ℕ
+scanWritten a = afterOr0 (callChecked a) (rowCount (scanRun a))
+
+unfoldable pub scanPlace : ScanAsked → ℕ
+scanPlace a = afterOr0 (callChecked a) (runPlace (length (a .region)) (scanRun a))
+
+unfoldable pub scanCount : ScanAsked → ℕ
+scanCount a = afterOr0 (callChecked a) (length (finishedPlaces (a .region) (scanRun a)))
+
+-- and what it leaves in the lists
+unfoldable pub scanRows : ScanAsked → List ℕ
+scanRows a =
+    afterOrKept (callChecked a) (overlay (rowsWords (rowsOf (a .base) (length (a .hints)) (scanRun a))) (a .rows)) (a .rows)
+
+unfoldable pub scanCols : ScanAsked → List ℕ
+scanCols a = afterOrKept (callChecked a) (overlay (entriesOf (scanRun a)) (a .cols)) (a .cols)
+
+-- what it comes to: its answer, and what the lists hold at exit
+pub record ScanOutcome : Type 0 where
+  pub answer : Scanned
+  pub rows : List ℕ
+  pub cols : List ℕ
+
+abbrev pub scanOutcome : Scanned → List ℕ → List ℕ → ScanOutcome
+scanOutcome r rows cols = record { answer = r; rows = rows; cols = cols }
+
+-- what it promises
+pub record ScansRegion (a : ScanAsked) (x : ScanOutcome) : Type 0 where
+  pub answer : x .answer ≡ scanAnswer a
+  pub number : numberOf (x .answer) ≡ scanNumber a
+  pub written : writtenOf (x .answer) ≡ scanWritten a
+  pub place : placeOf (x .answer) ≡ scanPlace a
+  pub count : readOf (x .answer) ≡ scanCount a
+  pub rows : x .rows ≡ scanRows a
+  pub entries : x .cols ≡ scanCols a

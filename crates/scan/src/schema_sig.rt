@@ -10,6 +10,7 @@ use filter::inner::next_row;
 use sheet::WORDS_PER_ENTRY;
 use sheet::columns::room;
 use sheet::confidence::suited_share;
+use sheet::filled::Filled;
 use sheet::inner::put_row;
 use sheet::refusal::Checked;
 use sheet::refusal::FULL;
@@ -26,11 +27,12 @@ ghost use lib.ListN.{length};
 ghost use lib.Seq.{sets};
 ghost use Rattle.attempt.specs.Attempt.{kinds};
 ghost use Rattle.attempt.specs.Inner.{sizes, findTypes, Headed, foundAt};
-ghost use Rattle.scan.specs.Inner.{Fit, RoomFor, Ran, Once};
-ghost use Rattle.scan.specs.Once.{onceAnswer, onceRows, onceCols, onceNumberOf, onceWrittenOf, onceNumber, onceWritten};
-ghost use Rattle.scan.specs.Scan.{rowOf, scanAnswer, scanRows, scanCols, numberOf, writtenOf, placeOf, readOf, scanNumber};
-ghost use Rattle.scan.specs.Scan.{scanWritten, scanPlace, scanCount};
+ghost use Rattle.scan.specs.Inner.{Fit, RoomFor, Ran};
+ghost use Rattle.scan.specs.Once.{onceHits, onceFilling};
+ghost use Rattle.scan.specs.Scan.{rowOf, numberOf, writtenOf, placeOf, readOf, scanAsked, scanOutcome, ScansRegion};
 ghost use Rattle.sheet.specs.Columns.{roomOf};
+ghost use Rattle.sheet.specs.Hits.{FillsRows, rowOutcome};
+ghost use Rattle.sheet.specs.Inner.{FilledIs};
 ghost use Rattle.sheet.specs.Limits.{wordsPerRow, wordsPerEntry, mostColumns, largestRegion, largestBase};
 ghost use Rattle.sheet.specs.Row.{rowWords};
 ghost use Rattle.sheet.specs.Sheet.{columnsWords};
@@ -47,14 +49,6 @@ pub enum Scanned {
         place: usize,
         read: usize,
     },
-    Refused(Refusal),
-}
-
-pub enum Attempted {
-    Row,
-    NoRow,
-    // A row found no room.
-    Full,
     Refused(Refusal),
 }
 
@@ -96,30 +90,6 @@ impl Scanned {
             Scanned::Done { read, .. } => read,
             Scanned::Full { read, .. } => read,
             Scanned::Refused(_) => 0,
-        }
-    }
-}
-
-impl Attempted {
-    pub fn number(self) -> u64
-        ensures { λ r. ⌜ r ≡ onceNumberOf self ⌝ }
-    {
-        match self {
-            Attempted::Row => 0,
-            Attempted::NoRow => 0,
-            Attempted::Full => FULL,
-            Attempted::Refused(refusal) => number(refusal),
-        }
-    }
-
-    pub fn written(self) -> usize
-        ensures { λ r. ⌜ r ≡ onceWrittenOf self ⌝ }
-    {
-        match self {
-            Attempted::Row => 1,
-            Attempted::NoRow => 0,
-            Attempted::Full => 0,
-            Attempted::Refused(_) => 0,
         }
     }
 }
@@ -177,8 +147,9 @@ fn run(
 ) -> Scanned
     requires { ⌜ Fit (now bytes) (now hints) base ⌝ }
     requires { ⌜ room ≡ roomOf (length (now rows)) (length (now cols)) (length (now hints)) ⌝ }
-    ensures { λ r. ⌜ Ran (now (bytes .entry)) (now (hints .entry)) base start room (now (rows .entry)) (now (cols .entry)) r
-        (now (rows .exit)) (now (cols .exit)) ⌝ }
+    ensures { λ r. ⌜ Ran
+        (now (bytes .entry)) (now (hints .entry)) base start room (now (rows .entry)) (now (cols .entry))
+        (scanOutcome r (now (rows .exit)) (now (cols .exit))) ⌝ }
 {
     let last = last_of(bytes.len());
     let mut o = start;
@@ -226,20 +197,9 @@ pub fn scan_region(
     rows: &mut [u64],
     cols: &mut [u64],
 ) -> Scanned
-    ensures answer { λ r. ⌜ r ≡ scanAnswer (now (region .entry)) (now (hints .entry)) base start (length (now (rows .entry)))
-        (length (now (cols .entry))) ⌝ }
-    ensures rows { λ _. ⌜ now (rows .exit) ≡ scanRows (now (region .entry)) (now (hints .entry)) base start (now (rows .entry))
-        (now (cols .entry)) ⌝ }
-    ensures cols { λ _. ⌜ now (cols .exit) ≡ scanCols (now (region .entry)) (now (hints .entry)) base start (now (rows .entry))
-        (now (cols .entry)) ⌝ }
-    ensures number { λ r. ⌜ numberOf r ≡ scanNumber (now (region .entry)) (now (hints .entry)) base start (length (now (rows .entry)))
-        (length (now (cols .entry))) ⌝ }
-    ensures written { λ r. ⌜ writtenOf r ≡ scanWritten (now (region .entry)) (now (hints .entry)) base start
-        (length (now (rows .entry))) (length (now (cols .entry))) ⌝ }
-    ensures place { λ r. ⌜ placeOf r ≡ scanPlace (now (region .entry)) (now (hints .entry)) base start (length (now (rows .entry)))
-        (length (now (cols .entry))) ⌝ }
-    ensures count { λ r. ⌜ readOf r ≡ scanCount (now (region .entry)) (now (hints .entry)) base start (length (now (rows .entry)))
-        (length (now (cols .entry))) ⌝ }
+    ensures { λ r. ⌜ ScansRegion
+        (scanAsked (now (region .entry)) (now (hints .entry)) base start (now (rows .entry)) (now (cols .entry)))
+        (scanOutcome r (now (rows .exit)) (now (cols .exit))) ⌝ }
 {
     match check_slice(region.len(), hints, base) {
         Checked::Refused(refusal) => Scanned::Refused(refusal),
@@ -259,23 +219,24 @@ fn once(
     room: usize,
     rows: &mut [u64],
     cols: &mut [u64],
-) -> Attempted
+) -> Filled
     requires { ⌜ Fit (now bytes) (now hints) base ⌝ }
     requires { ⌜ room ≡ roomOf (length (now rows)) (length (now cols)) (length (now hints)) ⌝ }
-    ensures { λ r. ⌜ Once (now (bytes .entry)) (now (hints .entry)) base o (now (rows .entry)) (now (cols .entry)) r (now (rows .exit))
-        (now (cols .exit)) ⌝ }
+    ensures { λ r. ⌜ FilledIs
+        (onceHits (now (bytes .entry)) (now (hints .entry)) base o) (length (now (hints .entry))) (now (rows .entry))
+        (now (cols .entry)) (rowOutcome r (now (rows .exit)) (now (cols .exit))) ⌝ }
 {
     if o > bytes.len() {
-        return Attempted::NoRow;
+        return Filled::Done(0);
     }
     let Verdict::Hit(find) = attempt(bytes, hints, o) else {
-        return Attempted::NoRow;
+        return Filled::Done(0);
     };
     if room == 0 {
-        return Attempted::Full;
+        return Filled::Full(0);
     }
     put_found(bytes, hints.len(), base, o, find, 0, rows, cols);
-    Attempted::Row
+    Filled::Done(1)
 }
 
 pub fn try_parse_record(
@@ -285,20 +246,13 @@ pub fn try_parse_record(
     offset: usize,
     rows: &mut [u64],
     cols: &mut [u64],
-) -> Attempted
-    ensures answer { λ r. ⌜ r ≡ onceAnswer (now (region .entry)) (now (hints .entry)) base offset (length (now (rows .entry)))
-        (length (now (cols .entry))) ⌝ }
-    ensures rows { λ _. ⌜ now (rows .exit) ≡ onceRows (now (region .entry)) (now (hints .entry)) base offset (now (rows .entry))
-        (now (cols .entry)) ⌝ }
-    ensures cols { λ _. ⌜ now (cols .exit) ≡ onceCols (now (region .entry)) (now (hints .entry)) base offset (now (rows .entry))
-        (now (cols .entry)) ⌝ }
-    ensures number { λ r. ⌜ onceNumberOf r ≡ onceNumber (now (region .entry)) (now (hints .entry)) base offset
-        (length (now (rows .entry))) (length (now (cols .entry))) ⌝ }
-    ensures written { λ r. ⌜ onceWrittenOf r ≡ onceWritten (now (region .entry)) (now (hints .entry)) base offset
-        (length (now (rows .entry))) (length (now (cols .entry))) ⌝ }
+) -> Filled
+    ensures { λ r. ⌜ FillsRows
+        (onceFilling (now (region .entry)) (now (hints .entry)) base offset (now (rows .entry)) (now (cols .entry)))
+        (rowOutcome r (now (rows .exit)) (now (cols .exit))) ⌝ }
 {
     match check_slice(region.len(), hints, base) {
-        Checked::Refused(refusal) => Attempted::Refused(refusal),
+        Checked::Refused(refusal) => Filled::Refused(refusal),
         Checked::Passed => {
             let room = room(rows.len(), cols.len(), hints.len());
             once(region, hints, base, offset, room, rows, cols)

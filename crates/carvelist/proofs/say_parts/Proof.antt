@@ -31,7 +31,7 @@ abbrev turn : Listed → tie.At-loop Inv-loop μ-loop
 turn p = p .before .before .before .before
 
 answer : (p : Listed) → let a = start p .args in partAnswer (now (a .region)) (now (a .hints)) (turn p .loop .at) ≡ p .list-part .result .found
-answer p = sym (p .list-part .ensures .0)
+answer p = sym (p .list-part .ensures .0 .answer)
 
 small : (p : Listed) → Small (length (now (start p .args .region))) (turn p .loop .at) (p .list-part .result .found)
 small p =

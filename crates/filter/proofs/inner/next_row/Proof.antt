@@ -1,19 +1,16 @@
--- `filter::inner::next_row` meets its contract: the offsets before `at` are passed over (`Went`), and the step there is known.
+-- `filter::inner::next_row` meets its contract: the offsets before `at` are passed over (`PassedOverIs`), and the step there is known.
 -- Assumes nothing.
-use Prim.Native.Nat.{_+_, _-_, _*_, _≤_, _<_}
-use mathlib.Core.Path.{_≡_}
+use Prim.Native.Nat.{_+_, _-_}
 use native.Mathlib.Omega.{arith}
 use borrow.Author.Needs.{needs}
 use denote.Ref.{now}
-use lib.ListN.{length}
-use Rattle.record.proofs.Numbers.{by-order}
-use Rattle.filter.specs.Inner.{Went, OnIs, StepSays}
-use Rattle.filter.proofs.Laws.{went-none, went-on, went-few}
+use Rattle.filter.specs.Inner.{PassedOverIs, OnIs, StepSays}
+use Rattle.filter.proofs.Laws.{passed-none, passed-on, passed-few}
 use Rattle.filter.proofs.inner.next_row.Statement.{statement}
 use Rattle.filter.proofs.inner.next_row.Tie as tie
 
 abbrev Inv-loop : tie.InvT-loop
-Inv-loop bytes hints start last at₀ read₀ step₀ at read step = Went bytes hints start last at read × StepSays bytes hints at last step
+Inv-loop bytes hints start last at₀ read₀ step₀ at read step = PassedOverIs bytes hints start last at read × StepSays bytes hints at last step
 
 abbrev μ-loop : tie.MeasureT-loop
 μ-loop bytes hints start last at₀ read₀ step₀ at read step = last - at
@@ -27,21 +24,21 @@ stepped c = rw (c .before .before .before .step2 .given .1) at (c .before .befor
 -- and what is passed over with it, and behind it
 further : (c : tie.After-pass-seen Inv-loop μ-loop) →
     let a = c .before .before .before .before .before .before .before .before .before .args in
-    let over = c .before .before .before .step2 .given .0 .0 in
-    Went (now (a .bytes)) (now (a .hints)) (a .start) (a .last) (over .to) (c .before .before .before .before .before .loop .read + over .read)
-further c = went-on _ _ _ _ _ _ (c .before .before .before .before .before .loop .inv .0) _ _ (stepped c .met .went)
+    let passed = c .before .before .before .step2 .given .0 .0 in
+    PassedOverIs (now (a .bytes)) (now (a .hints)) (a .start) (a .last) (passed .to) (c .before .before .before .before .before .loop .read + passed .read)
+further c = passed-on _ _ _ _ _ _ (c .before .before .before .before .before .loop .inv .0) _ _ (stepped c .step .passed)
 
-gone : (c : tie.After-pass-seen Inv-loop μ-loop) →
+beyond : (c : tie.After-pass-seen Inv-loop μ-loop) →
     let a = c .before .before .before .before .before .before .before .before .before .args in
     let seen = c .pass-seen .result in
-    Went (now (a .bytes)) (now (a .hints)) (a .start) (a .last) (seen .to) (c .before .before .before .before .before .loop .read + c .before .before .before .step2 .given .0 .0 .read + seen .read)
-gone c = went-on _ _ _ _ _ _ (further c) _ _ (c .pass-seen .ensures)
+    PassedOverIs (now (a .bytes)) (now (a .hints)) (a .start) (a .last) (seen .to) (c .before .before .before .before .before .loop .read + c .before .before .before .step2 .given .0 .0 .read + seen .read)
+beyond c = passed-on _ _ _ _ _ _ (further c) _ _ (c .pass-seen .ensures)
 
 one-step-requires : tie.Need-one-step-requires Inv-loop μ-loop
 one-step-requires c κs = let p = c .before .before .pre in ((omega (arith, p .0 .0), p .0 .1, p .0 .2), p .1)
 
 loop-holds : tie.Need-loop-holds Inv-loop μ-loop
-loop-holds c = (went-none _ _ _ _, c .one-step .ensures)
+loop-holds c = (passed-none _ _ _ _, c .one-step .ensures)
 
 enum-known-step : tie.Need-enum-known-step Inv-loop μ-loop
 enum-known-step c = search needs
@@ -50,7 +47,7 @@ returns : tie.Need-returns Inv-loop μ-loop
 returns c =
     let i = c .before .before .before .loop .inv in
     let r = rw (c .before .step .given .1) at (i .1) in
-    record { passed = i .0 .passed; below = r .0; found = r .1; run-is = r .2 }
+    record { misses = i .0 .misses; below = r .0; found = r .1; run-is = r .2 }
 
 enum-known-step-2 : tie.Need-enum-known-step-2 Inv-loop μ-loop
 enum-known-step-2 c = search needs
@@ -59,26 +56,26 @@ pass-seen-requires : tie.Need-pass-seen-requires Inv-loop μ-loop
 pass-seen-requires c κs = c .before .before .before .before .before .before .before .before .pre .0
 
 add-read : tie.Need-add-read Inv-loop μ-loop
-add-read c = let p = c .before .before .before .before .before .before .before .before .before .before .pre .0 in omega (arith, went-few _ _ _ _ _ _ (further (c .before)), p .0, p .1)
+add-read c = let p = c .before .before .before .before .before .before .before .before .before .before .pre .0 in omega (arith, passed-few _ _ _ _ _ _ (further (c .before)), p .0, p .1)
 
 add-read-2 : tie.Need-add-read-2 Inv-loop μ-loop
-add-read-2 c = let p = c .before .before .before .before .before .before .before .before .before .before .before .pre .0 in omega (arith, went-few _ _ _ _ _ _ (gone (c .before .before)), p .0, p .1)
+add-read-2 c = let p = c .before .before .before .before .before .before .before .before .before .before .before .pre .0 in omega (arith, passed-few _ _ _ _ _ _ (beyond (c .before .before)), p .0, p .1)
 
 returns-2 : tie.Need-returns-2 Inv-loop μ-loop
-returns-2 c = record { to = c .before .before .before .pass-seen .result .to; went = gone (c .before .before .before); there = c .if1 .taken }
+returns-2 c = record { to = c .before .before .before .pass-seen .result .to; passed = beyond (c .before .before .before); there = c .if1 .taken }
 
 one-step-requires-2 : tie.Need-one-step-requires-2 Inv-loop μ-loop
-one-step-requires-2 c κs = let p = c .before .before .before .before .before .before .before .before .before .before .before .before .pre in ((omega (arith, p .0 .0), p .0 .1, p .0 .2), stepped (c .before .before .before) .met .run-is)
+one-step-requires-2 c κs = let p = c .before .before .before .before .before .before .before .before .before .before .before .before .pre in ((omega (arith, p .0 .0), p .0 .1, p .0 .2), stepped (c .before .before .before) .step .run-is)
 
 loop-less : tie.Need-loop-less Inv-loop μ-loop
 loop-less c =
     let k = c .before .before .before .before in
     let s = stepped k in
     let lt = c .before .if1 .left in
-    omega (arith, lt, k .pass-seen .ensures .passed .to-is, s .met .went .passed .to-is, s .further (omega (arith, lt, k .pass-seen .ensures .passed .to-is, s .met .went .passed .to-is)))
+    omega (arith, lt, k .pass-seen .ensures .misses .to-is, s .step .passed .misses .to-is, s .further (omega (arith, lt, k .pass-seen .ensures .misses .to-is, s .step .passed .misses .to-is)))
 
 loop-again : tie.Need-loop-again Inv-loop μ-loop
-loop-again c = (gone (c .before .before .before .before), c .one-step2 .ensures)
+loop-again c = (beyond (c .before .before .before .before), c .one-step2 .ensures)
 
 pub next-row-spec : {M : Type 1} → statement M
 next-row-spec =

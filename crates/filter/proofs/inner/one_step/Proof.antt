@@ -1,17 +1,14 @@
 -- `filter::inner::one_step` meets its contract.
 -- Assumes nothing.
-use Prim.Native.Nat.{_+_, _-_, _*_, _≤_, _<_}
-use mathlib.Core.Path.{_≡_}
+use Prim.Native.Nat.{_-_}
 use native.Mathlib.Omega.{arith}
 use borrow.Author.Needs.{needs}
-use denote.Ref.{now}
-use lib.ListN.{length}
-use Rattle.filter.proofs.Laws.{went-none, went-first}
+use Rattle.filter.proofs.Laws.{passed-none, passed-first}
 use Rattle.filter.proofs.inner.one_step.Statement.{statement}
 use Rattle.filter.proofs.inner.one_step.Tie as tie
 
 returns : tie.Need-returns
-returns c = record { met = record { went = went-none _ _ _ _; run-is = c .before .before .before .pre .1 }; further = λ lt. absurd (omega (arith, c .if1 .taken)) }
+returns c = record { step = record { passed = passed-none _ _ _ _; run-is = c .before .before .before .pre .1 }; further = λ lt. absurd (omega (arith, c .if1 .taken)) }
 
 pass-run-requires : tie.Need-pass-run-requires
 pass-run-requires c κs = search needs
@@ -38,7 +35,7 @@ returns-4 : tie.Need-returns-4
 returns-4 c =
     let m = rw (c .before .read .given .1) at (c .before .before .before .attempt .ensures) in
     record {
-      met = record { went = went-first _ _ _ _ _ (c .before .before .before .before .before .before .before .before .if1 .left) m; run-is = c .before .before .before .before .before .before .before .pass-run .ensures .run-is };
+      step = record { passed = passed-first _ _ _ _ _ (c .before .before .before .before .before .before .before .before .if1 .left) m; run-is = c .before .before .before .before .before .before .before .pass-run .ensures .run-is };
       further = λ _. omega arith;
     }
 

@@ -1,13 +1,11 @@
 -- `filter::inner::pass_header` meets its contract: each way out is a law of `proofs/Headers.antt`.
 -- Assumes nothing.
-use Prim.Native.Nat.{_+_, _-_, _*_, _≤_, _<_}
-use mathlib.Core.Path.{_≡_}
+use Prim.Native.Nat.{_-_}
 use native.Mathlib.Omega.{arith}
 use borrow.Author.Needs.{needs}
 use denote.Ref.{now}
-use lib.ListN.{length}
 use Rattle.filter.proofs.Headers.{one-past, one-never}
-use Rattle.filter.proofs.Laws.{went-none, went-first}
+use Rattle.filter.proofs.Laws.{passed-none, passed-first}
 use Rattle.filter.proofs.inner.pass_header.Statement.{statement}
 use Rattle.filter.proofs.inner.pass_header.Tie as tie
 
@@ -15,7 +13,7 @@ sub-if1 : tie.Need-sub-if1
 sub-if1 c = search needs
 
 returns : tie.Need-returns
-returns c = record { went = went-none _ _ _ _; run-is = c .before .before .before .pre .1 .1 }
+returns c = record { passed = passed-none _ _ _ _; run-is = c .before .before .before .pre .1 .1 }
 
 add-last : tie.Need-add-last
 add-last c = search needs
@@ -27,13 +25,13 @@ shared-slice-read-if2 : tie.Need-shared-slice-read-if2
 shared-slice-read-if2 c = search needs
 
 returns-2 : tie.Need-returns-2
-returns-2 c = record { went = went-none _ _ _ _; run-is = c .before .before .before .before .before .pre .1 .1 }
+returns-2 c = record { passed = passed-none _ _ _ _; run-is = c .before .before .before .before .before .pre .1 .1 }
 
 may-stand-requires : tie.Need-may-stand-requires
 may-stand-requires c κs = search needs
 
 returns-3 : tie.Need-returns-3
-returns-3 c = record { went = went-none _ _ _ _; run-is = c .before .before .before .before .before .before .before .pre .1 .1 }
+returns-3 c = record { passed = passed-none _ _ _ _; run-is = c .before .before .before .before .before .before .before .pre .1 .1 }
 
 run-around-requires : tie.Need-run-around-requires
 run-around-requires c κs = search needs
@@ -53,7 +51,7 @@ returns-4 c =
     let a = c .before .before .before .before .before .before .before .before .before .args in
     let none = rw (c .before .before .if3 .left) at (c .before .before .before .may-stand .ensures) in
     let m = one-never _ _ _ _ (p .0) (p .1) (p .3) (p .2) (c .before .before .before .before .before .before .if1 .left) none in
-    record { went = went-first _ _ _ _ _ (omega arith) (rw (c .types-end .ensures) m); run-is = c .before .run-around .ensures .is }
+    record { passed = passed-first _ _ _ _ _ (omega arith) (rw (c .types-end .ensures) m); run-is = c .before .run-around .ensures .is }
 
 pub pass-header-spec : {M : Type 1} → statement M
 pass-header-spec =

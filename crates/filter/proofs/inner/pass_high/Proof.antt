@@ -1,18 +1,17 @@
-use Prim.Native.Nat.{_+_, _-_, _*_, _≤_, _<_, min}
-use mathlib.Core.Path.{_≡_, refl, sym, _∙_}
+use Prim.Native.Nat.{_-_, _≤_}
+use mathlib.Core.Path.{refl, sym, _∙_}
 use native.Mathlib.Omega.{arith}
 use borrow.Author.Needs.{needs}
 use denote.Ref.{now}
-use lib.ListN.{length, getD}
-use Rattle.filter.specs.Inner.{Went, MissAt}
+use Rattle.filter.specs.Inner.{PassedOverIs, MissAt}
 use Rattle.filter.proofs.Headers.{large-not}
-use Rattle.filter.proofs.Laws.{went-none, went-one, went-few}
+use Rattle.filter.proofs.Laws.{passed-none, passed-one, passed-few}
 use Rattle.filter.proofs.Runs.{run-varint}
 use Rattle.filter.proofs.inner.pass_high.Statement.{statement}
 use Rattle.filter.proofs.inner.pass_high.Tie as tie
 
 abbrev Inv-loop : tie.InvT-loop
-Inv-loop bytes hints start last run end o₀ read₀ o read = (start ≤ o) × Went bytes hints start last o read
+Inv-loop bytes hints start last run end o₀ read₀ o read = (start ≤ o) × PassedOverIs bytes hints start last o read
 
 abbrev μ-loop : tie.MeasureT-loop
 μ-loop bytes hints start last run end o₀ read₀ o read = end - o
@@ -33,7 +32,7 @@ lesser-requires : tie.Need-lesser-requires Inv-loop μ-loop
 lesser-requires c κs = search needs
 
 loop-holds : tie.Need-loop-holds Inv-loop μ-loop
-loop-holds c = (search needs, went-none _ _ _ _)
+loop-holds c = (search needs, passed-none _ _ _ _)
 
 shared-slice-read-if1 : tie.Need-shared-slice-read-if1 Inv-loop μ-loop
 shared-slice-read-if1 c = let p = c .before .before .before .before .before .before .pre in omega (arith, c .before .loop-test .taken, c .before .before .before .lesser .ensures, p .0 .0)
@@ -52,7 +51,7 @@ sub-read c =
 add-read : tie.Need-add-read Inv-loop μ-loop
 add-read c =
     let p = c .before .before .before .before .before .before .before .before .pre in
-    omega (arith, went-few _ _ _ _ _ _ (c .before .before .before .before .loop .inv .1), missed c .few, p .0 .0, p .0 .1)
+    omega (arith, passed-few _ _ _ _ _ _ (c .before .before .before .before .loop .inv .1), missed c .few, p .0 .0, p .0 .1)
 
 add-o : tie.Need-add-o Inv-loop μ-loop
 add-o c = search needs
@@ -61,7 +60,7 @@ loop-less : tie.Need-loop-less Inv-loop μ-loop
 loop-less c = search needs
 
 loop-again : tie.Need-loop-again Inv-loop μ-loop
-loop-again c = (omega (arith, c .before .before .before .before .loop .inv .0), went-one _ _ _ _ _ _ (c .before .before .before .before .loop .inv .1) _ (omega (arith, c .before .before .before .loop-test .taken, c .before .before .before .before .before .lesser .ensures)) (missed c))
+loop-again c = (omega (arith, c .before .before .before .before .loop .inv .0), passed-one _ _ _ _ _ _ (c .before .before .before .before .loop .inv .1) _ (omega (arith, c .before .before .before .loop-test .taken, c .before .before .before .before .before .lesser .ensures)) (missed c))
 
 returns-2 : tie.Need-returns-2 Inv-loop μ-loop
 returns-2 c = c .before .loop .inv .1

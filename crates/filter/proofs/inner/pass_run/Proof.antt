@@ -1,12 +1,9 @@
 -- `filter::inner::pass_run` meets its contract: the first byte decides.
 -- Assumes nothing.
-use Prim.Native.Nat.{_+_, _-_, _*_, _≤_, _<_}
-use mathlib.Core.Path.{_≡_}
+use Prim.Native.Nat.{_-_}
 use native.Mathlib.Omega.{arith}
 use borrow.Author.Needs.{needs}
-use denote.Ref.{now}
-use lib.ListN.{length}
-use Rattle.filter.proofs.Laws.{went-none, went-wider}
+use Rattle.filter.proofs.Laws.{passed-none, passed-wider}
 use Rattle.filter.proofs.inner.pass_run.Statement.{statement}
 use Rattle.filter.proofs.inner.pass_run.Tie as tie
 
@@ -17,7 +14,7 @@ wide-requires : tie.Need-wide-requires
 wide-requires c κs = search needs
 
 returns : tie.Need-returns
-returns c = record { went = went-none _ _ _ _; run-is = c .before .before .before .before .before .pre .1 }
+returns c = record { passed = passed-none _ _ _ _; run-is = c .before .before .before .before .before .pre .1 }
 
 pass-header-requires : tie.Need-pass-header-requires
 pass-header-requires c κs = search needs
@@ -25,7 +22,7 @@ pass-header-requires c κs = search needs
 returns-2 : tie.Need-returns-2
 returns-2 c =
     let m = c .pass-header .ensures in
-    record { went = went-wider _ _ _ _ _ _ _ (omega (arith, c .before .before .before .before .before .before .before .pre .0 .0)) (omega arith) (m .went); run-is = m .run-is }
+    record { passed = passed-wider _ _ _ _ _ _ _ (omega (arith, c .before .before .before .before .before .before .before .pre .0 .0)) (omega arith) (m .passed); run-is = m .run-is }
 
 run-around-requires : tie.Need-run-around-requires
 run-around-requires c κs = search needs

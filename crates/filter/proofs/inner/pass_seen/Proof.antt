@@ -1,30 +1,29 @@
--- `filter::inner::pass_seen` meets its contract: the offsets before o are passed over (`Went`).
+-- `filter::inner::pass_seen` meets its contract: the offsets before o are passed over (`PassedOverIs`).
 -- Assumes nothing.
-use Prim.Native.Nat.{_+_, _-_, _*_, _≤_, _<_}
-use mathlib.Core.Path.{_≡_, refl}
+use Prim.Native.Nat.{_-_}
+use mathlib.Core.Path.{refl}
 use native.Mathlib.Omega.{arith}
 use borrow.Author.Needs.{needs}
-use denote.Ref.{now}
-use Rattle.filter.specs.Inner.{Went, MissAt}
+use Rattle.filter.specs.Inner.{PassedOverIs}
 use Rattle.filter.proofs.Headers.{too-low}
-use Rattle.filter.proofs.Laws.{went-none, went-one, went-few}
+use Rattle.filter.proofs.Laws.{passed-none, passed-one, passed-few}
 use Rattle.filter.proofs.inner.pass_seen.Statement.{statement}
 use Rattle.filter.proofs.inner.pass_seen.Tie as tie
 
 abbrev Inv-loop : tie.InvT-loop
-Inv-loop bytes hints start last o₀ read₀ o read = Went bytes hints start last o read
+Inv-loop bytes hints start last o₀ read₀ o read = PassedOverIs bytes hints start last o read
 
 abbrev μ-loop : tie.MeasureT-loop
 μ-loop bytes hints start last o₀ read₀ o read = last - o
 
 loop-holds : tie.Need-loop-holds Inv-loop μ-loop
-loop-holds c = went-none _ _ _ _
+loop-holds c = passed-none _ _ _ _
 
 shared-slice-read-if1 : tie.Need-shared-slice-read-if1 Inv-loop μ-loop
 shared-slice-read-if1 c = omega (arith, c .before .loop-test .taken, c .before .before .before .before .before .pre .0)
 
 add-read : tie.Need-add-read Inv-loop μ-loop
-add-read c = let p = c .before .before .before .before .before .before .pre in omega (arith, went-few _ _ _ _ _ _ (c .before .before .before .loop .inv), p .0, p .1)
+add-read c = let p = c .before .before .before .before .before .before .pre in omega (arith, passed-few _ _ _ _ _ _ (c .before .before .before .loop .inv), p .0, p .1)
 
 add-o : tie.Need-add-o Inv-loop μ-loop
 add-o c = search needs
@@ -36,7 +35,7 @@ loop-again : tie.Need-loop-again Inv-loop μ-loop
 loop-again c =
     let p = c .before .before .before .before .before .before .pre in
     let lt = c .before .before .loop-test .taken in
-    went-one _ _ _ _ _ _ (c .before .before .before .loop .inv) _ lt (too-low _ _ _ _ (omega (arith, lt, p .0)) refl (omega (arith, c .if1 .taken)) (c .if1 .taken))
+    passed-one _ _ _ _ _ _ (c .before .before .before .loop .inv) _ lt (too-low _ _ _ _ (omega (arith, lt, p .0)) refl (omega (arith, c .if1 .taken)) (c .if1 .taken))
 
 look-requires : tie.Need-look-requires Inv-loop μ-loop
 look-requires c κs = let p = c .before .before .before .before .before .before .pre in ((omega (arith, c .before .before .loop-test .taken, p .0), c .if1 .left), (p .1, p .2))
@@ -47,7 +46,7 @@ returns c = c .before .before .before .before .before .loop .inv
 add-read-2 : tie.Need-add-read-2 Inv-loop μ-loop
 add-read-2 c =
     let p = c .before .before .before .before .before .before .before .before .pre in
-    omega (arith, went-few _ _ _ _ _ _ (c .before .before .before .before .before .loop .inv), c .before .look .ensures (omega arith) .few, p .0, p .1)
+    omega (arith, passed-few _ _ _ _ _ _ (c .before .before .before .before .before .loop .inv), c .before .look .ensures (omega arith) .few, p .0, p .1)
 
 add-o-2 : tie.Need-add-o-2 Inv-loop μ-loop
 add-o-2 c = search needs
@@ -56,7 +55,7 @@ loop-less-2 : tie.Need-loop-less-2 Inv-loop μ-loop
 loop-less-2 c = search needs
 
 loop-again-2 : tie.Need-loop-again-2 Inv-loop μ-loop
-loop-again-2 c = went-one _ _ _ _ _ _ (c .before .before .before .before .before .loop .inv) _ (c .before .before .before .before .loop-test .taken) (c .before .look .ensures (omega arith))
+loop-again-2 c = passed-one _ _ _ _ _ _ (c .before .before .before .before .before .loop .inv) _ (c .before .before .before .before .loop-test .taken) (c .before .look .ensures (omega arith))
 
 returns-2 : tie.Need-returns-2 Inv-loop μ-loop
 returns-2 c = c .before .loop .inv

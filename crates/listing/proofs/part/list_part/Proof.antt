@@ -29,7 +29,7 @@ held : (c : tie.After-written) → c .written .result ≤ roomOf rowSpace colSpa
 held c =
     let a = start c .args in
     let l = long c in
-    part-room (now (a .region)) (now (a .hints)) (a .start) (now (a .rows)) (now (a .cols)) (l .0) (l .1) _ (scanned c .scan-region .ensures .0) _ (c .written .ensures)
+    part-room (now (a .region)) (now (a .hints)) (a .start) (now (a .rows)) (now (a .cols)) (l .0) (l .1) _ (scanned c .scan-region .ensures) _ (c .written .ensures)
 
 scan-region-requires : tie.Need-scan-region-requires
 scan-region-requires c κs = search needs
@@ -52,13 +52,16 @@ returns c =
     let s = scanned w .scan-region in
     let p = c .put-rows in
     let l = long w in
-    let t = part-text (now (a .region)) (now (a .hints)) (a .start) (now (a .rows)) (now (a .cols)) (l .0) (l .1) _ (s .ensures .0) _ _ _ (s .ensures .1 .0) (s .ensures .1 .1 .0) (w .written .ensures) in
+    let t = part-text (now (a .region)) (now (a .hints)) (a .start) (now (a .rows)) (now (a .cols)) (l .0) (l .1) _ (s .ensures) _ (w .written .ensures) in
     let put = rw t at (p .ensures .0) in (
-      part-answer (now (a .region)) (now (a .hints)) (a .start) (now (a .rows)) (now (a .cols)) (l .0) (l .1) _ (s .ensures .0),
-      (
-        put .ends ∙ search needs,
-        (counts _ _ (omega (arith, p .ensures .1, p .kept .0, room-holds _ _ (held w) .0, start w .good)), (put .written, (s .ensures .1 .0, s .ensures .1 .1 .0))),
-      ),
+      record {
+        answer = part-answer (now (a .region)) (now (a .hints)) (a .start) (now (a .rows)) (now (a .cols)) (l .0) (l .1) _ (s .ensures);
+        len = put .ends ∙ search needs;
+        text = put .written;
+        rows = s .ensures .rows;
+        entries = s .ensures .entries;
+      },
+      counts _ _ (omega (arith, p .ensures .1, p .kept .0, room-holds _ _ (held w) .0, start w .good)),
     )
 
 pub list-part-spec : {M : Type 1} → statement M

@@ -1,15 +1,14 @@
 -- `scan::schema_sig::once` meets its contract: each way out is a law of `proofs/OneAttempt.antt`.
 -- Assumes nothing.
-use Prim.Native.Nat.{_+_, _<_}
-use mathlib.Core.Path.{_≡_, sym, _∙_}
+use Prim.Native.Nat.{_<_}
+use mathlib.Core.Path.{sym, _∙_}
 use native.Mathlib.Nat.{zero-mul}
 use native.Mathlib.Omega.{arith}
-use lib.ListN.{length}
 use denote.Ref.{now}
-use Rattle.attempt.specs.Attempt.{attemptAt, kinds}
-use Rattle.attempt.specs.Inner.{findTypes, HitIs}
+use Rattle.attempt.specs.Attempt.{attemptAt}
+use Rattle.attempt.specs.Inner.{HitIs}
 use Rattle.attempt.specs.Places.{attemptPlaces}
-use Rattle.attempt.proofs.Laws.{attempt-beyond, columns-at-length}
+use Rattle.attempt.proofs.Laws.{attempt-beyond}
 use Rattle.scan.proofs.OneAttempt.{once-missed, once-full, once-found}
 use Rattle.sheet.proofs.Laws.{room-rows, room-cols}
 use borrow.Author.Needs.{needs}
@@ -77,13 +76,10 @@ returns-4 c =
     let k = c .before .before .before .before .before .before .before .before in
     let a = k .before .before .before .before .before .before .before .before .before .args in
     let p = k .before .before .before .before .before .before .before .before .before .pre in
-    let x = k .before .find .given .0 .0 in
     let h = found k in
     let q = c .before .before .before .before .put-found in
     let n : 0 < a .room = omega (arith, c .before .before .before .before .before .before .before .if2 .left) in
-    once-found _ _ _ _ _ _ _ (h .hits) _ _ (rw (p .1) at n)
-    (columns-at-length (a .o + x .head) (kinds (findTypes (now (a .bytes)) (a .o) x)) ∙ h .columns)
-    (q .ensures .0) (rw zero-mul at (q .ensures .1))
+    once-found _ _ _ _ _ _ _ (h .hits) _ _ (rw (p .1) at n) (q .ensures .0) (rw zero-mul at (q .ensures .1))
 
 pub once-spec : {M : Type 1} → statement M
 once-spec =

@@ -1,6 +1,5 @@
 -- `scan::schema_sig::put_found` meets its contract: the row, then its group.
 -- Assumes nothing.
-use mathlib.Core.Path.{_≡_}
 use native.Mathlib.Nat.{zero-add}
 use borrow.Author.Needs.{needs}
 use Rattle.scan.proofs.schema_sig.put_found.Statement.{statement}

@@ -1,7 +1,7 @@
 -- `scan::schema_sig::run` meets its contract: what the loop has found, with what is still to come, comes to the whole run (`On`).
 -- Assumes nothing.
 use Prim.Native.Nat.{_+_, _-_, _*_, _<_, _≤_}
-use mathlib.Core.Path.{_≡_, sym, _∙_}
+use mathlib.Core.Path.{_∙_}
 use native.Mathlib.Omega.{arith}
 use lib.ListN.{length}
 use denote.Ref.{now}
@@ -13,7 +13,6 @@ use Rattle.attempt.specs.Places.{mostPlaces}
 use Rattle.filter.proofs.Laws.{no-run}
 use Rattle.filter.specs.Inner.{IsHigh, RowIs, ThroughIs}
 use Rattle.record.proofs.Numbers.{by-order}
-use Rattle.scan.specs.Inner.{RoomFor}
 use Rattle.scan.proofs.Running.{On, on-start, on-long, on-passed, on-through, on-found, on-end, on-full, room-all}
 use Rattle.scan.proofs.schema_sig.run.Statement.{statement}
 use Rattle.scan.proofs.schema_sig.run.Tie as tie
@@ -51,12 +50,12 @@ taken c =
     let f = found c in
     let h = f .found in (
       omega (arith, f .below, c .before .before .before .before .before .last-of .ensures),
-      omega (arith, f .passed .to-is),
+      omega (arith, f .misses .to-is),
       hit-takes _ _ _ _ (h .hits) .0,
       h .inside,
       c .before .before .before .before .before .before .before .before .before .before .pre .0 .small,
       h .few,
-      omega (arith, c .before .before .before .before .loop .inv .1, f .passed .to-is, f .passed .few),
+      omega (arith, c .before .before .before .before .loop .inv .1, f .misses .to-is, f .misses .few),
     )
 
 -- the run up to it
@@ -65,7 +64,7 @@ there : (c : tie.After-known-told2 Inv-loop μ-loop) →
     let l = c .before .before .before .before .loop in
     let x = c .before .at .given .0 in
     On (now (a .bytes)) (now (a .hints)) (a .base) (a .start) (a .room) (now (a .rows)) (now (a .cols)) (l .rows) (l .cols) (x .0) (l .n) (l .read + x .1 .1 .0)
-there c = on-passed _ _ _ _ _ _ _ _ _ _ _ _ _ _ (c .before .before .before .before .before .last-of .ensures) (c .before .before .before .before .loop .inv .3) _ (omega (arith, found c .below)) (found c .passed)
+there c = on-passed _ _ _ _ _ _ _ _ _ _ _ _ _ _ (c .before .before .before .before .before .last-of .ensures) (c .before .before .before .before .loop .inv .3) _ (omega (arith, found c .below)) (found c .misses)
 
 last-of-requires : tie.Need-last-of-requires Inv-loop μ-loop
 last-of-requires c κs = search needs
@@ -85,8 +84,8 @@ add-t21 c =
     let l = c .before .before .before .before .loop in
     let p = c .before .before .before .before .before .before .before .before .before .before .pre .0 in
     by-order (l .o) (c .before .before .before .before .before .last-of .result)
-    (λ lt. omega (arith, l .inv .1, t .went .passed .few, t .went .passed .to-is, t .went .near lt, c .before .before .before .before .before .last-of .ensures, p .small))
-    (λ ge. omega (arith, l .inv .2, t .went .early ge .1, p .small))
+    (λ lt. omega (arith, l .inv .1, t .passed .misses .few, t .passed .misses .to-is, t .passed .near lt, c .before .before .before .before .before .last-of .ensures, p .small))
+    (λ ge. omega (arith, l .inv .2, t .passed .early ge .1, p .small))
 
 same-length : tie.Need-same-length Inv-loop μ-loop
 same-length c = on-long _ _ _ _ _ _ _ _ _ _ _ _ (c .before .before .before .before .loop .inv .3) .0

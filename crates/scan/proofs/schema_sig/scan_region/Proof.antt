@@ -32,7 +32,7 @@ run-requires : tie.Need-run-requires
 run-requires c κs = (passed _ _ _ (checked (c .before .before .before)), c .before .before .room .ensures)
 
 returns : tie.Need-returns
-returns c = scan-refused _ _ _ _ _ _ _ (sym (c .before .before .before .check-slice .ensures) ∙ c .before .refusal .given .1)
+returns c = scan-refused _ _ (sym (c .before .before .before .check-slice .ensures) ∙ c .before .refusal .given .1)
 
 same-length : tie.Need-same-length
 same-length c = search needs
@@ -42,7 +42,7 @@ same-length-2 c = search needs
 
 returns-2 : tie.Need-returns-2
 returns-2 c =
-    scan-done _ _ _ _ _ _ _ _ _ (checked (c .before .before .before .before .before .before .before .before))
+    scan-done _ _ (checked (c .before .before .before .before .before .before .before .before))
     (rw (c .before .before .before .before .before .before .before .room .ensures) at (c .before .before .before .before .run .ensures))
 
 pub scan-region-spec : {M : Type 1} → statement M

@@ -3,8 +3,8 @@
 use mathlib.Core.Path.{_≡_, sym, _∙_}
 use denote.Ref.{now}
 use Rattle.scan.specs.Scan.{scanChecked}
-use Rattle.scan.proofs.Answers.{once-refused, once-done}
 use Rattle.scan.proofs.Checks.{passed}
+use Rattle.sheet.proofs.Filling.{rows-refused, rows-filled}
 use Rattle.sheet.specs.declared.refusal.Checked.the-variants.{Passed}
 use borrow.Author.Needs.{needs}
 use Rattle.scan.proofs.schema_sig.try_parse_record.Statement.{statement}
@@ -32,7 +32,7 @@ once-requires : tie.Need-once-requires
 once-requires c κs = (passed _ _ _ (checked (c .before .before .before)), c .before .before .room .ensures)
 
 returns : tie.Need-returns
-returns c = once-refused _ _ _ _ _ _ _ (sym (c .before .before .before .check-slice .ensures) ∙ c .before .refusal .given .1)
+returns c = rows-refused _ _ (sym (c .before .before .before .check-slice .ensures) ∙ c .before .refusal .given .1)
 
 same-length : tie.Need-same-length
 same-length c = search needs
@@ -41,7 +41,7 @@ same-length-2 : tie.Need-same-length-2
 same-length-2 c = search needs
 
 returns-2 : tie.Need-returns-2
-returns-2 c = once-done _ _ _ _ _ _ _ _ _ (checked (c .before .before .before .before .before .before .before .before)) (c .before .before .before .before .once .ensures)
+returns-2 c = rows-filled _ _ (checked (c .before .before .before .before .before .before .before .before)) (c .before .before .before .before .once .ensures)
 
 pub try-parse-record-spec : {M : Type 1} → statement M
 try-parse-record-spec =

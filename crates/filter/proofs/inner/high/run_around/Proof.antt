@@ -1,8 +1,6 @@
 -- `filter::inner::high::run_around` meets its contract: what is known, or both ends looked for.
 -- Assumes nothing.
 use borrow.Author.Needs.{needs}
-use denote.Ref.{now}
-use native.Mathlib.Omega.{arith}
 use Rattle.filter.proofs.Runs.{run-of}
 use Rattle.filter.proofs.inner.high.run_around.Statement.{statement}
 use Rattle.filter.proofs.inner.high.run_around.Tie as tie

@@ -44,7 +44,7 @@ taken c =
     let f = found c in
     let takes = hit-takes _ _ _ _ (f .found .hits) in (
       omega (arith, f .below, c .before .before .before .before .before .last-of .ensures),
-      omega (arith, f .passed .to-is),
+      omega (arith, f .misses .to-is),
       takes .0,
       takes .1,
       omega (arith, c .before .before .before .before .before .before .before .before .before .before .pre .inside),
@@ -55,7 +55,7 @@ there : (c : tie.After-known-told Inv-loop μ-loop) →
     let a = c .before .before .before .before .before .before .before .before .before .before .args in
     let l = c .before .before .before .before .loop in
     Scanning (now (a .bytes)) (a .from) (now (a .hints)) (a .spot) (a .lent) (a .n) (now (a .rows)) (now (a .cols)) (l .rows) (l .cols) (c .before .at .given .0 .0) (l .m)
-there c = scanning-passed _ _ _ _ _ _ _ _ _ _ _ _ _ _ (c .before .before .before .before .before .last-of .ensures) (c .before .before .before .before .loop .inv .0) _ (omega (arith, found c .below)) (found c .passed)
+there c = scanning-passed _ _ _ _ _ _ _ _ _ _ _ _ _ _ (c .before .before .before .before .before .last-of .ensures) (c .before .before .before .before .loop .inv .0) _ (omega (arith, found c .below)) (found c .misses)
 
 last-of-requires : tie.Need-last-of-requires Inv-loop μ-loop
 last-of-requires c κs = search needs

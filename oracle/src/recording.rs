@@ -1,5 +1,5 @@
-//! Cases for the programs `answers` and `carved`, and what they must print: the answers by the rules, at one with the Rust
-//! where it was asked. README.md has the formats.
+//! Cases for the programs `answers`, `carved` and `walked`, and what they must print: the answers by the rules, at one with the
+//! Rust where it was asked. README.md has the formats.
 
 mod file;
 mod line;
@@ -42,6 +42,7 @@ const UNNAMED: &str = "Cases by their place";
 struct Recorder {
     answers: Program,
     carved: Program,
+    walked: Program,
     limits: Limits,
     /// By call, number and rows: how many came, and the next one to take.
     kinds: HashMap<(u8, u64, u64), (usize, f64)>,
@@ -62,8 +63,7 @@ impl Sink for Recorder {
 
 impl Recorder {
     fn wanted(&mut self, case: &Case) -> bool {
-        let walks = matches!(case.call, LEAVES | RECOVER | GAPS);
-        let largest = if walks { LARGEST_WALK } else { LARGEST_OF_MANY };
+        let largest = if walks(case) { LARGEST_WALK } else { LARGEST_OF_MANY };
         if case.size() > largest || case.words.iter().any(|words| words.len() > MOST_WORDS_OF_MANY) {
             return false;
         }
@@ -90,8 +90,18 @@ impl Recorder {
         if let Some(why) = against_the_rust(case, &asked) {
             self.fail("DIFFERENCE", &format!("{why}: {}", text::line(case)));
         }
-        let program = if call.writes_rows() { &mut self.carved } else { &mut self.answers };
-        program.put(name, case, &answer, asked == Asked::Said(Given::Agrees));
+        self.program(case).put(name, case, &answer, asked == Asked::Said(Given::Agrees));
+    }
+
+    /// The program that makes the call of a case.
+    fn program(&mut self, case: &Case) -> &mut Program {
+        if walks(case) {
+            &mut self.walked
+        } else if calls::of(case).writes_rows() {
+            &mut self.carved
+        } else {
+            &mut self.answers
+        }
     }
 
     fn fail(&mut self, what: &str, why: &str) {
@@ -102,8 +112,9 @@ impl Recorder {
         if !file::name_fits(name) {
             self.fail("a heading is too long", name);
         }
-        self.answers.head(name);
-        self.carved.head(name);
+        for program in [&mut self.answers, &mut self.carved, &mut self.walked] {
+            program.head(name);
+        }
     }
 
     fn work(&mut self, part: Worked) {
@@ -120,12 +131,16 @@ impl Recorder {
     }
 
     fn write(&self, folder: &Path, seed: u64) -> io::Result<()> {
-        for (name, program) in [("answers", &self.answers), ("carved", &self.carved)] {
+        for (name, program) in [("answers", &self.answers), ("carved", &self.carved), ("walked", &self.walked)] {
             program.write(&folder.join(name))?;
             println!("{name}: {}, seed {seed}", program.summary());
         }
         Ok(())
     }
+}
+
+fn walks(case: &Case) -> bool {
+    matches!(case.call, LEAVES | RECOVER | GAPS)
 }
 
 /// Whether the programs have room and time for a case without a name.
@@ -147,6 +162,7 @@ pub fn record(folder: &str, seed: u64) -> io::Result<bool> {
     let mut recorder = Recorder {
         answers: Program::default(),
         carved: Program::default(),
+        walked: Program::default(),
         limits: Limits::of_the_rules(),
         kinds: HashMap::new(),
         taken: HashSet::new(),

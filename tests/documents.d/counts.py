@@ -15,12 +15,14 @@ COUNTS = [
     (DIFFERENCES, r"repeat ([\d,]+) cases in every check", "stored cases"),
     (PROMISES, r"stored runs are of ([\d,]+) cases", "stored cases"),
     (PROMISES, r"([\d,]+) of them in `answers`", "stored cases of answers"),
-    (PROMISES, r"and ([\d,]+) in `carved`", "stored cases of carved"),
+    (PROMISES, r"([\d,]+) in `carved`", "stored cases of carved"),
+    (PROMISES, r"and ([\d,]+) in `walked`", "stored cases of walked"),
     (PROMISES, r"on ([\d,]+) the Rust agreed", "stored cases that the Rust agreed on"),
     (PROMISES, r"([\d,]+) have a name", "stored cases with a name"),
     (ORACLE, r"seed \d+: ([\d,]+)\s+cases", "stored cases"),
     (ORACLE, r"of which `answers` has ([\d,]+)", "stored cases of answers"),
-    (ORACLE, r"and `carved` ([\d,]+)\.", "stored cases of carved"),
+    (ORACLE, r"`carved` ([\d,]+) and", "stored cases of carved"),
+    (ORACLE, r"and\s+`walked` ([\d,]+)\.", "stored cases of walked"),
     (ORACLE, r"On ([\d,]+) of them\s+the Rust was asked", "stored cases that the Rust agreed on"),
     (ORACLE, r"on ([\d,]+) the rules alone decide", "stored cases that the rules decide"),
     (PROMISES, r"compares ([\d,]+) more with outputs", "inputs of tests/carvelist-cases"),
@@ -94,18 +96,18 @@ def defined(tree):
 
 def counted(tree):
     """What there is to count, and how much of it."""
-    answers, carved = stored(tree, "answers"), stored(tree, "carved")
-    agreed = sum(rust for rust, _ in answers + carved)
+    programs = {program: stored(tree, program) for program in ("answers", "carved", "walked")}
+    cases = sum(programs.values(), [])
+    agreed = sum(rust for rust, _ in cases)
     calls = [function for function in functions(tree, {"phsarodil"}) if function.name.startswith("phs_")]
     numbers = collections.defaultdict(lambda: -1, defined(tree))
     return {
         **numbers,
-        "stored cases": len(answers + carved),
-        "stored cases of answers": len(answers),
-        "stored cases of carved": len(carved),
+        "stored cases": len(cases),
+        **{f"stored cases of {program}": len(own) for program, own in programs.items()},
         "stored cases that the Rust agreed on": agreed,
-        "stored cases that the rules decide": len(answers + carved) - agreed,
-        "stored cases with a name": sum(named for _, named in answers + carved),
+        "stored cases that the rules decide": len(cases) - agreed,
+        "stored cases with a name": sum(named for _, named in cases),
         "inputs of tests/carvelist-cases": sum(path.startswith("tests/carvelist-cases/") and path.endswith(".in") for path in tree.files),
         "cases in the table of calls": sum_of(tree, DIFFERENCES, "Cases"),
         "cases with the Rust in the table of calls": sum_of(tree, DIFFERENCES, "With the Rust"),

@@ -1,4 +1,4 @@
-// Calls that fill a list of hints, places, leaves or types.
+// Calls that fill a list of hints, places or types.
 use cases::case::number;
 use cases::case::slice;
 use cases::case::word_list;
@@ -10,7 +10,6 @@ use cases::lists::Cells;
 use phsarodil::learned::phs_learn_signatures;
 use phsarodil::lists::phs_boyer_moore_search;
 use phsarodil::lists::phs_from_create_sql;
-use phsarodil::pages::phs_collect_leaf_pages;
 use streams::Output;
 
 pub(crate) fn from_create_sql(said: Output, case: &[u8], hints: &mut [u8]) -> Output {
@@ -28,28 +27,6 @@ pub(crate) fn boyer_moore_search(said: Output, case: &[u8], places: &mut [u64]) 
         Cells::Words,
         places,
     )
-}
-
-pub(crate) fn collect_leaf_pages(
-    said: Output,
-    case: &[u8],
-    flags: &mut [u8],
-    stack: &mut [u64],
-    leaves: &mut [u64],
-) -> Output {
-    let mut out = [0; 1];
-    let answer = phs_collect_leaf_pages(
-        slice(case, 0),
-        number(case, 0),
-        number(case, 1),
-        flags,
-        stack,
-        leaves,
-        &mut out,
-    );
-    let said = say_bytes(answered(said, answer, &[out[0]]), b"flags", flags);
-    let said = say_list(said, b"stack", Cells::Words, stack);
-    say_list(said, b"leaves", Cells::Words, leaves)
 }
 
 pub(crate) fn learn_signatures(said: Output, case: &[u8], types: &mut [u64]) -> Output {

@@ -1,4 +1,4 @@
-// Says what the calls answer that write no rows, a line a case: `answers FILE`. oracle/README.md has the format of cases and lines.
+// Says what the calls answer that write no rows and walk nothing, a line a case: `answers FILE`. oracle/README.md has the formats.
 mod lists;
 mod values;
 
@@ -17,14 +17,8 @@ use cases::lists::fill_words;
 use cases::lists::word_space;
 use streams::Output;
 
-// The call by its number, with the lists that it is lent.
-fn answer(
-    said: Output,
-    case: &[u8],
-    bytes: &mut [u8],
-    first: &mut [u64],
-    second: &mut [u64],
-) -> Output {
+// The call by its number, with the list that it is lent: of bytes or of words.
+fn answer(said: Output, case: &[u8], bytes: &mut [u8], words: &mut [u64]) -> Output {
     match call(case) {
         1 => values::read_varint(said, case),
         2 => values::body_length(said, case),
@@ -33,40 +27,25 @@ fn answer(
         5 => values::view_entry(said, case),
         6 => values::is_compatible(said, case),
         9 => lists::from_create_sql(said, case, bytes),
-        10 => lists::boyer_moore_search(said, case, first),
+        10 => lists::boyer_moore_search(said, case, words),
         11 => values::get_page_data(said, case),
-        12 => lists::collect_leaf_pages(said, case, bytes, first, second),
-        21 => lists::learn_signatures(said, case, first),
+        21 => lists::learn_signatures(said, case, words),
         _ => said.say(b"there is no such call here"),
     }
 }
 
-fn say_case(
-    said: Output,
-    n: u64,
-    case: &[u8],
-    bytes: &mut [u8],
-    first: &mut [u64],
-    second: &mut [u64],
-) -> Output {
+fn say_case(said: Output, n: u64, case: &[u8], bytes: &mut [u8], words: &mut [u64]) -> Output {
     if call(case) == 0 {
         return heading(said, case);
     }
     let said = begin(said, n, case);
-    let some = fill_bytes(bytes, case, 0);
-    let one = fill_words(first, case, 1);
-    let two = fill_words(second, case, 2);
-    let said = answer(
-        said,
-        case,
-        &mut bytes[..some],
-        &mut first[..one],
-        &mut second[..two],
-    );
+    let one = fill_bytes(bytes, case, 0);
+    let two = fill_words(words, case, 1);
+    let said = answer(said, case, &mut bytes[..one], &mut words[..two]);
     said.say(b"\n")
 }
 
-fn say_cases(file: i32, case: &mut [u8], bytes: &mut [u8], first: &mut [u64], second: &mut [u64]) {
+fn say_cases(file: i32, case: &mut [u8], bytes: &mut [u8], words: &mut [u64]) {
     let mut said = Output::new();
     let mut n = 0;
     while n < MOST_CASES {
@@ -76,7 +55,7 @@ fn say_cases(file: i32, case: &mut [u8], bytes: &mut [u8], first: &mut [u64], se
             return;
         };
         n = n + 1;
-        said = say_case(said, n, case, bytes, first, second);
+        said = say_case(said, n, case, bytes, words);
     }
     finish(said, b"answers", Next::Case, n);
 }
@@ -88,7 +67,6 @@ fn main() {
     }
     let mut case = case_space();
     let mut bytes = byte_space();
-    let mut first = word_space();
-    let mut second = word_space();
-    say_cases(file, &mut case, &mut bytes, &mut first, &mut second);
+    let mut words = word_space();
+    say_cases(file, &mut case, &mut bytes, &mut words);
 }

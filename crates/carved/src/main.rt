@@ -1,7 +1,6 @@
-// Says what the calls answer that write rows, a line a case: `carved FILE`. oracle/README.md has the format of cases and lines.
+// Says what the calls answer that write rows and walk nothing, a line a case: `carved FILE`. oracle/README.md has the formats.
 mod regions;
 mod spaces;
-mod walks;
 
 use cases::case::call;
 use cases::files::MOST_CASES;
@@ -12,13 +11,11 @@ use cases::files::open;
 use cases::files::read_case;
 use cases::line::begin;
 use cases::line::heading;
-use cases::lists::byte_space;
-use cases::lists::fill_bytes;
 use cases::lists::fill_words;
 use cases::lists::word_space;
 use streams::Output;
 
-// The call by its number, on a region, a block or a page;
+// The call by its number.
 fn carve(said: Output, case: &[u8], rows: &mut [u64], cols: &mut [u64]) -> Output {
     match call(case) {
         7 => regions::try_parse_record(said, case, rows, cols),
@@ -34,58 +31,18 @@ fn carve(said: Output, case: &[u8], rows: &mut [u64], cols: &mut [u64]) -> Outpu
     }
 }
 
-// and on tables. Where a call walks, the first list of words is its stack.
-fn carve_any(
-    said: Output,
-    case: &[u8],
-    flags: &mut [u8],
-    first: &mut [u64],
-    second: &mut [u64],
-    third: &mut [u64],
-) -> Output {
-    match call(case) {
-        13 => walks::recover_freeblocks(said, case, flags, first, second, third),
-        16 => walks::scan_page_gaps(said, case, flags, first, second, third),
-        _ => carve(said, case, first, second),
-    }
-}
-
-fn say_case(
-    said: Output,
-    n: u64,
-    case: &[u8],
-    flags: &mut [u8],
-    first: &mut [u64],
-    second: &mut [u64],
-    third: &mut [u64],
-) -> Output {
+fn say_case(said: Output, n: u64, case: &[u8], rows: &mut [u64], cols: &mut [u64]) -> Output {
     if call(case) == 0 {
         return heading(said, case);
     }
     let said = begin(said, n, case);
-    let some = fill_bytes(flags, case, 0);
-    let one = fill_words(first, case, 1);
-    let two = fill_words(second, case, 2);
-    let three = fill_words(third, case, 3);
-    let said = carve_any(
-        said,
-        case,
-        &mut flags[..some],
-        &mut first[..one],
-        &mut second[..two],
-        &mut third[..three],
-    );
+    let one = fill_words(rows, case, 1);
+    let two = fill_words(cols, case, 2);
+    let said = carve(said, case, &mut rows[..one], &mut cols[..two]);
     said.say(b"\n")
 }
 
-fn say_cases(
-    file: i32,
-    case: &mut [u8],
-    flags: &mut [u8],
-    first: &mut [u64],
-    second: &mut [u64],
-    third: &mut [u64],
-) {
+fn say_cases(file: i32, case: &mut [u8], rows: &mut [u64], cols: &mut [u64]) {
     let mut said = Output::new();
     let mut n = 0;
     while n < MOST_CASES {
@@ -95,7 +52,7 @@ fn say_cases(
             return;
         };
         n = n + 1;
-        said = say_case(said, n, case, flags, first, second, third);
+        said = say_case(said, n, case, rows, cols);
     }
     finish(said, b"carved", Next::Case, n);
 }
@@ -106,16 +63,7 @@ fn main() {
         return;
     }
     let mut case = case_space();
-    let mut flags = byte_space();
-    let mut first = word_space();
-    let mut second = word_space();
-    let mut third = word_space();
-    say_cases(
-        file,
-        &mut case,
-        &mut flags,
-        &mut first,
-        &mut second,
-        &mut third,
-    );
+    let mut rows = word_space();
+    let mut cols = word_space();
+    say_cases(file, &mut case, &mut rows, &mut cols);
 }

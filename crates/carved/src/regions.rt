@@ -6,7 +6,7 @@ use cases::case::words;
 use cases::line::answered;
 use cases::line::say_rows;
 use phsarodil::learned::phs_carve_unallocated;
-use phsarodil::modes::phs_carve_freeblock;
+use phsarodil::block::phs_carve_freeblock;
 use phsarodil::rows::phs_scan_region;
 use phsarodil::rows::phs_try_parse_record;
 use streams::Output;

@@ -77,6 +77,6 @@ mod tests {
         let due = "\nlengths\nRust  of a real: answers 0, out 1 8\nrules case 3: answers 0, out 1 8\n";
         assert_eq!(program.stdout, due);
         assert_eq!(program.list, "1 lengths\n2 body_length n=7 s= l=\n3 body_length n=7 s= l=\n");
-        assert_eq!(program.cases.len(), 3 * 168 + 7 + 9);
+        assert_eq!(program.cases.len(), 3 * 160 + 7 + 9);
     }
 }

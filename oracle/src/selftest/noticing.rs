@@ -49,25 +49,24 @@ mod tests {
     use crate::recording::has_room;
 
     /// What no recorded case can show.
-    const TOO_LONG: [&str; 3] = [
+    const TOO_LONG: [&str; 6] = [
         "a region of 16,777,216 bytes is refused",
+        "a rebuilt row of 65,535 bytes is too long",
+        "a rebuilt row may have 65,536 bytes",
         "1,024 rows to learn from are refused",
         "a database of 16,777,216 bytes is refused",
+        "a header length takes two bytes with 126 bytes of types",
     ];
 
     #[test]
     fn the_cases_show_each_change() {
-        for change in changes() {
-            let recorded = !TOO_LONG.contains(&change.what);
-            let shown = first(change, &|case| !recorded || has_room(case)).is_some();
-            assert!(shown, "{}", change.what);
-        }
+        let hidden = changes().filter(|change| first(change, &|_| true).is_none());
+        assert_eq!(hidden.map(|change| change.what).collect::<Vec<_>>(), [""; 0]);
     }
 
     #[test]
-    fn no_recorded_case_shows_what_is_too_long() {
-        for change in changes().filter(|change| TOO_LONG.contains(&change.what)) {
-            assert!(first(change, &has_room).is_none(), "{}", change.what);
-        }
+    fn recorded_cases_show_all_but_what_is_too_long() {
+        let hidden = changes().filter(|change| first(change, &has_room).is_none());
+        assert_eq!(hidden.map(|change| change.what).collect::<Vec<_>>(), TOO_LONG);
     }
 }

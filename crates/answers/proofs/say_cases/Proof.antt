@@ -8,10 +8,12 @@ use Rattle.answers.proofs.say_cases.Statement.{statement}
 use Rattle.answers.proofs.say_cases.Tie as tie
 
 abbrev Inv-loop : tie.InvT-loop
-Inv-loop file case₀ bytes₀ first₀ second₀ said₀ n₀ t9 t10 case bytes first second said n = (length case ≡ length case₀) × (length bytes ≡ length bytes₀) × (length first ≡ length first₀) × (length second ≡ length second₀)
+Inv-loop file case₀ bytes₀ words₀ said₀ n₀ t8 t9 case bytes words said n =
+    (length case ≡ length case₀) × (length bytes ≡ length bytes₀) × (length words ≡ length words₀)
 
 abbrev μ-loop : tie.MeasureT-loop
-μ-loop file case₀ bytes₀ first₀ second₀ said₀ n₀ t9 t10 case bytes first second said n = 1000000 - n
+μ-loop file case₀ bytes₀ words₀ said₀ n₀ t8 t9 case bytes words said n =
+    1000000 - n
 
 new-requires : tie.Need-new-requires Inv-loop μ-loop
 new-requires c κs = search needs
@@ -40,9 +42,6 @@ same-length-2 c = search needs
 same-length-3 : tie.Need-same-length-3 Inv-loop μ-loop
 same-length-3 c = search needs
 
-same-length-4 : tie.Need-same-length-4 Inv-loop μ-loop
-same-length-4 c = search needs
-
 returns : tie.Need-returns Inv-loop μ-loop
 returns c = search needs
 
@@ -64,17 +63,14 @@ slice-aggregate-finish-2 c = search needs
 finish-requires-2 : tie.Need-finish-requires-2 Inv-loop μ-loop
 finish-requires-2 c κs = search needs
 
+same-length-4 : tie.Need-same-length-4 Inv-loop μ-loop
+same-length-4 c = search needs
+
 same-length-5 : tie.Need-same-length-5 Inv-loop μ-loop
 same-length-5 c = search needs
 
 same-length-6 : tie.Need-same-length-6 Inv-loop μ-loop
 same-length-6 c = search needs
-
-same-length-7 : tie.Need-same-length-7 Inv-loop μ-loop
-same-length-7 c = search needs
-
-same-length-8 : tie.Need-same-length-8 Inv-loop μ-loop
-same-length-8 c = search needs
 
 returns-2 : tie.Need-returns-2 Inv-loop μ-loop
 returns-2 c = search needs
@@ -94,7 +90,6 @@ say-cases-spec =
     same-length
     same-length-2
     same-length-3
-    same-length-4
     returns
     add-n
     say-case-requires
@@ -102,8 +97,7 @@ say-cases-spec =
     loop-again
     slice-aggregate-finish-2
     finish-requires-2
+    same-length-4
     same-length-5
     same-length-6
-    same-length-7
-    same-length-8
     returns-2)

@@ -8,11 +8,11 @@ use Rattle.carved.proofs.say_cases.Statement.{statement}
 use Rattle.carved.proofs.say_cases.Tie as tie
 
 abbrev Inv-loop : tie.InvT-loop
-Inv-loop file case₀ flags₀ first₀ second₀ third₀ said₀ n₀ t10 t11 case flags first second third said n =
-    (length case ≡ length case₀) × (length flags ≡ length flags₀) × (length first ≡ length first₀) × (length second ≡ length second₀) × (length third ≡ length third₀)
+Inv-loop file case₀ rows₀ cols₀ said₀ n₀ t8 t9 case rows cols said n =
+    (length case ≡ length case₀) × (length rows ≡ length rows₀) × (length cols ≡ length cols₀)
 
 abbrev μ-loop : tie.MeasureT-loop
-μ-loop file case₀ flags₀ first₀ second₀ third₀ said₀ n₀ t10 t11 case flags first second third said n =
+μ-loop file case₀ rows₀ cols₀ said₀ n₀ t8 t9 case rows cols said n =
     1000000 - n
 
 new-requires : tie.Need-new-requires Inv-loop μ-loop
@@ -42,12 +42,6 @@ same-length-2 c = search needs
 same-length-3 : tie.Need-same-length-3 Inv-loop μ-loop
 same-length-3 c = search needs
 
-same-length-4 : tie.Need-same-length-4 Inv-loop μ-loop
-same-length-4 c = search needs
-
-same-length-5 : tie.Need-same-length-5 Inv-loop μ-loop
-same-length-5 c = search needs
-
 returns : tie.Need-returns Inv-loop μ-loop
 returns c = search needs
 
@@ -69,20 +63,14 @@ slice-aggregate-finish-2 c = search needs
 finish-requires-2 : tie.Need-finish-requires-2 Inv-loop μ-loop
 finish-requires-2 c κs = search needs
 
+same-length-4 : tie.Need-same-length-4 Inv-loop μ-loop
+same-length-4 c = search needs
+
+same-length-5 : tie.Need-same-length-5 Inv-loop μ-loop
+same-length-5 c = search needs
+
 same-length-6 : tie.Need-same-length-6 Inv-loop μ-loop
 same-length-6 c = search needs
-
-same-length-7 : tie.Need-same-length-7 Inv-loop μ-loop
-same-length-7 c = search needs
-
-same-length-8 : tie.Need-same-length-8 Inv-loop μ-loop
-same-length-8 c = search needs
-
-same-length-9 : tie.Need-same-length-9 Inv-loop μ-loop
-same-length-9 c = search needs
-
-same-length-10 : tie.Need-same-length-10 Inv-loop μ-loop
-same-length-10 c = search needs
 
 returns-2 : tie.Need-returns-2 Inv-loop μ-loop
 returns-2 c = search needs
@@ -102,8 +90,6 @@ say-cases-spec =
     same-length
     same-length-2
     same-length-3
-    same-length-4
-    same-length-5
     returns
     add-n
     say-case-requires
@@ -111,9 +97,7 @@ say-cases-spec =
     loop-again
     slice-aggregate-finish-2
     finish-requires-2
+    same-length-4
+    same-length-5
     same-length-6
-    same-length-7
-    same-length-8
-    same-length-9
-    same-length-10
     returns-2)

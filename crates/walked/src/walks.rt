@@ -1,4 +1,4 @@
-// Calls over the tables of a database: roots and counts of columns are slices of words.
+// Calls that walk a database: over one table, or over tables whose roots and counts of columns are slices of words.
 use cases::case::number;
 use cases::case::slice;
 use cases::case::word_list;
@@ -10,13 +10,34 @@ use cases::line::say_rows;
 use cases::lists::Cells;
 use phsarodil::freeblocks::phs_recover_freeblocks;
 use phsarodil::gaps::phs_scan_page_gaps;
+use phsarodil::pages::phs_collect_leaf_pages;
 use streams::Output;
 
-// What a walk leaves, and the rows.
-fn say_walk(said: Output, flags: &[u8], stack: &[u64], rows: &[u64], cols: &[u64]) -> Output {
-    let said = say_bytes(said, b"flags", flags);
-    let said = say_list(said, b"stack", Cells::Words, stack);
-    say_rows(said, rows, cols)
+// What a walk answers, and what it leaves in flags and stack.
+fn say_walk(said: Output, answer: u64, out: u64, flags: &[u8], stack: &[u64]) -> Output {
+    let said = say_bytes(answered(said, answer, &[out]), b"flags", flags);
+    say_list(said, b"stack", Cells::Words, stack)
+}
+
+pub(crate) fn collect_leaf_pages(
+    said: Output,
+    case: &[u8],
+    flags: &mut [u8],
+    stack: &mut [u64],
+    leaves: &mut [u64],
+) -> Output {
+    let mut out = [0; 1];
+    let answer = phs_collect_leaf_pages(
+        slice(case, 0),
+        number(case, 0),
+        number(case, 1),
+        flags,
+        stack,
+        leaves,
+        &mut out,
+    );
+    let said = say_walk(said, answer, out[0], flags, stack);
+    say_list(said, b"leaves", Cells::Words, leaves)
 }
 
 pub(crate) fn recover_freeblocks(
@@ -44,7 +65,7 @@ pub(crate) fn recover_freeblocks(
         cols,
         &mut out,
     );
-    say_walk(answered(said, answer, &[out[0]]), flags, stack, rows, cols)
+    say_rows(say_walk(said, answer, out[0], flags, stack), rows, cols)
 }
 
 pub(crate) fn scan_page_gaps(
@@ -73,5 +94,5 @@ pub(crate) fn scan_page_gaps(
         cols,
         &mut out,
     );
-    say_walk(answered(said, answer, &[out[0]]), flags, stack, rows, cols)
+    say_rows(say_walk(said, answer, out[0], flags, stack), rows, cols)
 }

@@ -41,9 +41,9 @@ COUNTS = [
     (HEADER, r"PHS_MOST_COLUMNS (\d+)", "sheet.mostColumns"),
     (HEADER, r"PHS_MOST_ONE_BYTE_COLUMNS (\d+)", "rebuild.oneByteTypes"),
     (HEADER, r"PHS_LARGEST_REGION (\d+)", "sheet.largestRegion"),
-    (HEADER, r"PHS_LARGEST_STATEMENT (\d+)", "statement.largestStatement"),
-    (HEADER, r"PHS_MOST_TABLES (\d+)", "walk.mostTables"),
-    (HEADER, r"PHS_MOST_LEARNED (\d+)", "learn.mostRows"),
+    (HEADER, r"PHS_LARGEST_STATEMENT (\d+)", "sheet.largestStatement"),
+    (HEADER, r"PHS_MOST_TABLES (\d+)", "sheet.mostTables"),
+    (HEADER, r"PHS_MOST_LEARNED (\d+)", "sheet.mostRows"),
     (HEADER, r"PHS_VERSION (\d+)", "phsarodil.doorVersion"),
     (r"wrapper/src/\w+\.rs", r"const VERSION: u64 = (\d+)", "phsarodil.doorVersion"),
 ]

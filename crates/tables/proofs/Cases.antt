@@ -20,10 +20,11 @@ use Rattle.record.specs.Value.{bodyLength, bigEndian}
 use Rattle.record.specs.Varint.{varintFrom, varintAt}
 use Rattle.sheet.specs.Columns.{columnWords, unusedWords, roomOf}
 use Rattle.sheet.specs.Confidence.{share, freedShare}
+use Rattle.sheet.specs.Hits.{rowsLeft, entriesLeft}
 use Rattle.sheet.specs.Limits.{countFits, hintsKnown}
 use Rattle.sheet.specs.Row.{rowWords}
 use Rattle.tables.specs.Calls.{asked, tabledAnswer, tabledRows, tabledCols}
-use Rattle.walk.specs.Carve.{tablesHits, tablesOverflow, carvedAnswer, carvedRows, carvedCols}
+use Rattle.walk.specs.Carve.{tablesHits, tablesOverflow}
 use Rattle.walk.specs.Collect.{walkedNumber, walkedWritten}
 use Rattle.walk.specs.Walk.{childIn, cellsFrom, kids, pushAll, pageDone, fresh, marked, popped, walkFrom, walk}
 
@@ -42,11 +43,11 @@ two : ℕ → ℕ → ℕ → Outcome
 two flags depth words = tables Freeblocks (0 ∷ 2 ∷ []) (3 ∷ 2 ∷ []) (0 ∷ 0 ∷ 0 ∷ 0 ∷ 2 ∷ []) flags depth words
 
 both : two 2 1 24 ≡ out 0 2 (row 525 4 ++ row 540 4 ++ kept 8) (pair 525 ++ none ++ pair 540 ++ none)
-unfolding two tables out kept db none page row pair tabledAnswer tabledRows tabledCols carvedAnswer carvedRows carvedCols tablesHits tablesOverflow walk walkFrom popped marked fresh pageDone pushAll kids cellsFrom childIn sizeFits hasPage leafHits hitsBy pageHits freeblocks blocksFrom chainEnds blockHits firstStart firstFrom attemptAt judged bodiesFrom typesFrom headerFits suits isInteger isReal isText isBlob varintAt varintFrom bodyLength bigEndian columnWords unusedWords roomOf share freedShare countFits hintsKnown rowWords ofBits ofInt div mul round toBits
+unfolding two tables out kept db none page row pair tabledAnswer tabledRows tabledCols rowsLeft entriesLeft tablesHits tablesOverflow walk walkFrom popped marked fresh pageDone pushAll kids cellsFrom childIn sizeFits hasPage leafHits hitsBy pageHits freeblocks blocksFrom chainEnds blockHits firstStart firstFrom attemptAt judged bodiesFrom typesFrom headerFits suits isInteger isReal isText isBlob varintAt varintFrom bodyLength bigEndian columnWords unusedWords roomOf share freedShare countFits hintsKnown rowWords ofBits ofInt div mul round toBits
 both = refl
 
 few-flags : two 1 1 24 ≡ out 8 0 (kept 24) (kept 24)
-unfolding two tables out kept db page tabledAnswer tabledRows tabledCols carvedAnswer carvedRows carvedCols sizeFits countFits hintsKnown
+unfolding two tables out kept db page tabledAnswer tabledRows tabledCols rowsLeft entriesLeft sizeFits roomOf countFits hintsKnown
 few-flags = refl
 
 -- page 0, and the first page: one table of the two is wide
@@ -54,9 +55,9 @@ mixed : Rebuilding → Outcome
 mixed how = tables (Gaps how) (0 ∷ 1 ∷ []) (3 ∷ 127 ∷ []) (replicate 130 0) 2 1 8
 
 one-too-wide : mixed OneByte ≡ out 1 0 (kept 8) (kept 8)
-unfolding mixed tables out kept db page tabledAnswer tabledRows tabledCols carvedAnswer carvedRows carvedCols
+unfolding mixed tables out kept db page tabledAnswer tabledRows tabledCols rowsLeft entriesLeft
 one-too-wide = refl
 
 none-too-wide : mixed Exact ≡ out 0 0 (kept 8) (kept 8)
-unfolding mixed tables out kept db page tabledAnswer tabledRows tabledCols carvedAnswer carvedRows carvedCols tablesHits tablesOverflow walk walkFrom popped marked fresh pageDone pushAll kids cellsFrom childIn sizeFits hasPage bigEndian roomOf countFits hintsKnown
+unfolding mixed tables out kept db page tabledAnswer tabledRows tabledCols rowsLeft entriesLeft tablesHits tablesOverflow walk walkFrom popped marked fresh pageDone pushAll kids cellsFrom childIn sizeFits hasPage bigEndian roomOf countFits hintsKnown
 none-too-wide = refl

@@ -1,18 +1,25 @@
 -- What the code carries between its own functions; nothing that a caller has to believe.
 -- Assumes nothing.
 use Prim.Native.Nat.{ℕ, _≤_}
+use mathlib.Core.Path.{_≡_}
 use mathlib.Core.List.{List}
-use lib.ListN.{length}
+use lib.ListN.{take}
 use Rattle.carving.specs.Calls.{widthBy, leafHits}
 use Rattle.carving.specs.declared.inner.Carving.{Carving}
 use Rattle.hit.specs.Inner.{Space}
 use Rattle.hit.specs.declared.inner.Lent.{Lent}
+use Rattle.sheet.specs.Hits.{rowsOf, groupsWords, rowRoom}
+use Rattle.sheet.specs.Inner.{Told, on, over, short, Carves}
 use Rattle.sheet.specs.Limits.{mostColumns, largestRegion}
-use Rattle.tables.specs.Calls.{Asked, tabledCarver}
-use Rattle.walk.specs.Inner.{Tabled}
-use Rattle.sheet.specs.Inner.{Told, Carves}
+use Rattle.sheet.specs.Sheet.{overlay, rowsWords}
+use Rattle.tables.specs.Calls.{Asked, tabledHits, tabledOverflow, tabledWalking, tabledFilling}
+use Rattle.tables.specs.declared.tables.CarvedTable.{CarvedTable}
+use Rattle.tables.specs.declared.tables.CarvedTable.the-variants.{On, Full as NoMore, Overflow}
+use Rattle.walk.specs.Carve.{widest}
+use Rattle.walk.specs.Collect.{walkedOf}
 use Rattle.walk.specs.Walk.{Walk, walk, hitsOf, overflows}
 use Rattle.walk.specs.declared.walk.Walked.{Walked}
+use Rattle.walk.specs.declared.walk.Walked.the-variants.{Done, Full, Short}
 
 -- a database of so many bytes, and a table of it with so many columns, which is carved in some way
 pub record TableReady (how : Carving) (len size columns : ℕ) (lent : Lent) (n rows cols : ℕ) : Type 0 where
@@ -41,14 +48,30 @@ tableAsked how db size root hints table depth =
 abbrev pub walkAsked : TableAsked → Walk
 walkAsked a = walk (a .db) (a .size) (a .depth) (a .root)
 
+abbrev pub tableAs : CarvedTable → Told
+tableAs (On n) = on n
+tableAs NoMore = over
+tableAs (Overflow n) = short n
+
+-- the answer of a call that had room for so many rows
+abbrev pub walkedAs : ℕ → Told → Walked
+walkedAs most (on n) = Done n
+walkedAs most over = Full most
+walkedAs most (short n) = Short n
+
 -- what it leaves behind n rows: those of the leaves along its walk
 abbrev pub TableCarved : TableAsked → Lent → ℕ → List ℕ → List ℕ → Told → List ℕ → List ℕ → Type 0
 TableCarved a lent n rows cols r rows′ cols′ =
     Carves (lent .width) (lent .room) n (hitsOf (leafHits (a .how) (a .db) (a .size) (a .table) (a .hints)) (walkAsked a))
     (overflows (walkAsked a)) rows cols r rows′ cols′
 
--- what carving tables leaves that have passed the checks
-abbrev pub TablesCarved : Asked → Walked → List ℕ → List ℕ → Type 0
-TablesCarved a r rows cols =
-    Tabled (tabledCarver a) (a .db) (a .size) (a .roots) (a .counts) (a .hints)
-    (length (a .flags)) (length (a .stack)) (a .rows) (a .cols) r rows cols
+-- what carving all tables leaves: the rows along their walks
+abbrev pub AllCarved : Asked → Lent → Told → List ℕ → List ℕ → Type 0
+AllCarved a lent r rows cols =
+    Carves (lent .width) (lent .room) 0 (tabledHits a) (tabledOverflow a) (a .rows) (a .cols) r rows cols
+
+-- what a call leaves behind its checks
+pub record TablesCarved (a : Asked) (r : Walked) (rows cols : List ℕ) : Type 0 where
+  pub answer : r ≡ walkedOf (tabledWalking a)
+  pub rows-are : rows ≡ overlay (rowsWords (rowsOf (take (rowRoom (tabledFilling a)) (tabledFilling a .hits)))) (a .rows)
+  pub cols-are : cols ≡ overlay (groupsWords (widest (a .counts)) (take (rowRoom (tabledFilling a)) (tabledFilling a .hits))) (a .cols)

@@ -3,19 +3,16 @@
 use Prim.Native.Nat.{ℕ}
 use mathlib.Core.Bool.{cond}
 use mathlib.Core.List.{List, [], _∷_, _++_}
-use lib.ListN.{length, take}
-use Rattle.carving.specs.Values.{leafValues, groupsValues}
+use lib.ListN.{length}
+use Rattle.carving.specs.Values.{leafValues, writtenValues}
 use Rattle.carving.specs.declared.inner.Carving.{Carving}
-use Rattle.page.specs.Page.{wholePages}
 use Rattle.record.specs.declared.record.Value.{Value}
-use Rattle.sheet.specs.Columns.{roomOf}
-use Rattle.sheet.specs.Refusal.{afterOrKept}
-use Rattle.tables.specs.Calls.{Asked, tabledChecked}
-use Rattle.walk.specs.Carve.{Table, tablesOf, widest}
-use Rattle.walk.specs.Collect.{ifFlagged}
+use Rattle.tables.specs.Calls.{Asked, tabledWalking, tabledFilling}
+use Rattle.walk.specs.Carve.{Table, tablesOf}
+use Rattle.walk.specs.Collect.{walkingThings}
 use Rattle.walk.specs.Walk.{Walk, walk, hitsOf, overflows}
 
--- Rule 9.13: tables in the order lent, and leaf by leaf along the walk of each; a full stack ends it all
+-- Rule 9.13: tables in the order lent, and leaf by leaf along the walk of each; a stack that overflows ends it all
 abbrev pub valuesFrom : Carving → List ℕ → ℕ → (ℕ → Walk) → List Table → List (List Value)
 valuesFrom how db size walkOf [] = []
 valuesFrom how db size walkOf (b ∷ bs) =
@@ -26,10 +23,9 @@ unfoldable pub tablesValues : Carving → List ℕ → ℕ → List ℕ → List
 tablesValues how db size roots counts hints depth =
     valuesFrom how db size (λ root. walk db size depth root) (tablesOf roots counts hints)
 
--- those of the rows that a call writes; with fewer flags than whole pages there are none
+-- those of the rows that a call writes
 unfoldable pub carvedValues : Asked → List Value
 carvedValues a =
-    let room = roomOf (length (a .rows)) (length (a .cols)) (widest (a .counts)) in
-    let values = tablesValues (a .how) (a .db) (a .size) (a .roots) (a .counts) (a .hints) (length (a .stack)) in
-    let written = ifFlagged (wholePages (length (a .db)) (a .size)) (length (a .flags)) (take room values) [] in
-    afterOrKept (tabledChecked a) (groupsValues (widest (a .counts)) written) []
+    writtenValues (tabledFilling a)
+    (walkingThings (tabledWalking a)
+    (tablesValues (a .how) (a .db) (a .size) (a .roots) (a .counts) (a .hints) (length (a .stack))))

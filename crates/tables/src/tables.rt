@@ -8,7 +8,6 @@ use sheet::columns::room;
 use sheet::inner::Carved;
 use sheet::refusal::Checked;
 use sheet::refusal::Refusal;
-use walk::inner::CarvedTable;
 use walk::inner::Next;
 use walk::inner::Pushed;
 use walk::inner::begin;
@@ -18,15 +17,37 @@ use walk::inner::clear_flags;
 use walk::inner::clear_stack;
 use walk::inner::next_leaf;
 use walk::walk::Walked;
+ghost use mathlib.Core.Path.{_≡_};
 ghost use mathlib.Core.Bool.{false};
 ghost use Prim.Native.Nat.{_/_, _≤_};
 ghost use lib.ListN.{length};
 ghost use Rattle.carving.specs.Calls.{widthBy, leafHits};
 ghost use Rattle.tables.specs.Calls.{TablesPromises, asked, onTables};
-ghost use Rattle.tables.specs.Inner.{TableReady, TableCarved, tableAsked, TablesCarved};
+ghost use Rattle.tables.specs.Inner.{TableReady, tableAsked, tableAs, walkedAs, TableCarved, AllCarved, TablesCarved};
 ghost use Rattle.walk.specs.Carve.{widest as widestOf};
-ghost use Rattle.walk.specs.Inner.{tableAs, TablesFit};
+ghost use Rattle.walk.specs.Inner.{TablesFit};
+ghost use Rattle.sheet.specs.Columns.{roomOf};
 ghost use Rattle.sheet.specs.Inner.{carvedAs, Carves};
+
+// What carving tables came to: how many rows there are now; a row found no room; the stack overflowed, with so many rows.
+enum CarvedTable {
+    On(usize),
+    Full,
+    Overflow(usize),
+}
+
+impl CarvedTable {
+    // What a call answers that had room for `most` rows.
+    fn walked(self, most: usize) -> Walked
+        ensures { λ r. ⌜ r ≡ walkedAs most (tableAs self) ⌝ }
+    {
+        match self {
+            CarvedTable::On(n) => Walked::Done(n),
+            CarvedTable::Full => Walked::Full(most),
+            CarvedTable::Overflow(n) => Walked::Short(n),
+        }
+    }
+}
 
 // Carves the leaf p of a database.
 fn carve_leaf(
@@ -79,7 +100,7 @@ fn carve_table(
         (now (rows .entry)) (now (cols .entry)) (tableAs r) (now (rows .exit)) (now (cols .exit)) ⌝ }
 {
     let Pushed::On(height) = begin(root, flags, stack) else {
-        return CarvedTable::Short(n);
+        return CarvedTable::Overflow(n);
     };
     let mut top = height;
     let mut m = n;
@@ -107,10 +128,69 @@ fn carve_table(
                 return CarvedTable::On(m);
             }
             Next::Overflow => {
-                return CarvedTable::Short(m);
+                return CarvedTable::Overflow(m);
             }
         }
     }
+}
+
+// Carves one table after the other, with flags for every page.
+fn carve_each(
+    how: Carving,
+    db: &[u8],
+    size: usize,
+    roots: &[u64],
+    counts: &[u64],
+    hints: &[u8],
+    lent: Lent,
+    flags: &mut [u8],
+    stack: &mut [u64],
+    rows: &mut [u64],
+    cols: &mut [u64],
+) -> CarvedTable
+    requires { ⌜ widestOf (now counts) ≤ widthBy how ⌝ }
+    requires { ⌜ TablesFit (length (now db)) size (now roots) (now counts) (now hints) ⌝ }
+    requires { ⌜ length (now db) / size ≤ length (now flags) ⌝ }
+    requires { ⌜ widestOf (now counts) ≤ lent .width ⌝ }
+    requires { ⌜ lent .room ≤ roomOf (length (now rows)) (length (now cols)) (lent .width) ⌝ }
+    ensures { λ r. ⌜ AllCarved
+        (asked how (now (db .entry)) size (now (roots .entry)) (now (counts .entry)) (now (hints .entry))
+        (now (flags .entry)) (now (stack .entry)) (now (rows .entry)) (now (cols .entry)))
+        lent (tableAs r) (now (rows .exit)) (now (cols .exit)) ⌝ }
+{
+    let mut t = 0;
+    let mut from = 0;
+    let mut n = 0;
+    while t < roots.len() {
+        let end = from + counts[t] as usize;
+        match carve_table(
+            how,
+            db,
+            size,
+            roots[t],
+            &hints[from..end],
+            t as u16,
+            lent,
+            n,
+            flags,
+            stack,
+            rows,
+            cols,
+        ) {
+            CarvedTable::On(next) => {
+                n = next;
+            }
+            CarvedTable::Full => {
+                return CarvedTable::Full;
+            }
+            CarvedTable::Overflow(written) => {
+                return CarvedTable::Overflow(written);
+            }
+        }
+        from = end;
+        t = t + 1;
+    }
+    CarvedTable::On(n)
 }
 
 // Carves tables that have passed the checks.
@@ -139,39 +219,20 @@ fn carve_checked(
     let width = widest(counts);
     let most = room(rows.len(), cols.len(), width);
     let lent = Lent { width, room: most };
-    let mut t = 0;
-    let mut from = 0;
-    let mut n = 0;
-    while t < roots.len() {
-        let end = from + counts[t] as usize;
-        match carve_table(
-            how,
-            db,
-            size,
-            roots[t],
-            &hints[from..end],
-            t as u16,
-            lent,
-            n,
-            flags,
-            stack,
-            rows,
-            cols,
-        ) {
-            CarvedTable::On(next) => {
-                n = next;
-            }
-            CarvedTable::Full => {
-                return Walked::Full(most);
-            }
-            CarvedTable::Short(written) => {
-                return Walked::Short(written);
-            }
-        }
-        from = end;
-        t = t + 1;
-    }
-    Walked::Done(n)
+    let carved = carve_each(
+        how,
+        db,
+        size,
+        roots,
+        counts,
+        hints,
+        lent,
+        flags,
+        stack,
+        rows,
+        cols,
+    );
+    carved.walked(most)
 }
 
 // Tables are lent as roots, counts of columns, and all hints one after the other. Flags and stack may hold anything before.

@@ -9,7 +9,7 @@ use borrow.Author.Tests.{lt-ltb, le-ltb}
 use lib.ListN.{length, take, replicate, length-replicate}
 use Rattle.record.proofs.Numbers.{by-order}
 use Rattle.walk.specs.Inner.{tops, zeros, need, rest, LeafIs}
-use Rattle.walk.specs.Walk.{onward, overflow, Walk, through, stackFull, leaf, pushAll, walkFrom, walk, hitsOf, overflows}
+use Rattle.walk.specs.Walk.{onward, overflow, Walk, through, overflowed, pushAll, walkFrom, walk, hitsOf, overflows}
 use Rattle.walk.proofs.Pushing.{tops-length}
 
 -- ---- the root
@@ -37,7 +37,7 @@ module _ (db : List ℕ) (size depth root : ℕ) where
   unfolding walk
   walk-some h = simp (lt-ltb 0 depth h)
 
-  pub walk-none : overflow ≡ pushAll depth (root ∷ []) [] → walk db size depth root ≡ stackFull
+  pub walk-none : overflow ≡ pushAll depth (root ∷ []) [] → walk db size depth root ≡ overflowed
   unfolding walk pushAll
   walk-none e =
       by-order 0 depth
@@ -107,5 +107,5 @@ module _ {A : Type 0} (carve : ℕ → List A) (whole : Walk) (db : List ℕ) (s
   pub along-done : rest (w .fuel) db size flags stack top ≡ through → (done ≡ hitsOf carve whole) × (overflows whole ≡ false)
   along-done e = (sym (append-nil done) ∙ rw e at (w .hits), sym (rw e at (w .ends)))
 
-  pub along-full : rest (w .fuel) db size flags stack top ≡ stackFull → (done ≡ hitsOf carve whole) × (overflows whole ≡ true)
-  along-full e = (sym (append-nil done) ∙ rw e at (w .hits), sym (rw e at (w .ends)))
+  pub along-overflow : rest (w .fuel) db size flags stack top ≡ overflowed → (done ≡ hitsOf carve whole) × (overflows whole ≡ true)
+  along-overflow e = (sym (append-nil done) ∙ rw e at (w .hits), sym (rw e at (w .ends)))

@@ -1,60 +1,46 @@
--- The call that writes the leaves of a table: what its checks leave, and what comes behind them.
+-- The two ways out of the call that writes the leaves of a table: a check refused it, or its work is done and flags and stack are cleared.
 -- Assumes nothing.
 use Prim.Native.Nat.{ℕ, _≤_}
-use mathlib.Core.Path.{_≡_, refl}
+use mathlib.Core.Path.{_≡_, refl, ap, _∙_}
 use mathlib.Core.List.{List}
 use borrow.Author.Tests.{not-false}
 use lib.ListN.{length, replicate}
 use Rattle.page.proofs.Laws.{size-range}
-use Rattle.page.specs.Page.{sizeFits, wholePages}
+use Rattle.page.specs.Page.{sizeFits}
+use Rattle.sheet.proofs.Filling.{list-refused, list-filled}
 use Rattle.sheet.proofs.Laws.{none-holds}
+use Rattle.sheet.specs.Filled.{filledBy, listOutcome}
 use Rattle.sheet.specs.Refusal.{firstHeld}
 use Rattle.sheet.specs.declared.refusal.Checked.the-variants.{Passed, Refused as Held}
 use Rattle.sheet.specs.declared.refusal.Refusal.{Refusal}
-use Rattle.walk.specs.Collect.{walkedNumber, walkedWritten, walkChecks, leavesOf, leavesWritten, collectAnswer, collectLeaves, collectNumber, collectWritten, clearedUnless}
+use Rattle.walk.specs.Collect.{walkedNumber, walkedWritten, walkChecks, LeavesAsked, collectWalk, collectWalking, collectFilling, collectAnswer, collectNumber, collectWritten, collectLeaves, collectCleared, LeavesOutcome, leavesOutcome, CollectsLeaves}
 use Rattle.walk.specs.Inner.{Collected}
-use Rattle.walk.specs.Walk.{walk, overflows}
 use Rattle.walk.specs.declared.walk.Walked.{Walked}
 use Rattle.walk.specs.declared.walk.Walked.the-variants.{Refused}
-use Rattle.walk.proofs.Laws.{number-is, written-is}
+use Rattle.walk.proofs.Laws.{numbers-are}
 
 -- what passed has one of the page sizes
 pub passed-size : (len size : ℕ) → firstHeld (walkChecks len size) ≡ Passed → (512 ≤ size) × (size ≤ 65536)
 passed-size len size e = size-range size (not-false (sizeFits size) (none-holds (walkChecks len size) e .1 .0))
 
-module _ (db : List ℕ) (size root : ℕ) (flags stack leaves : List ℕ) where
-  -- what the call says of its answer and of the lists that it leaves
-  abbrev pub Says : Walked → List ℕ → List ℕ → List ℕ → Type 0
-  Says r flags′ stack′ leaves′ =
-      let c = firstHeld (walkChecks (length db) size) in
-      (r ≡ collectAnswer db size root (length flags) (length stack) (length leaves))
-      × ((leaves′ ≡ collectLeaves db size root (length flags) (length stack) leaves)
-      × ((flags′ ≡ clearedUnless c flags)
-      × ((stack′ ≡ clearedUnless c stack)
-      × ((walkedNumber r ≡ collectNumber db size root (length flags) (length stack) (length leaves))
-      × (walkedWritten r ≡ collectWritten db size root (length flags) (length stack) (length leaves))))))
-
-  numbers : (r : Walked) → r ≡ collectAnswer db size root (length flags) (length stack) (length leaves)
-      → (walkedNumber r ≡ collectNumber db size root (length flags) (length stack) (length leaves))
-      × (walkedWritten r ≡ collectWritten db size root (length flags) (length stack) (length leaves))
+module _ (a : LeavesAsked) where
+  promised : (x : LeavesOutcome) → x .answer ≡ collectAnswer a → x .leaves ≡ collectLeaves a → x .flags ≡ collectCleared a (a .flags)
+      → x .stack ≡ collectCleared a (a .stack) → CollectsLeaves a x
   unfolding collectAnswer collectNumber collectWritten
-  numbers r e =
-      let w = walk db size (length stack) root in
-      let c = firstHeld (walkChecks (length db) size) in
-      let pages = wholePages (length db) size in (
-        rw e (number-is pages (length flags) (length leaves) (length (leavesOf w)) c (overflows w)),
-        rw e (written-is pages (length flags) (length leaves) (length (leavesOf w)) c (overflows w)),
-      )
+  promised x e leaves flags stack =
+      let n = numbers-are (collectWalking a) in
+      record { answer = e; number = ap walkedNumber e ∙ n .0; written = ap walkedWritten e ∙ n .1; leaves = leaves; flags = flags; stack = stack }
 
-  pub call-refused : (r : Refusal) → firstHeld (walkChecks (length db) size) ≡ Held r → Says (Refused r) flags stack leaves
-  unfolding collectAnswer collectLeaves
+  pub call-refused : (r : Refusal) → firstHeld (walkChecks (length (a .db)) (a .size)) ≡ Held r
+      → CollectsLeaves a (leavesOutcome (Refused r) (a .flags) (a .stack) (a .leaves))
+  unfolding collectAnswer collectLeaves collectCleared
   call-refused r e =
-      let answer : Refused r ≡ collectAnswer db size root (length flags) (length stack) (length leaves) = simp e in
-      (answer, (simp e, (simp e, (simp e, numbers (Refused r) answer))))
+      promised (leavesOutcome (Refused r) (a .flags) (a .stack) (a .leaves)) (simp e) (list-refused (collectFilling a) r e .list) (simp e) (simp e)
 
-  pub call-passed : (r : Walked) (leaves′ : List ℕ) → firstHeld (walkChecks (length db) size) ≡ Passed
-      → Collected db size root (length flags) (length stack) leaves r leaves′ → Says r (replicate (length flags) 0) (replicate (length stack) 0) leaves′
-  unfolding collectAnswer collectLeaves
-  call-passed r leaves′ e x =
-      let answer : r ≡ collectAnswer db size root (length flags) (length stack) (length leaves) = simp e (x .answer) in
-      (answer, (simp e (x .leaves-are), (simp e, (simp e, numbers r answer))))
+  pub call-passed : (r : Walked) (leaves : List ℕ) → firstHeld (walkChecks (length (a .db)) (a .size)) ≡ Passed
+      → Collected (collectWalking a .pages) (length (a .flags)) (collectWalk a) (a .leaves) r leaves
+      → CollectsLeaves a (leavesOutcome r (replicate (length (a .flags)) 0) (replicate (length (a .stack)) 0) leaves)
+  unfolding collectAnswer collectLeaves collectCleared
+  call-passed r leaves e x =
+      let filled = list-filled (collectFilling a) (listOutcome (filledBy (length (collectFilling a .things)) (length (a .leaves))) leaves) e refl (x .leaves-are) in
+      promised (leavesOutcome r (replicate (length (a .flags)) 0) (replicate (length (a .stack)) 0) leaves) (simp e (x .answer)) (filled .list) (simp e) (simp e)

@@ -4,10 +4,11 @@
 use Prim.Native.Nat.{ℕ}
 use mathlib.Core.Path.{_≡_, refl}
 use mathlib.Core.List.{List, [], _∷_, _++_, map}
-use lib.ListN.{length, replicate}
+use lib.ListN.{replicate}
 use Rattle.page.specs.Page.{sizeFits, hasPage}
 use Rattle.record.specs.Value.{bigEndian}
-use Rattle.walk.specs.Collect.{leavesOf, collectAnswer, collectLeaves, walkedNumber, walkedWritten}
+use Rattle.sheet.specs.Filled.{listLeft}
+use Rattle.walk.specs.Collect.{leavesAsked, leavesOf, collectAnswer, collectLeaves, walkedNumber, walkedWritten}
 use Rattle.walk.specs.Walk.{childIn, cellsFrom, kids, pushAll, pageDone, fresh, marked, popped, walkFrom, walk}
 
 db : List ℕ
@@ -30,8 +31,9 @@ record Outcome : Type 0 where
 
 computed : Case → Outcome
 computed (from size root flags depth old n k l) =
-    let answer = collectAnswer db size root flags depth (length old) in
-    record { number = walkedNumber answer; written = walkedWritten answer; leaves = collectLeaves db size root flags depth old }
+    let a = leavesAsked db size root (replicate flags 9) (replicate depth 9) old in
+    let answer = collectAnswer a in
+    record { number = walkedNumber answer; written = walkedWritten answer; leaves = collectLeaves a }
 
 expected : Case → Outcome
 expected (from size root flags depth old n k l) = record { number = n; written = k; leaves = l }
@@ -54,5 +56,5 @@ cases =
     ∷ []
 
 table : map computed cases ≡ map expected cases
-unfolding cases computed expected db collectAnswer collectLeaves leavesOf walk walkFrom popped marked fresh pageDone pushAll kids cellsFrom childIn sizeFits hasPage bigEndian
+unfolding cases computed expected db collectAnswer collectLeaves listLeft leavesOf walk walkFrom popped marked fresh pageDone pushAll kids cellsFrom childIn sizeFits hasPage bigEndian
 table = refl

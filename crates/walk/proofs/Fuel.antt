@@ -7,9 +7,9 @@ use mathlib.Core.List.{List, [], _∷_}
 use native.Mathlib.Omega.{arith}
 use borrow.Author.Tests.{ltb-true}
 use lib.Dec.{ltb, eqb}
-use lib.ListN.{length, getD, set, replicate, length-set, length-replicate}
+use lib.ListN.{length, set, replicate, length-set, length-replicate}
 use Rattle.page.specs.Page.{pageType, pageOf, headOf}
-use Rattle.walk.specs.Walk.{kids, Popped, leafThen, onward, overflow, pushAll, pageDone, fresh, marked, popped, Walk, leaf, goOn, walkFrom}
+use Rattle.walk.specs.Walk.{kids, Popped, leafThen, onward, overflow, pushAll, pageDone, fresh, marked, popped, Walk, leaf, fromPopped, walkFrom}
 use Rattle.walk.specs.Inner.{zeros}
 use Rattle.walk.proofs.Popping.{stackOf, used-up, walk-end}
 use Rattle.walk.proofs.Along.{zeros-all}
@@ -47,7 +47,7 @@ marked-length len size marks p = by (fresh len size marks p) where
   by true = length-set marks (p - 1) 1
   by false = refl
 
-agree : (p : ℕ) (a b : List ℕ → Walk) (o : Popped) → a (stackOf o) ≡ b (stackOf o) → goOn p a o ≡ goOn p b o
+agree : (p : ℕ) (a b : List ℕ → Walk) (o : Popped) → a (stackOf o) ≡ b (stackOf o) → fromPopped p a o ≡ fromPopped p b o
 agree p a b (leafThen st) e = ap (λ (t : Walk). leaf p t) e
 agree p a b (onward st) e = e
 agree p a b overflow e = refl

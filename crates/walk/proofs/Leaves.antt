@@ -1,32 +1,25 @@
 -- What a reader of carved tables rests on: the leaves of a walk are pages that are there, tables that have passed the checks are as narrow as they
--- should be, and what a call leaves is said of the hits of the tables.
+-- should be, and hits come table by table.
 -- Assumes nothing.
-use Prim.Native.Nat.{ℕ, zero, suc, _+_, _*_, _/_, _≤_, min}
+use Prim.Native.Nat.{ℕ, zero, suc, _+_, _*_, _/_, _≤_}
 use mathlib.Core.Path.{_≡_, refl, sym}
 use mathlib.Core.Bool.{Bool, true, false, cond, and-eq-true-iff}
 use mathlib.Core.List.{List, [], _∷_}
 use native.Mathlib.Nat.{le-trans, le-max-left, le-max-right}
 use native.Mathlib.Omega.{arith}
 use lib.Dec.{ltb}
-use lib.ListN.{length, take, drop, replicate, length-drop}
+use lib.ListN.{length, drop, replicate, length-drop}
 use lib.Seq.{length-take-le}
-use Rattle.page.specs.Page.{wholePages}
 use Rattle.sheet.proofs.Laws.{count-fits}
-use Rattle.sheet.specs.Columns.{roomOf}
 use Rattle.sheet.specs.Limits.{countFits}
-use Rattle.sheet.specs.Refusal.{afterOr0, afterOrKept}
-use Rattle.sheet.specs.Sheet.{overlay}
-use Rattle.sheet.specs.declared.refusal.Checked.{Checked}
-use Rattle.walk.specs.Carve.{Table, tablesOf, sumOf, widest, countsFit, Carver, hitsFrom, tablesHits, tablesWritten, carvedCols, carvedWritten}
-use Rattle.sheet.specs.Hits.{groupsWords}
-use Rattle.walk.specs.Collect.{ifFlagged}
-use Rattle.walk.specs.Walk.{Popped, leafThen, onward, overflow, marked, popped, Walk, through, stackFull, leaf, goOn, walkFrom, walk}
+use Rattle.walk.specs.Carve.{Table, tablesOf, sumOf, widest, countsFit, Carver, hitsFrom, tablesHits}
+use Rattle.walk.specs.Walk.{Popped, leafThen, onward, overflow, marked, popped, Walk, through, overflowed, leaf, fromPopped, walkFrom, walk}
 use Rattle.walk.proofs.Popping.{leaf-there}
 
 -- ---- each leaf is one of so many pages
 abbrev pub AllThere : ℕ → Walk → Type 0
 AllThere pages through = Unit
-AllThere pages stackFull = Unit
+AllThere pages overflowed = Unit
 AllThere pages (leaf p t) = (1 ≤ p) × (p ≤ pages) × AllThere pages t
 
 module _ (db : List ℕ) (size depth : ℕ) where
@@ -38,7 +31,7 @@ module _ (db : List ℕ) (size depth : ℕ) where
     where
       go : (o : Popped) → popped db size depth marks p st ≡ o
           → ((s : List ℕ) → AllThere (length db / size) (walkFrom f db size depth (marked (length db) size marks p) s))
-          → AllThere (length db / size) (goOn p (λ s. walkFrom f db size depth (marked (length db) size marks p) s) o)
+          → AllThere (length db / size) (fromPopped p (λ s. walkFrom f db size depth (marked (length db) size marks p) s) o)
       go (leafThen t) e rest = let l = leaf-there db size depth marks p st t (sym e) in (l .0, l .1, rest t)
       go (onward t) e rest = rest t
       go overflow e rest = tt
@@ -49,7 +42,7 @@ module _ (db : List ℕ) (size depth : ℕ) where
   walk-there root = go (ltb 0 depth)
     where
       go : (b : Bool)
-          → AllThere (length db / size) (cond b (walkFrom (length db / size * (depth + 1) + 1) db size depth (replicate (length db / size) 0) (root ∷ [])) stackFull)
+          → AllThere (length db / size) (cond b (walkFrom (length db / size * (depth + 1) + 1) db size depth (replicate (length db / size) 0) (root ∷ [])) overflowed)
       go true = from-there (length db / size * (depth + 1) + 1) (replicate (length db / size) 0) (root ∷ [])
       go false = tt
 
@@ -74,25 +67,8 @@ tables-narrow (r ∷ rs) (c ∷ cs) hints width fit sums wide =
       tables-narrow rs cs (drop c hints) width (f .1) (omega (arith, length-drop c hints)) (le-trans (le-max-right c (widest cs)) wide),
     )
 
--- ---- what a call over tables leaves
-module _ (carve : Carver) (db : List ℕ) (size : ℕ) (roots counts hints : List ℕ) where
-  -- THE LAW: the hits are those of the tables, one after the other
-  pub hits-in-turn : (depth : ℕ) → tablesHits carve db size roots counts hints depth ≡ hitsFrom (λ root. walk db size depth root) carve 0 (tablesOf roots counts hints)
-  unfolding tablesHits
-  hits-in-turn depth = refl
-
-  -- THE LAW: the column list, and how many rows are written, behind the checks
-  pub cols-behind : (c : Checked) (flags depth : ℕ) (rows cols : List ℕ)
-      → carvedCols c carve db size roots counts hints flags depth rows cols
-      ≡ afterOrKept c
-      (overlay (groupsWords (widest counts) (tablesWritten carve db size roots counts hints flags depth (length rows) (length cols))) cols)
-      cols
-  unfolding carvedCols
-  cols-behind c flags depth rows cols = refl
-
-  pub written-behind : (c : Checked) (flags depth rows cols : ℕ)
-      → carvedWritten c carve db size roots counts hints flags depth rows cols
-      ≡ afterOr0 c
-      (ifFlagged (wholePages (length db) size) flags (min (roomOf rows cols (widest counts)) (length (tablesHits carve db size roots counts hints depth))) 0)
-  unfolding carvedWritten
-  written-behind c flags depth rows cols = refl
+-- THE LAW: the hits are those of the tables, one after the other
+pub hits-in-turn : (carve : Carver) (db : List ℕ) (size : ℕ) (roots counts hints : List ℕ) (depth : ℕ)
+    → tablesHits carve db size roots counts hints depth ≡ hitsFrom (λ root. walk db size depth root) carve 0 (tablesOf roots counts hints)
+unfolding tablesHits
+hits-in-turn carve db size roots counts hints depth = refl

@@ -7,7 +7,6 @@ pub mod Fuel
 pub mod Laws
 pub mod Leaves
 mod Popping
-pub mod Promises
 mod Pushing
 mod Summing
 pub mod Tables

@@ -2,7 +2,7 @@
 -- Assumes nothing.
 use Prim.Native.Nat.{ℕ, zero, suc, _+_, _-_, _*_, _/_, _≤_, _<_}
 use mathlib.Core.Path.{_≡_, refl, _∙_}
-use mathlib.Core.Bool.{Bool, true, false, cond, _&&_, and-eq-true-iff}
+use mathlib.Core.Bool.{Bool, true, false, cond, and-eq-true-iff}
 use mathlib.Core.List.{List, [], _∷_}
 use native.Mathlib.Nat.{suc-mul}
 use native.Mathlib.Omega.{arith}
@@ -12,9 +12,9 @@ use lib.ListN.{length, getD, set, take}
 use lib.Seq.{length-take-le, getD-take}
 use Rattle.page.proofs.Laws.{there-page, page-there, page-zero, page-behind}
 use Rattle.page.specs.Page.{hasPage, pageOf, headOf}
-use Rattle.walk.specs.Walk.{Popped, leafThen, onward, overflow, pageDone, fresh, marked, popped, through, goOn, walkFrom}
+use Rattle.walk.specs.Walk.{Popped, leafThen, onward, overflow, pageDone, fresh, marked, popped, through, fromPopped, walkFrom}
 use Rattle.walk.specs.Inner.{tops, zeros, need, rest, NextSays}
-use Rattle.walk.specs.declared.inner.Next.the-variants.{Leaf, Done, Overflow as Full}
+use Rattle.walk.specs.declared.inner.Next.the-variants.{Leaf, Done, Overflow}
 use Rattle.walk.proofs.Pushing.{tops-length, tops-pop}
 
 -- ---- whether a page is expanded
@@ -116,7 +116,7 @@ module _ (db : List ℕ) (size : ℕ) (flags stack : List ℕ) (t : ℕ) (flags�
   -- if the fuel is enough, there is some, and the walk goes by what comes of the page
   pub pops-next : (g : ℕ) (o : Popped) → Pops db size flags stack t flags′ stack′ o → need (length db / size) (length stack) flags t ≤ g
       → (h : ℕ) × (suc h ≡ g)
-      × (rest g db size flags stack t ≡ goOn (getD stack (t - 1) 0) (λ s. walkFrom h db size (length stack′) (take (length db / size) flags′) s) o)
+      × (rest g db size flags stack t ≡ fromPopped (getD stack (t - 1) 0) (λ s. walkFrom h db size (length stack′) (take (length db / size) flags′) s) o)
   unfolding walkFrom need
   pops-next zero o v n = let some = v .some in absurd (omega arith)
   pops-next (suc h) o v n = (h, refl, rw (tops-pop stack t (v .some), v .is, v .marks, v .stack-long))
@@ -164,8 +164,8 @@ module _ (db : List ℕ) (size : ℕ) (flags₀ stack₀ : List ℕ) (top : ℕ)
         let there = leaf-there db size (length stack) (take (length db / size) flags) (getD stack (t - 1) 0) (tops stack (t - 1)) (tops stack′ t2) (v .is) in
         record { some = there .0; there = there .1; fuel = b .0; enough = omega (arith, a .1, b .1); less = omega (arith, w .spent); fits = omega (arith, v .stack-long); is = a .2 ∙ b .2 }
 
-    pub goes-full : Pops db size flags stack t flags′ stack′ overflow → NextSays db size flags₀ stack₀ top flags′ stack′ Full
-    goes-full v f n = let a = w .same f n in a .2 ∙ pops-next db size flags stack t flags′ stack′ (a .0) _ v (a .1) .2
+    pub goes-overflow : Pops db size flags stack t flags′ stack′ overflow → NextSays db size flags₀ stack₀ top flags′ stack′ Overflow
+    goes-overflow v f n = let a = w .same f n in a .2 ∙ pops-next db size flags stack t flags′ stack′ (a .0) _ v (a .1) .2
 
   pub goes-done : t ≡ 0 → NextSays db size flags₀ stack₀ top flags stack Done
   unfolding tops

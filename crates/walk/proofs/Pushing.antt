@@ -45,9 +45,9 @@ module _ (depth : ℕ) (page : List ℕ) (at : ℕ) (st : List ℕ) where
   unfolding pushAll childIn
   push-one h g = simp (le-leb (at + 4) (length page) h, lt-ltb (length st) depth g)
 
-  pub push-full : at + 4 ≤ length page → depth ≤ length st → pushAll depth (childIn page at) st ≡ overflow
+  pub push-overflow : at + 4 ≤ length page → depth ≤ length st → pushAll depth (childIn page at) st ≡ overflow
   unfolding pushAll childIn
-  push-full h g = simp (le-leb (at + 4) (length page) h, le-ltb (length st) depth g)
+  push-overflow h g = simp (le-leb (at + 4) (length page) h, le-ltb (length st) depth g)
 
 -- ---- some pages, and then others
 abbrev andPush : Popped → (List ℕ → Popped) → Popped
@@ -96,8 +96,8 @@ module _ (depth n : ℕ) (page : List ℕ) (at : ℕ) (st : List ℕ) where
       → pushAll depth (cellsFrom (n - 1) page (at + 2)) mid ≡ pushAll depth (cellsFrom n page at) st
   cells-on mid z h e = rw (cells-step n page at z h) (sym (push-on depth (childIn page (pointerAt page at)) (cellsFrom (n - 1) page (at + 2)) st mid (sym e)))
 
-  pub cells-full : 0 < n → at + 2 ≤ length page → overflow ≡ pushAll depth (childIn page (pointerAt page at)) st → overflow ≡ pushAll depth (cellsFrom n page at) st
-  cells-full z h e = rw (cells-step n page at z h) (sym (push-stop depth (childIn page (pointerAt page at)) (cellsFrom (n - 1) page (at + 2)) st (sym e)))
+  pub cells-overflow : 0 < n → at + 2 ≤ length page → overflow ≡ pushAll depth (childIn page (pointerAt page at)) st → overflow ≡ pushAll depth (cellsFrom n page at) st
+  cells-overflow z h e = rw (cells-step n page at z h) (sym (push-stop depth (childIn page (pointerAt page at)) (cellsFrom (n - 1) page (at + 2)) st (sym e)))
 
   pub cells-past : length page < at + 2 → onward st ≡ pushAll depth (cellsFrom n page at) st
   cells-past h = rw (cells-cut n page at h) (sym (push-nil depth st))
@@ -123,8 +123,8 @@ module _ (depth : ℕ) (page : List ℕ) (head : ℕ) (st : List ℕ) where
       → o ≡ pushAll depth (cellsFrom (cellCount page head) page (head + 12)) mid → o ≡ pageDone depth page head st
   inner-on mid o e f g = g ∙ sym (push-on depth (childIn page (head + 8)) (cellsFrom (cellCount page head) page (head + 12)) st mid (sym f)) ∙ sym (page-inner e)
 
-  pub inner-full : pageType page head ≡ 0x05 → overflow ≡ pushAll depth (childIn page (head + 8)) st → overflow ≡ pageDone depth page head st
-  inner-full e f = sym (push-stop depth (childIn page (head + 8)) (cellsFrom (cellCount page head) page (head + 12)) st (sym f)) ∙ sym (page-inner e)
+  pub inner-overflow : pageType page head ≡ 0x05 → overflow ≡ pushAll depth (childIn page (head + 8)) st → overflow ≡ pageDone depth page head st
+  inner-overflow e f = sym (push-stop depth (childIn page (head + 8)) (cellsFrom (cellCount page head) page (head + 12)) st (sym f)) ∙ sym (page-inner e)
 
 -- ---- the root
 pub root-none : (stack : List ℕ) (root : ℕ) → length stack ≡ 0 → overflow ≡ pushAll (length stack) (root ∷ []) []

@@ -1,27 +1,21 @@
 -- Carving leaf by leaf and table by table, whatever the carver.
 -- Assumes nothing.
-use Prim.Native.Nat.{ℕ, zero, suc, _+_, _*_, _/_, _≤_, _<_}
-use mathlib.Core.Path.{_≡_, refl, sym, ap, _∙_}
-use mathlib.Core.Bool.{Bool, true, false, cond}
+use Prim.Native.Nat.{ℕ, suc, _+_, _/_, _≤_, _<_}
+use mathlib.Core.Path.{_≡_, refl, sym, _∙_}
+use mathlib.Core.Bool.{true, false, cond}
 use mathlib.Core.List.{List, [], _∷_, _++_, append-nil, append-assoc}
-use native.Mathlib.Nat.{zero-add}
 use native.Mathlib.Numerals.{add-one}
 use native.Mathlib.Omega.{arith}
-use borrow.Author.Tests.{le-leb, lt-leb, lt-ltb, le-ltb}
-use lib.ListN.{length, getD, take, drop, replicate, length-append, drop-of-length-le}
+use borrow.Author.Tests.{le-leb}
+use lib.ListN.{length, getD, take, drop, replicate, drop-of-length-le}
 use lib.Seq.{drop-cons, drop-drop}
-use Rattle.record.proofs.Numbers.{by-order}
-use Rattle.sheet.specs.Columns.{roomOf}
-use Rattle.walk.specs.Carve.{sumOf, widest, Table, tablesOf, Carver, hitsFrom, overflowFrom, tablesHits, tablesOverflow, tablesAnswer, tablesWritten}
+use Rattle.walk.specs.Carve.{sumOf, Table, tablesOf, Carver, hitsFrom, overflowFrom, tablesHits, tablesOverflow}
 use Rattle.sheet.specs.Hits.{Hit}
-use Rattle.walk.specs.Collect.{walkedOf}
-use Rattle.walk.specs.Inner.{tops, rest, LeafIs, Tabled}
-use Rattle.sheet.specs.Inner.{Told, on, over, short, carvedTo, Carves}
-use Rattle.walk.specs.Walk.{Walk, through, stackFull, walk, onward, overflow, pushAll, hitsOf, overflows}
-use Rattle.walk.specs.declared.walk.Walked.{Walked}
-use Rattle.walk.specs.declared.walk.Walked.the-variants.{Done, Full, Short}
-use Rattle.walk.proofs.Along.{Along, along-start, along-leaf, along-more, along-done, along-full, walk-none}
-use Rattle.sheet.proofs.Carving.{carves-none, carves-more, carves-stop, carves-as, told-on, told-short, puts-all}
+use Rattle.walk.specs.Inner.{tops, rest, LeafIs}
+use Rattle.sheet.specs.Inner.{on, over, short, carvedTo, Carves}
+use Rattle.walk.specs.Walk.{Walk, through, overflowed, walk, onward, overflow, pushAll, hitsOf, overflows}
+use Rattle.walk.proofs.Along.{Along, along-start, along-leaf, along-more, along-done, along-overflow, walk-none}
+use Rattle.sheet.proofs.Carving.{carves-none, carves-more, carves-stop, carves-as, told-on, told-short}
 use Rattle.walk.proofs.Summing.{sum-at}
 
 -- ---- the leaves of one table: `done` was carved behind n₀ rows, and there are n rows now
@@ -71,9 +65,9 @@ module _ (carve : ℕ → List Hit) (whole : Walk) (db : List ℕ) (size depth c
       let d = along-done carve whole db size depth count flags stack top (w .done) (w .along) e in
       carves-as width room n₀ (w .done) (hitsOf carve whole) false (overflows whole) rows₀ cols₀ (on n) rows cols (d .0) (sym (d .1)) (w .carved)
 
-  pub leaves-full : rest (w .along .fuel) db size flags stack top ≡ stackFull → Carves width room n₀ (hitsOf carve whole) (overflows whole) rows₀ cols₀ (short n) rows cols
-  leaves-full e =
-      let d = along-full carve whole db size depth count flags stack top (w .done) (w .along) e in
+  pub leaves-overflow : rest (w .along .fuel) db size flags stack top ≡ overflowed → Carves width room n₀ (hitsOf carve whole) (overflows whole) rows₀ cols₀ (short n) rows cols
+  leaves-overflow e =
+      let d = along-overflow carve whole db size depth count flags stack top (w .done) (w .along) e in
       let t = told-on room n₀ (length (w .done)) n false (w .carved .answer) in
       let stopped : short n ≡ carvedTo room n₀ (length (w .done)) true = rw (t .1) (simp (le-leb (n₀ + length (w .done)) room (t .0))) in
       carves-as width room n₀ (w .done) (hitsOf carve whole) true (overflows whole) rows₀ cols₀ (short n) rows cols (d .0) (sym (d .1))
@@ -143,9 +137,9 @@ module _ (carve : Carver) (db : List ℕ) (size : ℕ) (roots counts hints : Lis
           let tail = cond (overflows own) [] (hitsFrom walkOf carve (suc t) later) in
           rw hits-are at (carves-stop width room 0 (w .done ++ found) tail rows₀ cols₀ rows′ cols′ (overflows own) (tablesOverflow db size roots counts hints depth) c)
 
-      pub tables-short : (m : ℕ) → Carves width room n found (overflows own) rows cols (short m) rows′ cols′
+      pub tables-overflow : (m : ℕ) → Carves width room n found (overflows own) rows cols (short m) rows′ cols′
           → Carves width room 0 (tablesHits carve db size roots counts hints depth) (tablesOverflow db size roots counts hints depth) rows₀ cols₀ (short m) rows′ cols′
-      tables-short m x =
+      tables-overflow m x =
           let told = told-short room n (length found) m (overflows own) (x .answer) in
           let c = carves-more width room 0 (w .done) found rows₀ cols₀ rows cols n true (short m) rows′ cols′ (w .carved) (rw (told .2) at x) in
           let hits : w .done ++ found ≡ tablesHits carve db size roots counts hints depth = sym (append-nil (w .done ++ found)) ∙ rw (told .2) at hits-are in
@@ -162,37 +156,3 @@ module _ (carve : Carver) (db : List ℕ) (size : ℕ) (roots counts hints : Lis
       let hits : w .done ≡ tablesHits carve db size roots counts hints depth = sym (append-nil (w .done)) ∙ rw none at (w .hits) in
       let ends : false ≡ tablesOverflow db size roots counts hints depth = rw none at (w .ends) in
       carves-as width room 0 (w .done) (tablesHits carve db size roots counts hints depth) false (tablesOverflow db size roots counts hints depth) rows₀ cols₀ (on n) rows cols hits ends (w .carved)
-
--- ---- all tables
-abbrev pub walkedAs : ℕ → Told → Walked
-walkedAs room (on n) = Done n
-walkedAs room over = Full room
-walkedAs room (short n) = Short n
-
-walked-is : (room k : ℕ) (full : Bool) → walkedAs room (carvedTo room 0 k full) ≡ walkedOf room k full
-walked-is room k full =
-    by-order room k
-    (λ lt. rw zero-add (simp (lt-leb k room lt, lt-ltb room k lt)))
-    (λ le. rw zero-add (simp (le-leb k room le, le-ltb room k le) (by full)))
-  where
-    by : (b : Bool) → walkedAs room (cond b (short k) (on k)) ≡ cond b (Short k) (Done k)
-    by true = refl
-    by false = refl
-
-module _ (carve : Carver) (db : List ℕ) (size : ℕ) (roots counts hints : List ℕ) (flags depth : ℕ) (rows cols : List ℕ) where
-  pub tabled-few : flags < length db / size → Tabled carve db size roots counts hints flags depth rows cols (Short 0) rows cols
-  tabled-few h =
-      record { answer = simp (lt-ltb flags (length db / size) h); rows-are = simp (lt-ltb flags (length db / size) h); cols-are = simp (lt-ltb flags (length db / size) h) }
-
-  pub tabled : (room : ℕ) (r : Told) (rows′ cols′ : List ℕ) → length db / size ≤ flags → room ≡ roomOf (length rows) (length cols) (widest counts)
-      → Carves (widest counts) room 0 (tablesHits carve db size roots counts hints depth) (tablesOverflow db size roots counts hints depth) rows cols r rows′ cols′
-      → Tabled carve db size roots counts hints flags depth rows cols (walkedAs room r) rows′ cols′
-  tabled room r rows′ cols′ enough is x =
-      let hs = tablesHits carve db size roots counts hints depth in
-      let full = tablesOverflow db size roots counts hints depth in
-      let p = puts-all (widest counts) room hs rows cols rows′ cols′ is (x .puts) in
-      record {
-        answer = simp (le-ltb flags (length db / size) enough) (rw (x .answer, ← is) (walked-is room (length hs) full));
-        rows-are = simp (le-ltb flags (length db / size) enough) (rw (← is) (p .0));
-        cols-are = simp (le-ltb flags (length db / size) enough) (rw (← is) (p .1));
-      }

@@ -3,22 +3,22 @@
 use mathlib.Core.Path.{_≡_, sym, _∙_}
 use denote.Ref.{now}
 use Rattle.record.proofs.Unique.{Fixes, FixesSeen}
+use Rattle.walk.specs.Collect.{LeavesAsked, LeavesOutcome, leavesOutcome, CollectsLeaves}
 use Rattle.walk.proofs.walk.Walked.number.Reads as number
 use Rattle.walk.proofs.walk.Walked.written.Reads as written
 use Rattle.walk.proofs.walk.collect_leaf_pages.Reads as collect-leaf-pages
 
-pub collect-leaf-pages-fixed : Fixes collect-leaf-pages.Post
-collect-leaf-pages-fixed k a x y s t p q = p .0 ∙ sym (q .0)
+-- ---- the promises fix what is left: the answer, the flags, the stack and the leaves at exit
+same-leaves : (x y : LeavesOutcome) → x .answer ≡ y .answer → x .flags ≡ y .flags → x .stack ≡ y .stack → x .leaves ≡ y .leaves → x ≡ y
+same-leaves x y e f g h = rw (e, f, g, h)
 
--- the leaves, the flags and the stack at exit
-pub collect-leaf-pages-leaves : FixesSeen collect-leaf-pages.Post (λ k r s. now (s .1 .1 .1 .1 .1 .0))
-collect-leaf-pages-leaves k a x y s t p q = p .1 .0 ∙ sym (q .1 .0)
+pub leaves-fixed : (a : LeavesAsked) (x y : LeavesOutcome) → CollectsLeaves a x → CollectsLeaves a y → x ≡ y
+leaves-fixed a x y p q =
+    same-leaves x y (p .answer ∙ sym (q .answer)) (p .flags ∙ sym (q .flags)) (p .stack ∙ sym (q .stack)) (p .leaves ∙ sym (q .leaves))
 
-pub collect-leaf-pages-flags : FixesSeen collect-leaf-pages.Post (λ k r s. now (s .1 .1 .1 .0))
-collect-leaf-pages-flags k a x y s t p q = p .1 .1 .0 ∙ sym (q .1 .1 .0)
-
-pub collect-leaf-pages-stack : FixesSeen collect-leaf-pages.Post (λ k r s. now (s .1 .1 .1 .1 .0))
-collect-leaf-pages-stack k a x y s t p q = p .1 .1 .1 .0 ∙ sym (q .1 .1 .1 .0)
+pub collect-leaf-pages-fixed : FixesSeen collect-leaf-pages.Post
+    (λ k r s. leavesOutcome r (now (s .1 .1 .1 .0)) (now (s .1 .1 .1 .1 .0)) (now (s .1 .1 .1 .1 .1 .0)))
+collect-leaf-pages-fixed k a x y s t p q = leaves-fixed _ _ _ p q
 
 -- ---- the numbers of an answer
 pub number-fixed : Fixes number.Post

@@ -1,29 +1,19 @@
--- Carving over walks (rules 9.12 to 9.14): one definition for all that carve pages. A carver of pages knows of no room: that is
--- applied once, at the end.
+-- Tables, and what is carved along their walks (rules 9.12 and 9.13): one definition for all that carve pages. A carver of pages knows of
+-- no room: that is applied once, at the end.
 -- Assumes nothing.
 use Prim.Native.Nat.{ℕ, suc, _+_, max}
 use mathlib.Core.Bool.{Bool, true, false, cond, not, _&&_, _||_}
 use mathlib.Core.List.{List, [], _∷_, _++_}
 use lib.Dec.{ltb, eqb}
 use lib.ListN.{length, take, drop}
-use Rattle.page.specs.Page.{sizeFits, wholePages}
-use Rattle.sheet.specs.Columns.{roomOf}
-use Rattle.sheet.specs.Hits.{Hit, rowsOf, groupsWords}
-use Rattle.sheet.specs.Limits.{largestRegion, countFits, hintsKnown}
-use Rattle.sheet.specs.Refusal.{Check, after, afterOrKept}
-use Rattle.sheet.specs.Sheet.{overlay, rowsWords}
-use Rattle.sheet.specs.declared.refusal.Checked.{Checked}
+use Rattle.page.specs.Page.{sizeFits}
+use Rattle.sheet.specs.Hits.{Hit}
+use Rattle.sheet.specs.Limits.{largestRegion, mostTables, countFits, hintsKnown}
+use Rattle.sheet.specs.Refusal.{Check}
 use Rattle.sheet.specs.declared.refusal.Refusal.the-variants.{ColumnCount, Malformed, TooLarge, PageSize}
-use Rattle.walk.specs.Collect.{walkedOf, ifFlagged, walkNumber, walkWritten}
 use Rattle.walk.specs.Walk.{Walk, walk, hitsOf, overflows}
-use Rattle.walk.specs.declared.walk.Walked.{Walked}
-use Rattle.walk.specs.declared.walk.Walked.the-variants.{Short, Refused}
 
 -- ---- tables
-
--- the most tables that may be lent
-abbrev pub mostTables : ℕ
-mostTables = 1024
 
 -- Rule 9.12: a table is lent as its root, its count of columns, and so many of the hints, which stand one after the other
 pub record Table : Type 0 where
@@ -67,7 +57,8 @@ tableChecks len size roots counts hints =
 abbrev pub Carver : Type 0
 Carver = ℕ → List ℕ → ℕ → List Hit
 
--- Rule 9.13: tables go in the order lent, from the index t on, and a leaf is carved as soon as it is popped; a full stack ends it all
+-- Rule 9.13: tables go in the order lent, from the index t on, and a leaf is carved as soon as it is popped; a stack that
+-- overflows ends it all
 abbrev pub hitsFrom : (ℕ → Walk) → Carver → ℕ → List Table → List Hit
 hitsFrom walkOf carve t [] = []
 hitsFrom walkOf carve t (b ∷ bs) =
@@ -82,45 +73,3 @@ tablesHits carve db size roots counts hints depth = hitsFrom (λ root. walk db s
 
 unfoldable pub tablesOverflow : List ℕ → ℕ → List ℕ → List ℕ → List ℕ → ℕ → Bool
 tablesOverflow db size roots counts hints depth = overflowFrom (λ root. walk db size depth root) (tablesOf roots counts hints)
-
--- ---- Rule 9.14: a call over tables, behind its checks; of its lists the answer needs only how many words there are
-abbrev pub tablesAnswer : Carver → List ℕ → ℕ → List ℕ → List ℕ → List ℕ → ℕ → ℕ → ℕ → ℕ → Walked
-tablesAnswer carve db size roots counts hints flags depth rows cols =
-    ifFlagged (wholePages (length db) size) flags
-    (walkedOf (roomOf rows cols (widest counts)) (length (tablesHits carve db size roots counts hints depth))
-    (tablesOverflow db size roots counts hints depth))
-    (Short 0)
-
--- the hits that are written: the first, as many as there is room for
-abbrev pub tablesWritten : Carver → List ℕ → ℕ → List ℕ → List ℕ → List ℕ → ℕ → ℕ → ℕ → ℕ → List Hit
-tablesWritten carve db size roots counts hints flags depth rows cols =
-    ifFlagged (wholePages (length db) size) flags
-    (take (roomOf rows cols (widest counts)) (tablesHits carve db size roots counts hints depth)) []
-
--- its checks came to c: a way of carving may have more of them than those above
-unfoldable pub carvedAnswer : Checked → Carver → List ℕ → ℕ → List ℕ → List ℕ → List ℕ → ℕ → ℕ → ℕ → ℕ → Walked
-carvedAnswer c carve db size roots counts hints flags depth rows cols =
-    after Refused c (tablesAnswer carve db size roots counts hints flags depth rows cols)
-
-unfoldable pub carvedRows : Checked → Carver → List ℕ → ℕ → List ℕ → List ℕ → List ℕ → ℕ → ℕ → List ℕ → List ℕ → List ℕ
-carvedRows c carve db size roots counts hints flags depth rows cols =
-    afterOrKept c
-    (overlay (rowsWords (rowsOf (tablesWritten carve db size roots counts hints flags depth (length rows) (length cols)))) rows)
-    rows
-
-unfoldable pub carvedCols : Checked → Carver → List ℕ → ℕ → List ℕ → List ℕ → List ℕ → ℕ → ℕ → List ℕ → List ℕ → List ℕ
-carvedCols c carve db size roots counts hints flags depth rows cols =
-    afterOrKept c
-    (overlay (groupsWords (widest counts) (tablesWritten carve db size roots counts hints flags depth (length rows) (length cols))) cols)
-    cols
-
--- the paper's number, and how many rows are written
-unfoldable pub carvedNumber : Checked → Carver → List ℕ → ℕ → List ℕ → List ℕ → List ℕ → ℕ → ℕ → ℕ → ℕ → ℕ
-carvedNumber c carve db size roots counts hints flags depth rows cols =
-    walkNumber c (wholePages (length db) size) flags (roomOf rows cols (widest counts))
-    (length (tablesHits carve db size roots counts hints depth)) (tablesOverflow db size roots counts hints depth)
-
-unfoldable pub carvedWritten : Checked → Carver → List ℕ → ℕ → List ℕ → List ℕ → List ℕ → ℕ → ℕ → ℕ → ℕ → ℕ
-carvedWritten c carve db size roots counts hints flags depth rows cols =
-    walkWritten c (wholePages (length db) size) flags (roomOf rows cols (widest counts))
-    (length (tablesHits carve db size roots counts hints depth))

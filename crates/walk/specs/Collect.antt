@@ -1,32 +1,48 @@
--- What a walk answers, and the call that writes the leaves of a table (rules 9.8 to 9.11).
+-- What a call over walks answers, and the call that writes the leaves of a table (rules 9.8 to 9.11).
 -- Assumes nothing.
 use Prim.Native.Nat.{ℕ, min}
 use mathlib.Core.Path.{_≡_}
 use mathlib.Core.Bool.{Bool, cond, not}
 use mathlib.Core.List.{List, [], _∷_}
 use lib.Dec.{ltb}
-use lib.ListN.{length, take, replicate}
+use lib.ListN.{length, replicate}
 use Rattle.page.specs.Page.{sizeFits, wholePages}
+use Rattle.sheet.specs.Filled.{ListFilling, listLeft}
 use Rattle.sheet.specs.Limits.{largestRegion}
 use Rattle.sheet.specs.Refusal.{Check, firstHeld, refusalNumber, after, afterOr0, afterOrKept}
-use Rattle.sheet.specs.Sheet.{overlay}
 use Rattle.sheet.specs.declared.refusal.Checked.{Checked}
 use Rattle.sheet.specs.declared.refusal.Refusal.the-variants.{TooLarge, PageSize, WalkSpace, NoRoom}
 use Rattle.walk.specs.Walk.{Walk, walk, hitsOf, overflows}
 use Rattle.walk.specs.declared.walk.Walked.{Walked}
 use Rattle.walk.specs.declared.walk.Walked.the-variants.{Done, Full, Short, Refused}
 
--- ---- the answer
+-- ---- the answer of a call over walks, whatever it makes of the leaves
 
--- Rule 9.9: n things come of a walk, and there is room for so many; one more is refusal 9, and then a full stack refusal 8
-abbrev pub walkedOf : ℕ → ℕ → Bool → Walked
-walkedOf room n overflow = cond (ltb room n) (Full room) (cond overflow (Short n) (Done n))
+-- what it rests on: what the checks come to, how many whole pages there are and how many flags are lent, how many things come of the
+-- walks, whether the stack overflowed, and for how many things there is room
+pub record Walking : Type 0 where
+  pub checked : Checked
+  pub pages : ℕ
+  pub flags : ℕ
+  pub things : ℕ
+  pub overflow : Bool
+  pub room : ℕ
 
--- Rule 9.10: fewer flags than whole pages is refusal 8, and comes first
-abbrev pub ifFlagged : {A : Type 0} → ℕ → ℕ → A → A → A
-ifFlagged pages flags x few = cond (ltb flags pages) few x
+-- Rule 9.10: fewer flags than whole pages is refusal 8, and comes before all that the walks come to
+abbrev pub ifFlagged : {A : Type 0} → Walking → A → A → A
+ifFlagged w x few = cond (ltb (w .flags) (w .pages)) few x
 
--- the paper's number, 0 where nothing is refused, and how many are written
+-- Rule 9.9: one thing more than there is room for is refusal 9, and then a stack that overflowed refusal 8
+abbrev pub walkedOf : Walking → Walked
+walkedOf w =
+    ifFlagged w
+    (cond (ltb (w .room) (w .things)) (Full (w .room)) (cond (w .overflow) (Short (w .things)) (Done (w .things))))
+    (Short 0)
+
+abbrev pub walkingAnswer : Walking → Walked
+walkingAnswer w = after Refused (w .checked) (walkedOf w)
+
+-- the paper's number of an answer, 0 where nothing is refused, and how many things it says are written
 abbrev pub walkedNumber : Walked → ℕ
 walkedNumber (Done n) = 0
 walkedNumber (Full n) = refusalNumber NoRoom
@@ -39,20 +55,40 @@ walkedWritten (Full n) = n
 walkedWritten (Short n) = n
 walkedWritten (Refused r) = 0
 
--- the same, said of the checks, the flags and what comes of the walk
-abbrev pub walkNumber : Checked → ℕ → ℕ → ℕ → ℕ → Bool → ℕ
-walkNumber c pages flags room n overflow =
-    after refusalNumber c
-    (ifFlagged pages flags (cond (ltb room n) (refusalNumber NoRoom) (cond overflow (refusalNumber WalkSpace) 0)) (refusalNumber WalkSpace))
+-- the same, said of what the answer rests on
+abbrev pub walkingNumber : Walking → ℕ
+walkingNumber w =
+    after refusalNumber (w .checked)
+    (ifFlagged w
+    (cond (ltb (w .room) (w .things)) (refusalNumber NoRoom) (cond (w .overflow) (refusalNumber WalkSpace) 0))
+    (refusalNumber WalkSpace))
 
-abbrev pub walkWritten : Checked → ℕ → ℕ → ℕ → ℕ → ℕ
-walkWritten c pages flags room n = afterOr0 c (ifFlagged pages flags (min room n) 0)
+abbrev pub walkingWritten : Walking → ℕ
+walkingWritten w = afterOr0 (w .checked) (ifFlagged w (min (w .room) (w .things)) 0)
 
--- Rule 9.11: flags and stack are zero behind the checks, and as they were where one refuses
-abbrev pub clearedUnless : Checked → List ℕ → List ℕ
-clearedUnless c l = afterOrKept c (replicate (length l) 0) l
+-- the things that there are to write: none where flags are too few
+abbrev pub walkingThings : {A : Type 0} → Walking → List A → List A
+walkingThings w things = ifFlagged w things []
+
+-- Rule 9.11: flags and stack, each zero behind the checks, and as it was where one refuses
+abbrev pub walkingCleared : Walking → List ℕ → List ℕ
+walkingCleared w old = afterOrKept (w .checked) (replicate (length old) 0) old
 
 -- ---- the leaves of a table
+
+-- what the call is asked: a database and its page size, the table's root, and the lists that it is lent
+pub record LeavesAsked : Type 0 where
+  pub db : List ℕ
+  pub size : ℕ
+  pub root : ℕ
+  pub flags : List ℕ
+  pub stack : List ℕ
+  pub leaves : List ℕ
+
+abbrev pub leavesAsked : List ℕ → ℕ → ℕ → List ℕ → List ℕ → List ℕ → LeavesAsked
+leavesAsked db size root flags stack leaves =
+    record { db = db; size = size; root = root; flags = flags; stack = stack; leaves = leaves }
+
 abbrev pub walkChecks : ℕ → ℕ → List Check
 walkChecks len size =
     record { refusal = TooLarge; holds = ltb largestRegion len }
@@ -62,30 +98,54 @@ walkChecks len size =
 unfoldable pub leavesOf : Walk → List ℕ
 leavesOf w = hitsOf (λ p. p ∷ []) w
 
--- with room for so many leaves
-abbrev pub leavesAnswer : List ℕ → ℕ → ℕ → ℕ → ℕ → ℕ → Walked
-leavesAnswer db size root flags depth room =
-    let w = walk db size depth root in
-    ifFlagged (wholePages (length db) size) flags (walkedOf room (length (leavesOf w)) (overflows w)) (Short 0)
+abbrev pub collectWalk : LeavesAsked → Walk
+collectWalk a = walk (a .db) (a .size) (length (a .stack)) (a .root)
 
-abbrev pub leavesWritten : List ℕ → ℕ → ℕ → ℕ → ℕ → List ℕ → List ℕ
-leavesWritten db size root flags depth old =
-    ifFlagged (wholePages (length db) size) flags (overlay (take (length old) (leavesOf (walk db size depth root))) old) old
+abbrev pub leavesWalking : Checked → ℕ → ℕ → ℕ → Walk → Walking
+leavesWalking c pages flags room w =
+    record { checked = c; pages = pages; flags = flags; things = length (leavesOf w); overflow = overflows w; room = room }
 
-unfoldable pub collectAnswer : List ℕ → ℕ → ℕ → ℕ → ℕ → ℕ → Walked
-collectAnswer db size root flags depth room =
-    after Refused (firstHeld (walkChecks (length db) size)) (leavesAnswer db size root flags depth room)
+abbrev pub collectWalking : LeavesAsked → Walking
+collectWalking a =
+    leavesWalking (firstHeld (walkChecks (length (a .db)) (a .size))) (wholePages (length (a .db)) (a .size))
+    (length (a .flags)) (length (a .leaves)) (collectWalk a)
 
-unfoldable pub collectLeaves : List ℕ → ℕ → ℕ → ℕ → ℕ → List ℕ → List ℕ
-collectLeaves db size root flags depth old =
-    afterOrKept (firstHeld (walkChecks (length db) size)) (leavesWritten db size root flags depth old) old
+unfoldable pub collectAnswer : LeavesAsked → Walked
+collectAnswer a = walkingAnswer (collectWalking a)
 
-unfoldable pub collectNumber : List ℕ → ℕ → ℕ → ℕ → ℕ → ℕ → ℕ
-collectNumber db size root flags depth room =
-    let w = walk db size depth root in
-    walkNumber (firstHeld (walkChecks (length db) size)) (wholePages (length db) size) flags room (length (leavesOf w)) (overflows w)
+unfoldable pub collectNumber : LeavesAsked → ℕ
+collectNumber a = walkingNumber (collectWalking a)
 
-unfoldable pub collectWritten : List ℕ → ℕ → ℕ → ℕ → ℕ → ℕ → ℕ
-collectWritten db size root flags depth room =
-    walkWritten (firstHeld (walkChecks (length db) size)) (wholePages (length db) size) flags room
-    (length (leavesOf (walk db size depth root)))
+unfoldable pub collectWritten : LeavesAsked → ℕ
+collectWritten a = walkingWritten (collectWalking a)
+
+-- the list is left as by any call that fills one
+abbrev pub collectFilling : LeavesAsked → ListFilling
+collectFilling a =
+    let w = collectWalking a in
+    record { checked = w .checked; things = walkingThings w (leavesOf (collectWalk a)); old = a .leaves }
+
+unfoldable pub collectLeaves : LeavesAsked → List ℕ
+collectLeaves a = listLeft (collectFilling a)
+
+unfoldable pub collectCleared : LeavesAsked → List ℕ → List ℕ
+collectCleared a old = walkingCleared (collectWalking a) old
+
+-- what the call leaves: its answer, and what the lists hold at exit
+pub record LeavesOutcome : Type 0 where
+  pub answer : Walked
+  pub flags : List ℕ
+  pub stack : List ℕ
+  pub leaves : List ℕ
+
+abbrev pub leavesOutcome : Walked → List ℕ → List ℕ → List ℕ → LeavesOutcome
+leavesOutcome r flags stack leaves = record { answer = r; flags = flags; stack = stack; leaves = leaves }
+
+-- what it promises
+pub record CollectsLeaves (a : LeavesAsked) (x : LeavesOutcome) : Type 0 where
+  pub answer : x .answer ≡ collectAnswer a
+  pub number : walkedNumber (x .answer) ≡ collectNumber a
+  pub written : walkedWritten (x .answer) ≡ collectWritten a
+  pub leaves : x .leaves ≡ collectLeaves a
+  pub flags : x .flags ≡ collectCleared a (a .flags)
+  pub stack : x .stack ≡ collectCleared a (a .stack)

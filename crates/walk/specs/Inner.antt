@@ -1,27 +1,23 @@
 -- What the code carries between its own functions, and how it stands for what the walk speaks of; nothing that a caller has to believe.
 -- Assumes nothing.
-use Prim.Native.Nat.{ℕ, zero, suc, _+_, _-_, _*_, _/_, _≤_, _<_}
+use Prim.Native.Nat.{ℕ, zero, suc, _+_, _*_, _/_, _≤_, _<_}
 use mathlib.Core.Path.{_≡_}
-use mathlib.Core.Bool.{Bool, true, cond}
+use mathlib.Core.Bool.{true, cond}
 use mathlib.Core.List.{List, [], _∷_}
-use lib.Dec.{leb, eqb}
+use lib.Dec.{eqb}
 use lib.ListN.{length, getD, take}
-use lib.Seq.{sets}
-use Rattle.sheet.specs.Inner.{Told, on, over, short}
-use Rattle.sheet.specs.Limits.{largestRegion, hintsKnown}
-use Rattle.sheet.specs.Sheet.{overlay, rowsWords}
-use Rattle.walk.specs.Carve.{mostTables, sumOf, widest, countsFit, Carver, tablesAnswer, tablesWritten}
-use Rattle.sheet.specs.Hits.{Hit, rowsOf, groupsWords}
-use Rattle.walk.specs.Collect.{leavesAnswer, leavesWritten}
-use Rattle.walk.specs.Walk.{Popped, leafThen, onward, overflow, Walk, through, stackFull, leaf, walkFrom}
-use Rattle.walk.specs.declared.inner.CarvedTable.{CarvedTable}
-use Rattle.walk.specs.declared.inner.CarvedTable.the-variants.{On as Further, Full as NoFurther, Short}
+use Rattle.sheet.specs.Filled.{laid}
+use Rattle.sheet.specs.Limits.{largestRegion, mostTables, hintsKnown}
+use Rattle.sheet.specs.declared.refusal.Checked.the-variants.{Passed}
+use Rattle.walk.specs.Carve.{sumOf, countsFit}
+use Rattle.walk.specs.Collect.{walkedOf, walkingThings, leavesOf, leavesWalking}
+use Rattle.walk.specs.Walk.{Popped, leafThen, onward, overflow, Walk, through, overflowed, leaf, walkFrom}
 use Rattle.walk.specs.declared.inner.Pushed.{Pushed}
 use Rattle.walk.specs.declared.inner.Pushed.the-variants.{On, Overflow}
 use Rattle.walk.specs.declared.inner.Step.{Step}
-use Rattle.walk.specs.declared.inner.Step.the-variants.{Leaf as Is, On as Goes, Overflow as Stops}
+use Rattle.walk.specs.declared.inner.Step.the-variants.{Leaf as StepLeaf, On as StepOn, Overflow as StepOverflow}
 use Rattle.walk.specs.declared.inner.Next.{Next}
-use Rattle.walk.specs.declared.inner.Next.the-variants.{Leaf, Done, Overflow as Full}
+use Rattle.walk.specs.declared.inner.Next.the-variants.{Leaf, Done, Overflow as NextOverflow}
 use Rattle.walk.specs.declared.walk.Walked.{Walked}
 
 -- the stack that the first n cells hold, its top first
@@ -38,14 +34,14 @@ pushedTop (On t) = t
 pushedTop Overflow = 0
 
 abbrev pub steppedAs : List ℕ → Step → Popped
-steppedAs cells (Is t) = leafThen (tops cells t)
-steppedAs cells (Goes t) = onward (tops cells t)
-steppedAs cells Stops = overflow
+steppedAs cells (StepLeaf t) = leafThen (tops cells t)
+steppedAs cells (StepOn t) = onward (tops cells t)
+steppedAs cells StepOverflow = overflow
 
 abbrev pub steppedTop : Step → ℕ
-steppedTop (Is t) = t
-steppedTop (Goes t) = t
-steppedTop Stops = 0
+steppedTop (StepLeaf t) = t
+steppedTop (StepOn t) = t
+steppedTop StepOverflow = 0
 
 -- how many marks are 0
 unfoldable pub zeros : List ℕ → ℕ
@@ -73,7 +69,7 @@ pub record LeafIs (db : List ℕ) (size : ℕ) (w : Walk) (most : ℕ) (flags st
 abbrev pub NextIs : List ℕ → ℕ → Walk → ℕ → List ℕ → List ℕ → Next → Type 0
 NextIs db size w most flags stack (Leaf p top) = LeafIs db size w most flags stack p top
 NextIs db size w most flags stack Done = w ≡ through
-NextIs db size w most flags stack Full = w ≡ stackFull
+NextIs db size w most flags stack NextOverflow = w ≡ overflowed
 
 -- whatever the fuel, if it is enough
 abbrev pub NextSays : List ℕ → ℕ → List ℕ → List ℕ → ℕ → List ℕ → List ℕ → Next → Type 0
@@ -81,25 +77,10 @@ NextSays db size flags₀ stack₀ top flags stack r =
     (f : ℕ) → need (length db / size) (length stack₀) flags₀ top ≤ f
     → NextIs db size (rest f db size flags₀ stack₀ top) (need (length db / size) (length stack₀) flags₀ top) flags stack r
 
--- what collecting leaves
-pub record Collected (db : List ℕ) (size root flags depth : ℕ) (old : List ℕ) (r : Walked) (leaves : List ℕ) : Type 0 where
-  pub answer : r ≡ leavesAnswer db size root flags depth (length old)
-  pub leaves-are : leaves ≡ leavesWritten db size root flags depth old
-
--- ---- carving tables
-abbrev pub tableAs : CarvedTable → Told
-tableAs (Further n) = on n
-tableAs NoFurther = over
-tableAs (Short n) = short n
-
--- what carving tables leaves
-pub record Tabled (carve : Carver) (db : List ℕ) (size : ℕ) (roots counts hints : List ℕ) (flags depth : ℕ) (rows cols : List ℕ)
-    (r : Walked) (rows′ cols′ : List ℕ) : Type 0 where
-  pub answer : r ≡ tablesAnswer carve db size roots counts hints flags depth (length rows) (length cols)
-  pub rows-are : rows′ ≡ overlay (rowsWords
-      (rowsOf (tablesWritten carve db size roots counts hints flags depth (length rows) (length cols)))) rows
-  pub cols-are : cols′ ≡ overlay (groupsWords (widest counts)
-      (tablesWritten carve db size roots counts hints flags depth (length rows) (length cols))) cols
+-- what collecting the leaves of a walk leaves, behind the checks
+pub record Collected (pages flags : ℕ) (w : Walk) (old : List ℕ) (r : Walked) (leaves : List ℕ) : Type 0 where
+  pub answer : r ≡ walkedOf (leavesWalking Passed pages flags (length old) w)
+  pub leaves-are : leaves ≡ laid (walkingThings (leavesWalking Passed pages flags (length old) w) (leavesOf w)) old
 
 -- tables that have passed the checks
 pub record TablesFit (len size : ℕ) (roots counts hints : List ℕ) : Type 0 where

@@ -24,7 +24,7 @@ kids page head = childIn page (head + 8) ++ cellsFrom (cellCount page head) page
 
 -- ---- popping a page
 
--- what it comes to, with the stack behind it: the page is a leaf; the walk goes on; a push found the stack full
+-- what it comes to, with the stack behind it: the page is a leaf; the walk goes on; a push overflowed the stack
 pub data Popped : Type 0 where
   leafThen : List ℕ → Popped
   onward : List ℕ → Popped
@@ -56,37 +56,38 @@ popped db size depth marks p st =
 -- ---- the walk, leaf by leaf
 pub data Walk : Type 0 where
   through : Walk
-  stackFull : Walk
+  overflowed : Walk
   leaf : ℕ → Walk → Walk
 
-abbrev pub goOn : ℕ → (List ℕ → Walk) → Popped → Walk
-goOn p rest (leafThen st) = leaf p (rest st)
-goOn p rest (onward st) = rest st
-goOn p rest overflow = stackFull
+-- what popping the page p came to, with the walk from the stack behind it
+abbrev pub fromPopped : ℕ → (List ℕ → Walk) → Popped → Walk
+fromPopped p rest (leafThen st) = leaf p (rest st)
+fromPopped p rest (onward st) = rest st
+fromPopped p rest overflow = overflowed
 
 -- the first argument bounds the pops
 unfoldable pub walkFrom : ℕ → List ℕ → ℕ → ℕ → List ℕ → List ℕ → Walk
 walkFrom zero db size depth marks st = through
 walkFrom (suc f) db size depth marks [] = through
 walkFrom (suc f) db size depth marks (p ∷ st) =
-    goOn p (λ s. walkFrom f db size depth (marked (length db) size marks p) s) (popped db size depth marks p st)
+    fromPopped p (λ s. walkFrom f db size depth (marked (length db) size marks p) s) (popped db size depth marks p st)
 
 -- Rule 9.7: the root is pushed first. Each page is expanded once, and leaves at most a full stack: that is what bounds the pops, and no
 -- larger bound gives another walk (`proofs/Fuel.antt`).
 unfoldable pub walk : List ℕ → ℕ → ℕ → ℕ → Walk
 walk db size depth root =
     let pages = wholePages (length db) size in
-    cond (ltb 0 depth) (walkFrom (pages * (depth + 1) + 1) db size depth (replicate pages 0) (root ∷ [])) stackFull
+    cond (ltb 0 depth) (walkFrom (pages * (depth + 1) + 1) db size depth (replicate pages 0) (root ∷ [])) overflowed
 
 -- ---- what a walk comes to
 
 -- Rule 9.8: what is made of each leaf, in the order of the leaves
 abbrev pub hitsOf : {A : Type 0} → (ℕ → List A) → Walk → List A
 hitsOf carve through = []
-hitsOf carve stackFull = []
+hitsOf carve overflowed = []
 hitsOf carve (leaf p t) = carve p ++ hitsOf carve t
 
 abbrev pub overflows : Walk → Bool
 overflows through = false
-overflows stackFull = true
+overflows overflowed = true
 overflows (leaf p t) = overflows t

@@ -33,13 +33,6 @@ pub enum Next {
     Overflow,
 }
 
-// What carving a table came to; beside that, a page may have found the stack full, with how many rows there are.
-pub enum CarvedTable {
-    On(usize),
-    Full,
-    Short(usize),
-}
-
 const LEAF: u64 = 0x0D;
 
 const INTERIOR: u64 = 0x05;

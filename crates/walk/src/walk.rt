@@ -16,8 +16,8 @@ ghost use Prim.Native.Nat.{_/_, _≤_};
 ghost use lib.ListN.{length};
 ghost use Rattle.sheet.specs.Refusal.{firstHeld};
 ghost use Rattle.walk.specs.Inner.{Collected};
-ghost use Rattle.walk.specs.Collect.{walkChecks, walkedNumber, walkedWritten, collectAnswer, collectLeaves, collectNumber};
-ghost use Rattle.walk.specs.Collect.{collectWritten, clearedUnless};
+ghost use Rattle.walk.specs.Collect.{walkedNumber, walkedWritten, walkChecks, leavesAsked, leavesOutcome, CollectsLeaves};
+ghost use Rattle.walk.specs.Walk.{walk};
 
 // What is written while walking: leaves, or rows out of them.
 pub enum Walked {
@@ -25,7 +25,7 @@ pub enum Walked {
     Done(usize),
     // There is one more than the lists hold: how many are written.
     Full(usize),
-    // There were too few flags, or a page found the stack full: how many were written before.
+    // There were too few flags, or the stack overflowed: how many were written before.
     Short(usize),
     Refused(Refusal),
 }
@@ -78,8 +78,8 @@ fn collect(
 ) -> Walked
     requires { ⌜ 512 ≤ size ⌝ }
     requires { ⌜ size ≤ 65536 ⌝ }
-    ensures { λ r. ⌜ Collected (now (db .entry)) size root (length (now (flags .entry))) (length (now (stack .entry)))
-        (now (leaves .entry)) r (now (leaves .exit)) ⌝ }
+    ensures { λ r. ⌜ Collected (length (now (db .entry)) / size) (length (now (flags .entry)))
+        (walk (now (db .entry)) size (length (now (stack .entry))) root) (now (leaves .entry)) r (now (leaves .exit)) ⌝ }
 {
     if flags.len() < db.len() / size {
         return Walked::Short(0);
@@ -118,18 +118,9 @@ pub fn collect_leaf_pages(
     stack: &mut [u64],
     leaves: &mut [u64],
 ) -> Walked
-    ensures answer { λ r. ⌜ r ≡ collectAnswer (now (db .entry)) size root (length (now (flags .entry))) (length (now (stack .entry)))
-        (length (now (leaves .entry))) ⌝ }
-    ensures leaves { λ _. ⌜ now (leaves .exit) ≡ collectLeaves (now (db .entry)) size root (length (now (flags .entry)))
-        (length (now (stack .entry))) (now (leaves .entry)) ⌝ }
-    ensures flags { λ _. ⌜ now (flags .exit) ≡ clearedUnless (firstHeld (walkChecks (length (now (db .entry))) size))
-        (now (flags .entry)) ⌝ }
-    ensures stack { λ _. ⌜ now (stack .exit) ≡ clearedUnless (firstHeld (walkChecks (length (now (db .entry))) size))
-        (now (stack .entry)) ⌝ }
-    ensures number { λ r. ⌜ walkedNumber r ≡ collectNumber (now (db .entry)) size root (length (now (flags .entry)))
-        (length (now (stack .entry))) (length (now (leaves .entry))) ⌝ }
-    ensures written { λ r. ⌜ walkedWritten r ≡ collectWritten (now (db .entry)) size root (length (now (flags .entry)))
-        (length (now (stack .entry))) (length (now (leaves .entry))) ⌝ }
+    ensures { λ r. ⌜ CollectsLeaves
+        (leavesAsked (now (db .entry)) size root (now (flags .entry)) (now (stack .entry)) (now (leaves .entry)))
+        (leavesOutcome r (now (flags .exit)) (now (stack .exit)) (now (leaves .exit))) ⌝ }
 {
     match check(db.len(), size) {
         Checked::Refused(refusal) => Walked::Refused(refusal),

@@ -1,6 +1,7 @@
 // What every call over tables begins with: its checks, and how wide its groups are.
 use page::inner::size_fits;
 use sheet::LARGEST_REGION;
+use sheet::MOST_TABLES;
 use sheet::hint::hint_count_fits;
 use sheet::refusal::Checked;
 use sheet::refusal::Refusal;
@@ -13,8 +14,6 @@ ghost use lib.ListN.{length};
 ghost use Rattle.sheet.specs.Limits.{hintsKnown};
 ghost use Rattle.sheet.specs.Refusal.{firstHeld};
 ghost use Rattle.walk.specs.Carve.{sumOf, widest as widestOf, countsFit, tableChecks};
-
-const MOST_TABLES: usize = 1024;
 
 pub fn counts_fit(counts: &[u64]) -> bool
     ensures { λ r. ⌜ r ≡ countsFit (now (counts .entry)) ⌝ }

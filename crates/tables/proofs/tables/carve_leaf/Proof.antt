@@ -61,8 +61,10 @@ same-length-2 c = search needs
 
 returns : tie.Need-returns
 returns c =
-    let a = c .before .before .before .before .before .before .before .before .before .before .before .before .before .args in
-    rw (hits-are (a .how) (now (a .db)) (a .size) (a .p) (now (a .hints)) (a .table) _ _ _ refl refl (c .before .before .before .before .before .before .before .before .head-of .ensures .0)) at (c .before .before .before .before .carve-page .ensures)
+    let carved = c .before .before .before .before in
+    let headed = carved .before .before .before .before in
+    let a = headed .before .before .before .before .before .args in
+    rw (hits-are (a .how) (now (a .db)) (a .size) (a .p) (now (a .hints)) (a .table) _ _ _ refl refl (headed .head-of .ensures .0)) at (carved .carve-page .ensures)
 
 pub carve-leaf-spec : {M : Type 1} → statement M
 carve-leaf-spec =

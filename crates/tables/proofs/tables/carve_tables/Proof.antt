@@ -14,7 +14,7 @@ use Rattle.tables.specs.Calls.{asked, tableChecksBy}
 use Rattle.tables.proofs.Callers.{tables-refused, tables-passed}
 use Rattle.tables.proofs.tables.carve_tables.Statement.{statement}
 use Rattle.tables.proofs.tables.carve_tables.Tie as tie
-use Rattle.walk.proofs.Promises.{tables-fit}
+use Rattle.walk.proofs.Laws.{tables-fit}
 use Rattle.walk.specs.Carve.{widest, tableChecks}
 
 widest-requires : tie.Need-widest-requires
@@ -23,28 +23,31 @@ widest-requires c κs = search needs
 refuses-requires : tie.Need-refuses-requires
 refuses-requires c κs = search needs
 
+-- ---- places: all tables are carved; none is too wide; the call
+abbrev narrowed : tie.After-carve-checked → tie.Else1
+narrowed c = c .before .before .before .before .before .before .before .before
+
+abbrev start : tie.After-refuses → tie.Start
+start c = c .before .before .before .before .before .before .before .before .before .before
+
 returns : tie.Need-returns
 returns c =
-    let start = c .before .before .before .before .before .before .before .before .before .before .before in
-    let a = start .args in
+    let a = start (c .before) .args in
     tables-refused _ _
     (wide-refuses (a .how) (widest (now (a .counts))) (tableChecks (length (now (a .db))) (a .size) (now (a .roots)) (now (a .counts)) (now (a .hints)))
     (rw (c .before .before .widest .ensures) at (sym (c .before .refuses .ensures) ∙ c .if1 .taken)))
 
 -- no table is too wide, so the other checks decide
-narrow : (c : tie.Else1) →
-    let start = c .before .before .before .before .before .before .before .before .before .before .before in
-    let a = start .args in ltb (widthBy (a .how)) (widest (now (a .counts))) ≡ false
+narrow : (c : tie.Else1) → let a = start (c .before) .args in ltb (widthBy (a .how)) (widest (now (a .counts))) ≡ false
 narrow c = rw (c .before .before .widest .ensures) at (sym (c .before .refuses .ensures) ∙ c .if1 .left)
 
 others : (c : tie.Else1) →
-    let start = c .before .before .before .before .before .before .before .before .before .before .before in
-    let a = start .args in
+    let a = start (c .before) .args in
     firstHeld (tableChecksBy (a .how) (length (now (a .db))) (a .size) (now (a .roots)) (now (a .counts)) (now (a .hints)))
     ≡ firstHeld (tableChecks (length (now (a .db))) (a .size) (now (a .roots)) (now (a .counts)) (now (a .hints)))
 others c =
-    let start = c .before .before .before .before .before .before .before .before .before .before .before in
-    let a = start .args in narrow-on (a .how) (widest (now (a .counts))) (tableChecks (length (now (a .db))) (a .size) (now (a .roots)) (now (a .counts)) (now (a .hints))) (narrow c)
+    let a = start (c .before) .args in
+    narrow-on (a .how) (widest (now (a .counts))) (tableChecks (length (now (a .db))) (a .size) (now (a .roots)) (now (a .counts)) (now (a .hints))) (narrow c)
 
 check-requires : tie.Need-check-requires
 check-requires c κs = search needs
@@ -58,8 +61,7 @@ enum-told c = search needs
 carve-checked-requires : tie.Need-carve-checked-requires
 carve-checked-requires c κs =
     let narrowed = c .before .before .before .before .before .before .before in
-    let start = narrowed .before .before .before .before .before .before .before .before .before .before .before in
-    let a = start .args in
+    let a = start (narrowed .before) .args in
     (ltb-false _ _ (narrow narrowed), tables-fit (length (now (a .db))) (a .size) (now (a .roots)) (now (a .counts)) (now (a .hints)) (sym (c .before .before .before .before .before .before .check .ensures) ∙ c .before .before .before .before .enum-told .given .1))
 
 clear-flags-requires : tie.Need-clear-flags-requires
@@ -85,13 +87,12 @@ same-length-4 c = search needs
 
 returns-3 : tie.Need-returns-3
 returns-3 c =
-    let carved = c .before .before .before .before .before .before .before .before .before .before .before .before .before .before .before .before in
-    let narrowed = carved .before .before .before .before .before .before .before .before in
-    let start = narrowed .before .before .before .before .before .before .before .before .before .before .before in
-    let a = start .args in
+    let zeroed = c .before .before .before .before .before .before in
+    let carved = zeroed .before .before .before .before .before .before .before .before .before .before in
+    let a = start (narrowed carved .before) .args in
     let x = carved .carve-checked in
-    rw (c .before .before .before .before .before .before .clear-flags .ensures, c .before .before .clear-stack .ensures, x .kept .1 .1 .1 .1 .1 .1 .0, x .kept .1 .1 .1 .1 .1 .1 .1 .0)
-    (tables-passed (asked (a .how) (now (a .db)) (a .size) (now (a .roots)) (now (a .counts)) (now (a .hints)) (now (a .flags)) (now (a .stack)) (now (a .rows)) (now (a .cols))) _ _ _ (others narrowed ∙ sym (carved .before .before .before .before .before .before .before .check .ensures) ∙ carved .before .before .before .before .before .enum-told .given .1) (x .ensures))
+    rw (zeroed .clear-flags .ensures, c .before .before .clear-stack .ensures, x .kept .1 .1 .1 .1 .1 .1 .0, x .kept .1 .1 .1 .1 .1 .1 .1 .0)
+    (tables-passed (asked (a .how) (now (a .db)) (a .size) (now (a .roots)) (now (a .counts)) (now (a .hints)) (now (a .flags)) (now (a .stack)) (now (a .rows)) (now (a .cols))) _ _ _ (others (narrowed carved) ∙ sym (carved .before .before .before .before .before .before .before .check .ensures) ∙ carved .before .before .before .before .before .enum-told .given .1) (x .ensures))
 
 pub carve-tables-spec : {M : Type 1} → statement M
 carve-tables-spec =

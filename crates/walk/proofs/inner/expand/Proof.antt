@@ -1,9 +1,11 @@
 -- `walk::inner::expand` meets its contract: each type of page is a law of `proofs/Pushing.antt`.
 -- Assumes nothing.
-use mathlib.Core.Path.{sym, _∙_}
+use mathlib.Core.Path.{_≡_, sym, _∙_}
 use native.Mathlib.Omega.{arith}
 use borrow.Author.Needs.{needs}
-use Rattle.walk.proofs.Pushing.{page-leaf, page-other, inner-on, inner-full}
+use denote.Ref.{now}
+use Rattle.page.specs.Page.{pageType}
+use Rattle.walk.proofs.Pushing.{page-leaf, page-other, inner-on, inner-overflow}
 use Rattle.walk.proofs.inner.expand.Statement.{statement}
 use Rattle.walk.proofs.inner.expand.Tie as tie
 
@@ -24,6 +26,10 @@ add-push-child c = search needs
 push-child-requires : tie.Need-push-child-requires
 push-child-requires c κs = search needs
 
+-- the page is an interior one
+inner : (c : tie.After-push-child) → let a = c .before .before .before .before .before .before .before .args in pageType (now (a .page)) (a .head) ≡ 0x05
+inner c = sym (c .before .before .before .before .page-type .ensures) ∙ c .before .before .if2 .left
+
 enum-known-mid : tie.Need-enum-known-mid
 enum-known-mid c = search needs
 
@@ -35,8 +41,8 @@ same-length c = search needs
 
 returns-3 : tie.Need-returns-3
 returns-3 c =
-    let e = rw (c .enum-told .given .1) at (c .before .before .before .before .push-child .ensures .0) in
-    (inner-full _ _ _ _ (sym (c .before .before .before .before .before .before .before .before .page-type .ensures) ∙ c .before .before .before .before .before .before .if2 .left) e, search needs)
+    let pushed = c .before .before .before .before in
+    (inner-overflow _ _ _ _ (inner pushed) (rw (c .enum-told .given .1) at (pushed .push-child .ensures .0)), search needs)
 
 cell-count-requires : tie.Need-cell-count-requires
 cell-count-requires c κs = search needs
@@ -61,11 +67,13 @@ same-length-2 c = search needs
 
 returns-4 : tie.Need-returns-4
 returns-4 c =
-    let p = c .before .before .before .before .before .before .before .before .before .before .before .before .before .push-child in
-    let e = rw (c .before .before .before .before .before .before .before .before .before .mid .given .1) at (p .ensures .0) in
+    let counted = c .before .before .before .before .before .before .before in
+    let pushed = counted .before .before .before .before .before .before in
+    let p = pushed .push-child in
+    let e = rw (counted .before .before .mid .given .1) at (p .ensures .0) in
     let q = c .before .before .before .before .before .push-cells in
-    let f = rw (c .before .t .given .1, c .before .before .before .before .before .before .before .cell-count .ensures .0, p .kept .1 .1 .0) at (q .ensures .0) in (
-      inner-on _ _ _ _ _ _ (sym (c .before .before .before .before .before .before .before .before .before .before .before .before .before .before .before .before .before .page-type .ensures) ∙ c .before .before .before .before .before .before .before .before .before .before .before .before .before .before .before .if2 .left) e f,
+    let f = rw (c .before .t .given .1, counted .cell-count .ensures .0, p .kept .1 .1 .0) at (q .ensures .0) in (
+      inner-on _ _ _ _ _ _ (inner pushed) e f,
       omega (arith, p .kept .1 .1 .0, rw (c .before .t .given .1) at (q .ensures .1)),
     )
 
@@ -74,10 +82,12 @@ same-length-3 c = search needs
 
 returns-5 : tie.Need-returns-5
 returns-5 c =
-    let p = c .before .before .before .before .before .before .before .before .before .before .before .before .push-child in
-    let e = rw (c .before .before .before .before .before .before .before .before .mid .given .1) at (p .ensures .0) in
-    let f = rw (c .enum-told2 .given .1, c .before .before .before .before .before .before .cell-count .ensures .0, p .kept .1 .1 .0) at (c .before .before .before .before .push-cells .ensures .0) in
-    (inner-on _ _ _ _ _ _ (sym (c .before .before .before .before .before .before .before .before .before .before .before .before .before .before .before .before .page-type .ensures) ∙ c .before .before .before .before .before .before .before .before .before .before .before .before .before .before .if2 .left) e f, search needs)
+    let counted = c .before .before .before .before .before .before in
+    let pushed = counted .before .before .before .before .before .before in
+    let p = pushed .push-child in
+    let e = rw (counted .before .before .mid .given .1) at (p .ensures .0) in
+    let f = rw (c .enum-told2 .given .1, counted .cell-count .ensures .0, p .kept .1 .1 .0) at (c .before .before .before .before .push-cells .ensures .0) in
+    (inner-on _ _ _ _ _ _ (inner pushed) e f, search needs)
 
 pub expand-spec : {M : Type 1} → statement M
 expand-spec =

@@ -7,7 +7,7 @@ use borrow.Author.Needs.{needs}
 use denote.Ref.{now}
 use lib.ListN.{length}
 use Rattle.walk.specs.Inner.{need, steppedAs}
-use Rattle.walk.proofs.Popping.{Pops, pops-less, Goes, goes-start, goes-on, goes-leaf, goes-full, goes-done}
+use Rattle.walk.proofs.Popping.{Pops, pops-less, Goes, goes-start, goes-on, goes-leaf, goes-overflow, goes-done}
 use Rattle.walk.proofs.Pushing.{tops-length}
 use Rattle.walk.proofs.inner.next_leaf.Statement.{statement}
 use Rattle.walk.proofs.inner.next_leaf.Tie as tie
@@ -30,6 +30,10 @@ mul-p c = search needs
 slice-read-p : tie.Need-slice-read-p Inv-loop μ-loop
 slice-read-p c = omega (arith, c .before .before .loop .inv .fits)
 
+-- the turn in which a page was popped
+abbrev turn : tie.After-visit Inv-loop μ-loop → tie.At-loop Inv-loop μ-loop
+turn c = c .before .before .before .before .before
+
 visit-requires : tie.Need-visit-requires Inv-loop μ-loop
 visit-requires c κs =
     let p = c .before .before .before .before .before .before .before .before .pre in
@@ -38,54 +42,68 @@ visit-requires c κs =
 
 -- a page was popped
 pops : (c : tie.After-visit Inv-loop μ-loop) →
-    let a = c .before .before .before .before .before .before .before .before .before .args in
-    let l = c .before .before .before .before .before .loop in
+    let turn = c .before .before .before .before .before in
+    let a = turn .before .before .before .before .args in
+    let l = turn .loop in
     Pops (now (a .db)) (a .size) (l .flags) (l .stack) (l .t) (c .visit .last .1 .1 .1 .0) (c .visit .last .1 .1 .1 .1 .0) (steppedAs (c .visit .last .1 .1 .1 .1 .0) (c .visit .result))
 pops c =
     let v = c .visit in
     record {
       some = c .before .before .before .before .loop-test .taken;
-      flagged = omega (arith, c .before .before .before .before .before .loop .inv .flags-long, c .before .before .before .before .before .before .before .before .before .pre .1 .1 .0);
+      flagged = omega (arith, turn c .loop .inv .flags-long, turn c .before .before .before .before .pre .1 .1 .0);
       is = v .ensures .0;
       marks = v .ensures .1 .0;
       stack-long = v .kept .1 .1 .1 .1 .0;
       flags-long = v .kept .1 .1 .1 .0;
     }
 
+-- and the lists are as long as they were
+flags-long : (c : tie.After-visit Inv-loop μ-loop) → let a = turn c .before .before .before .before .args in length (c .visit .last .1 .1 .1 .0) ≡ length (now (a .flags))
+flags-long c = c .visit .kept .1 .1 .1 .0 ∙ turn c .loop .inv .flags-long
+
+stack-long : (c : tie.After-visit Inv-loop μ-loop) → let a = turn c .before .before .before .before .args in length (c .visit .last .1 .1 .1 .1 .0) ≡ length (now (a .stack))
+stack-long c = c .visit .kept .1 .1 .1 .1 .0 ∙ turn c .loop .inv .stack-long
+
 enum-known-t2 : tie.Need-enum-known-t2 Inv-loop μ-loop
 enum-known-t2 c = search needs
 
 same-length : tie.Need-same-length Inv-loop μ-loop
-same-length c = c .before .before .before .before .before .before .before .visit .kept .1 .1 .1 .0 ∙ c .before .before .before .before .before .before .before .before .before .before .before .before .loop .inv .flags-long
+same-length c = flags-long (c .before .before .before .before .before .before .before)
 
 same-length-2 : tie.Need-same-length-2 Inv-loop μ-loop
-same-length-2 c = c .before .before .before .before .before .before .before .visit .kept .1 .1 .1 .1 .0 ∙ c .before .before .before .before .before .before .before .before .before .before .before .before .loop .inv .stack-long
+same-length-2 c = stack-long (c .before .before .before .before .before .before .before)
 
 returns : tie.Need-returns Inv-loop μ-loop
-returns c = goes-leaf _ _ _ _ _ _ _ _ (c .before .before .before .before .before .before .before .before .before .before .before .before .loop .inv) _ _ _ (rw (c .before .t2 .given .1) at (pops (c .before .before .before .before .before .before .before))) (rw (c .before .t2 .given .1) at (c .before .before .before .before .before .before .before .visit .ensures .1 .1))
+returns c =
+    let popped = c .before .before .before .before .before .before .before in
+    goes-leaf _ _ _ _ _ _ _ _ (turn popped .loop .inv) _ _ _ (rw (c .before .t2 .given .1) at (pops popped)) (rw (c .before .t2 .given .1) at (popped .visit .ensures .1 .1))
 
 enum-known-t2-2 : tie.Need-enum-known-t2-2 Inv-loop μ-loop
 enum-known-t2-2 c = search needs
 
 loop-less : tie.Need-loop-less Inv-loop μ-loop
 loop-less c =
-    let v = c .before .before .before .before .before .before .before .visit in
-    pops-less _ _ _ _ _ _ _ _ _ (rw (c .before .t22 .given .1) at (pops (c .before .before .before .before .before .before .before))) (tops-length _ _) (rw (c .before .t22 .given .1) at (v .ensures .1 .1))
+    let popped = c .before .before .before .before .before .before .before in
+    pops-less _ _ _ _ _ _ _ _ _ (rw (c .before .t22 .given .1) at (pops popped)) (tops-length _ _) (rw (c .before .t22 .given .1) at (popped .visit .ensures .1 .1))
 
 loop-again : tie.Need-loop-again Inv-loop μ-loop
-loop-again c = goes-on _ _ _ _ _ _ _ _ (c .before .before .before .before .before .before .before .before .before .before .before .before .loop .inv) _ _ _ (rw (c .before .t22 .given .1) at (pops (c .before .before .before .before .before .before .before))) (rw (c .before .t22 .given .1) at (c .before .before .before .before .before .before .before .visit .ensures .1 .1))
+loop-again c =
+    let popped = c .before .before .before .before .before .before .before in
+    goes-on _ _ _ _ _ _ _ _ (turn popped .loop .inv) _ _ _ (rw (c .before .t22 .given .1) at (pops popped)) (rw (c .before .t22 .given .1) at (popped .visit .ensures .1 .1))
 
 enum-told : tie.Need-enum-told Inv-loop μ-loop
 enum-told c = search needs
 
 same-length-3 : tie.Need-same-length-3 Inv-loop μ-loop
-same-length-3 c = c .before .before .before .before .before .before .visit .kept .1 .1 .1 .0 ∙ c .before .before .before .before .before .before .before .before .before .before .before .loop .inv .flags-long
+same-length-3 c = flags-long (c .before .before .before .before .before .before)
 
 same-length-4 : tie.Need-same-length-4 Inv-loop μ-loop
-same-length-4 c = c .before .before .before .before .before .before .visit .kept .1 .1 .1 .1 .0 ∙ c .before .before .before .before .before .before .before .before .before .before .before .loop .inv .stack-long
+same-length-4 c = stack-long (c .before .before .before .before .before .before)
 
 returns-2 : tie.Need-returns-2 Inv-loop μ-loop
-returns-2 c = goes-full _ _ _ _ _ _ _ _ (c .before .before .before .before .before .before .before .before .before .before .before .loop .inv) _ _ (rw (c .enum-told .given .1) at (pops (c .before .before .before .before .before .before)))
+returns-2 c =
+    let popped = c .before .before .before .before .before .before in
+    goes-overflow _ _ _ _ _ _ _ _ (turn popped .loop .inv) _ _ (rw (c .enum-told .given .1) at (pops popped))
 
 same-length-5 : tie.Need-same-length-5 Inv-loop μ-loop
 same-length-5 c = c .before .loop .inv .flags-long

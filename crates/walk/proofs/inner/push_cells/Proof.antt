@@ -7,7 +7,7 @@ use borrow.Author.Needs.{needs}
 use lib.ListN.{length}
 use Rattle.walk.specs.Inner.{tops}
 use Rattle.walk.specs.Walk.{cellsFrom, pushAll}
-use Rattle.walk.proofs.Pushing.{cells-on, cells-full, cells-past, cells-done}
+use Rattle.walk.proofs.Pushing.{cells-on, cells-overflow, cells-past, cells-done}
 use Rattle.walk.proofs.inner.push_cells.Statement.{statement}
 use Rattle.walk.proofs.inner.push_cells.Tie as tie
 
@@ -50,7 +50,7 @@ returns-2 : tie.Need-returns-2 Inv-loop μ-loop
 returns-2 c =
     let l = c .before .before .before .before .before .before .before .before .before .loop in
     let e = rw (c .before .before .before .before .before .before .pointer .ensures .0, c .enum-told .given .1, l .inv .1) at (c .before .before .before .before .push-child .ensures .0) in
-    (cells-full _ _ _ _ _ (c .before .before .before .before .before .before .before .before .loop-test .taken) (c .before .before .before .before .before .before .before .if1 .left) e ∙ l .inv .3, search needs)
+    (cells-overflow _ _ _ _ _ (c .before .before .before .before .before .before .before .before .loop-test .taken) (c .before .before .before .before .before .before .before .if1 .left) e ∙ l .inv .3, search needs)
 
 add-at : tie.Need-add-at Inv-loop μ-loop
 add-at c = search needs

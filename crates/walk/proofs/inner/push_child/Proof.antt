@@ -3,7 +3,7 @@
 use mathlib.Core.Path.{sym}
 use native.Mathlib.Omega.{arith}
 use borrow.Author.Needs.{needs}
-use Rattle.walk.proofs.Pushing.{tops-length, tops-push, push-none, push-one, push-full}
+use Rattle.walk.proofs.Pushing.{tops-length, tops-push, push-none, push-one, push-overflow}
 use Rattle.walk.proofs.inner.push_child.Statement.{statement}
 use Rattle.walk.proofs.inner.push_child.Tie as tie
 
@@ -14,7 +14,7 @@ returns : tie.Need-returns
 returns c = (sym (push-none _ _ _ _ (c .if1 .taken)), search needs)
 
 returns-2 : tie.Need-returns-2
-returns-2 c = (sym (push-full _ _ _ _ (c .before .if1 .left) (rw tops-length (c .if2 .taken))), search needs)
+returns-2 c = (sym (push-overflow _ _ _ _ (c .before .if1 .left) (rw tops-length (c .if2 .taken))), search needs)
 
 child-requires : tie.Need-child-requires
 child-requires c κs = search needs

@@ -70,11 +70,11 @@ same-length-2 c = search needs
 
 returns-4 : tie.Need-returns-4
 returns-4 c =
-    let a = c .before .before .before .before .before .before .before .before .before .before .before .before .before .args in
+    let there = c .before .before .before .before .before .before .before .before in
+    let a = there .before .before .before .before .before .args in
     let s = (a .p - 1) * a .size in
     let e : (s + a .size) - s ≡ a .size = omega arith in
-    let there = c .before .before .before .before .before .before .before .before .if2 .left in
-    let new = fresh-new _ _ (now (a .flags)) (a .p) (omega arith) there (c .before .before .before .before .before .before .if3 .left) in (
+    let new = fresh-new _ _ (now (a .flags)) (a .p) (omega arith) (there .if2 .left) (c .before .before .before .before .before .before .if3 .left) in (
       rw (e, c .before .before .before .before .before .head-of .ensures .0) at (c .before .before .expand .ensures .0) ∙ new-goes _ _ _ _ _ _ new,
       (take-set-lt (length (now (a .db)) / a .size) (now (a .flags)) (a .p - 1) 1 (omega arith) ∙ new-marks _ _ _ _ new, c .before .before .expand .ensures .1),
     )

@@ -4,6 +4,7 @@ use mathlib.Core.Path.{sym, _∙_}
 use borrow.Author.Needs.{needs}
 use denote.Ref.{now}
 use lib.ListN.{length}
+use Rattle.walk.specs.Collect.{leavesAsked}
 use Rattle.walk.proofs.Calls.{passed-size, call-refused, call-passed}
 use Rattle.walk.proofs.walk.collect_leaf_pages.Statement.{statement}
 use Rattle.walk.proofs.walk.collect_leaf_pages.Tie as tie
@@ -29,7 +30,7 @@ clear-stack-requires : tie.Need-clear-stack-requires
 clear-stack-requires c κs = search needs
 
 returns : tie.Need-returns
-returns c = call-refused _ _ _ _ _ _ _ (sym (c .before .before .before .check .ensures) ∙ c .before .refusal .given .1)
+returns c = call-refused _ _ (sym (c .before .before .before .check .ensures) ∙ c .before .refusal .given .1)
 
 same-length : tie.Need-same-length
 same-length c = search needs
@@ -42,10 +43,13 @@ same-length-3 c = search needs
 
 returns-2 : tie.Need-returns-2
 returns-2 c =
-    let a = c .before .before .before .before .before .before .before .before .before .before .before .before .before .before .before .before .before .before .before .before .before .before .before .before .before .args in
-    let x = c .before .before .before .before .before .before .before .before .before .before .before .before .before .before .collect in
-    rw (c .before .before .before .before .before .before .clear-flags .ensures, c .before .before .clear-stack .ensures, x .kept .1 .1 .1 .0, x .kept .1 .1 .1 .1 .0)
-    (call-passed _ _ _ (now (a .flags)) (now (a .stack)) _ _ _ (sym (c .before .before .before .before .before .before .before .before .before .before .before .before .before .before .before .before .before .before .before .before .check .ensures) ∙ c .before .before .before .before .before .before .before .before .before .before .before .before .before .before .before .before .before .before .enum-told .given .1) (x .ensures))
+    let zeroed = c .before .before .before .before .before .before in
+    let collected = zeroed .before .before .before .before .before .before .before .before in
+    let passed = collected .before .before .before .before in
+    let a = passed .before .before .before .before .before .before .before .args in
+    let x = collected .collect in
+    rw (zeroed .clear-flags .ensures, c .before .before .clear-stack .ensures, x .kept .1 .1 .1 .0, x .kept .1 .1 .1 .1 .0)
+    (call-passed (leavesAsked (now (a .db)) (a .size) (a .root) (now (a .flags)) (now (a .stack)) (now (a .leaves))) _ _ (sym (passed .before .before .check .ensures) ∙ passed .enum-told .given .1) (x .ensures))
 
 pub collect-leaf-pages-spec : {M : Type 1} → statement M
 collect-leaf-pages-spec =

@@ -1,2 +1,3 @@
 pub mod Demand3
+mod Returning
 pub mod Unique

@@ -21,6 +21,20 @@ use Rattle.walk.specs.Walk.{Walk, walk, hitsOf, overflows}
 use Rattle.walk.specs.declared.walk.Walked.{Walked}
 use Rattle.walk.specs.declared.walk.Walked.the-variants.{Done, Full, Short}
 
+-- ---- what carving came to
+abbrev pub tableAs : CarvedTable → Told
+tableAs (On n) = on n
+tableAs NoMore = over
+tableAs (Overflow n) = short n
+
+-- the answer of a call that had room for so many rows
+abbrev pub walkedAs : ℕ → Told → Walked
+walkedAs most (on n) = Done n
+walkedAs most over = Full most
+walkedAs most (short n) = Short n
+
+-- ---- one table
+
 -- a database of so many bytes, and a table of it with so many columns, which is carved in some way
 pub record TableReady (how : Carving) (len size columns : ℕ) (lent : Lent) (n rows cols : ℕ) : Type 0 where
   pub low : 512 ≤ size
@@ -48,24 +62,15 @@ tableAsked how db size root hints table depth =
 abbrev pub walkAsked : TableAsked → Walk
 walkAsked a = walk (a .db) (a .size) (a .depth) (a .root)
 
-abbrev pub tableAs : CarvedTable → Told
-tableAs (On n) = on n
-tableAs NoMore = over
-tableAs (Overflow n) = short n
-
--- the answer of a call that had room for so many rows
-abbrev pub walkedAs : ℕ → Told → Walked
-walkedAs most (on n) = Done n
-walkedAs most over = Full most
-walkedAs most (short n) = Short n
-
 -- what it leaves behind n rows: those of the leaves along its walk
 abbrev pub TableCarved : TableAsked → Lent → ℕ → List ℕ → List ℕ → Told → List ℕ → List ℕ → Type 0
 TableCarved a lent n rows cols r rows′ cols′ =
     Carves (lent .width) (lent .room) n (hitsOf (leafHits (a .how) (a .db) (a .size) (a .table) (a .hints)) (walkAsked a))
     (overflows (walkAsked a)) rows cols r rows′ cols′
 
--- what carving all tables leaves: the rows along their walks
+-- ---- all tables
+
+-- what carving them leaves: the rows along their walks
 abbrev pub AllCarved : Asked → Lent → Told → List ℕ → List ℕ → Type 0
 AllCarved a lent r rows cols =
     Carves (lent .width) (lent .room) 0 (tabledHits a) (tabledOverflow a) (a .rows) (a .cols) r rows cols

@@ -98,6 +98,7 @@ walkChecks len size =
 unfoldable pub leavesOf : Walk → List ℕ
 leavesOf w = hitsOf (λ p. p ∷ []) w
 
+-- the walk, and what the answer rests on
 abbrev pub collectWalk : LeavesAsked → Walk
 collectWalk a = walk (a .db) (a .size) (length (a .stack)) (a .root)
 

@@ -18,6 +18,19 @@ use Rattle.page.specs.Page.{pageChecks}
 use Rattle.sheet.specs.Limits.{countFits}
 use Rattle.sheet.specs.Refusal.{firstHeld}
 
+-- ---- places, from the last: the page lies there; the hints are known; they are few enough; the table is not too wide; the call
+abbrev known : tie.After-known-told2 → tie.Else3
+known c = c .before .before .before .before
+
+abbrev few : tie.Else3 → tie.Else2
+few c = c .before .before
+
+abbrev narrow : tie.Else2 → tie.Else1
+narrow c = c .before .before
+
+abbrev start : tie.Else1 → tie.Start
+start c = c .before .before .before .before .before .before
+
 refuses-requires : tie.Need-refuses-requires
 refuses-requires c κs = search needs
 
@@ -29,35 +42,37 @@ returns c =
     (wide-refuses (a .how) (length hints) (numberedChecks (length (now (a .db))) (a .size) (a .page) hints) (sym (c .before .refuses .ensures) ∙ c .if1 .taken))
 
 -- the table is not too wide, so the other checks decide
-narrow : (c : tie.Else1) → let a = c .before .before .before .before .before .before .args in ltb (widthBy (a .how)) (length (now (a .hints))) ≡ false
-narrow c = sym (c .before .refuses .ensures) ∙ c .if1 .left
+not-wide : (c : tie.Else1) → let a = start c .args in ltb (widthBy (a .how)) (length (now (a .hints))) ≡ false
+not-wide c = sym (c .before .refuses .ensures) ∙ c .if1 .left
 
 others : (c : tie.Else1) →
-    let a = c .before .before .before .before .before .before .args in
+    let a = start c .args in
     firstHeld (numberedChecksBy (a .how) (length (now (a .db))) (a .size) (a .page) (now (a .hints))) ≡ firstHeld (numberedChecks (length (now (a .db))) (a .size) (a .page) (now (a .hints)))
-others c = let a = c .before .before .before .before .before .before .args in narrow-on (a .how) (length (now (a .hints))) (numberedChecks (length (now (a .db))) (a .size) (a .page) (now (a .hints))) (narrow c)
+others c = let a = start c .args in narrow-on (a .how) (length (now (a .hints))) (numberedChecks (length (now (a .db))) (a .size) (a .page) (now (a .hints))) (not-wide c)
 
 hint-count-fits-requires : tie.Need-hint-count-fits-requires
 hint-count-fits-requires c κs = search needs
 
 returns-2 : tie.Need-returns-2
 returns-2 c =
-    let a = c .before .before .before .before .before .before .before .before .args in
+    let on = c .before .before in
+    let a = start on .args in
     rows-refused _ _
-    (others (c .before .before) ∙ bad-count (length (now (a .db))) (a .size) (a .page) (now (a .hints)) (sym (c .before .hint-count-fits .ensures) ∙ not-true _ (c .if2 .taken)))
+    (others on ∙ bad-count (length (now (a .db))) (a .size) (a .page) (now (a .hints)) (sym (c .before .hint-count-fits .ensures) ∙ not-true _ (c .if2 .taken)))
 
 hints-known-requires : tie.Need-hints-known-requires
 hints-known-requires c κs = search needs
 
 -- the hints are few enough
-fit : (c : tie.Else2) → countFits (length (now (c .before .before .before .before .before .before .before .before .args .hints))) ≡ true
+fit : (c : tie.Else2) → countFits (length (now (start (narrow c) .args .hints))) ≡ true
 fit c = sym (c .before .hint-count-fits .ensures) ∙ not-false _ (c .if2 .left)
 
 returns-3 : tie.Need-returns-3
 returns-3 c =
-    let a = c .before .before .before .before .before .before .before .before .before .before .args in
+    let on = c .before .before in
+    let a = start (narrow on) .args in
     rows-refused _ _
-    (others (c .before .before .before .before) ∙ bad-hints (length (now (a .db))) (a .size) (a .page) (now (a .hints)) (fit (c .before .before)) (sym (c .before .hints-known .ensures) ∙ not-true _ (c .if3 .taken)))
+    (others (narrow on) ∙ bad-hints (length (now (a .db))) (a .size) (a .page) (now (a .hints)) (fit on) (sym (c .before .hints-known .ensures) ∙ not-true _ (c .if3 .taken)))
 
 get-page-data-requires : tie.Need-get-page-data-requires
 get-page-data-requires c κs = search needs
@@ -70,13 +85,15 @@ enum-known-start c = search needs
 
 -- and known, so the page decides
 decides : (c : tie.Else3) →
-    let a = c .before .before .before .before .before .before .before .before .before .before .args in
+    let a = start (narrow (few c)) .args in
     firstHeld (numberedChecksBy (a .how) (length (now (a .db))) (a .size) (a .page) (now (a .hints))) ≡ firstHeld (pageChecks (length (now (a .db))) (a .size) (a .page))
-decides c = let a = c .before .before .before .before .before .before .before .before .before .before .args in others (c .before .before .before .before) ∙ page-decides (length (now (a .db))) (a .size) (a .page) (now (a .hints)) (fit (c .before .before)) (sym (c .before .hints-known .ensures) ∙ not-false _ (c .if3 .left))
+decides c =
+    let a = start (narrow (few c)) .args in
+    others (narrow (few c)) ∙ page-decides (length (now (a .db))) (a .size) (a .page) (now (a .hints)) (fit (few c)) (sym (c .before .hints-known .ensures) ∙ not-false _ (c .if3 .left))
 
 -- the page lies where it should
 lies : (c : tie.After-known-told2) →
-    let a = c .before .before .before .before .before .before .before .before .before .before .before .before .before .before .args in
+    let a = start (narrow (few (known c))) .args in
     PagedAt (length (now (a .db))) (a .size) (a .page) (c .before .start .given .0 .0) (c .before .start .given .0 .1 .0) (c .before .start .given .0 .1 .1 .0)
 lies c = paged-at _ _ _ _ _ _ (sym (c .before .before .before .get-page-data .ensures .0) ∙ c .before .start .given .1)
 
@@ -94,8 +111,11 @@ part-fill-end c = omega (arith, lies c .inside)
 
 fill-requires : tie.Need-fill-requires
 fill-requires c κs =
-    let l = lies (c .before .before .before) in
-    rw (part-long (now (c .before .before .before .before .before .before .before .before .before .before .before .before .before .before .before .before .before .args .db)) _ _ (l .inside)) (page-filling _ _ _ (now (c .before .before .before .before .before .before .before .before .before .before .before .before .before .before .before .before .before .args .hints)) (fit (c .before .before .before .before .before .before .before .before .before)) _ (ltb-false _ _ (narrow (c .before .before .before .before .before .before .before .before .before .before .before))) _ _ _ l)
+    let lying = c .before .before .before in
+    let on = few (known lying) in
+    let a = start (narrow on) .args in
+    let l = lies lying in
+    rw (part-long (now (a .db)) _ _ (l .inside)) (page-filling _ _ _ (now (a .hints)) (fit on) _ (ltb-false _ _ (not-wide (narrow on))) _ _ _ l)
 
 returns-4 : tie.Need-returns-4
 returns-4 c = rows-refused _ _ (decides (c .before .before .before .before) ∙ paged-refused _ _ _ _ (sym (c .before .before .before .get-page-data .ensures .0) ∙ c .before .refusal .given .1))
@@ -108,10 +128,12 @@ same-length-2 c = search needs
 
 returns-5 : tie.Need-returns-5
 returns-5 c =
-    let a = c .before .before .before .before .before .before .before .before .before .before .before .before .before .before .before .before .before .before .before .before .before .before .args in
-    let l = lies (c .before .before .before .before .before .before .before .before) in
+    let filled = c .before .before .before .before in
+    let lying = filled .before .before .before .before in
+    let a = start (narrow (few (known lying))) .args in
+    let l = lies lying in
     let h = hits-are (a .how) (now (a .db)) (a .size) (a .page) (now (a .hints)) 0 _ _ _ (l .starts) (l .long) (l .heads) in
-    rows-filled _ _ (decides (c .before .before .before .before .before .before .before .before .before .before .before .before) ∙ l .passed) (rw h at (c .before .before .before .before .fill .ensures))
+    rows-filled _ _ (decides (known lying) ∙ l .passed) (rw h at (filled .fill .ensures))
 
 pub carve-numbered-spec : {M : Type 1} → statement M
 carve-numbered-spec =

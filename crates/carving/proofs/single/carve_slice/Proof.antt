@@ -15,6 +15,13 @@ use Rattle.carving.proofs.single.carve_slice.Tie as tie
 use Rattle.sheet.specs.Refusal.{firstHeld}
 use Rattle.sheet.specs.Slice.{sliceChecks}
 
+-- ---- places, from the last: the slice has passed its checks; the table is not too wide; the call
+abbrev narrow : tie.After-enum-told → tie.Else1
+narrow c = c .before .before .before
+
+abbrev start : tie.Else1 → tie.Start
+start c = c .before .before .before .before .before .before
+
 refuses-requires : tie.Need-refuses-requires
 refuses-requires c κs = search needs
 
@@ -26,13 +33,13 @@ returns c =
     (wide-refuses (a .how) (length hints) (sliceChecks (length (now (a .page))) hints (a .base)) (sym (c .before .refuses .ensures) ∙ c .if1 .taken))
 
 -- the table is not too wide, so the other checks decide
-narrow : (c : tie.Else1) → let a = c .before .before .before .before .before .before .args in ltb (widthBy (a .how)) (length (now (a .hints))) ≡ false
-narrow c = sym (c .before .refuses .ensures) ∙ c .if1 .left
+not-wide : (c : tie.Else1) → let a = start c .args in ltb (widthBy (a .how)) (length (now (a .hints))) ≡ false
+not-wide c = sym (c .before .refuses .ensures) ∙ c .if1 .left
 
 others : (c : tie.Else1) →
-    let a = c .before .before .before .before .before .before .args in
+    let a = start c .args in
     firstHeld (sliceChecksBy (a .how) (length (now (a .page))) (now (a .hints)) (a .base)) ≡ firstHeld (sliceChecks (length (now (a .page))) (now (a .hints)) (a .base))
-others c = let a = c .before .before .before .before .before .before .args in narrow-on (a .how) (length (now (a .hints))) (sliceChecks (length (now (a .page))) (now (a .hints)) (a .base)) (narrow c)
+others c = let a = start c .args in narrow-on (a .how) (length (now (a .hints))) (sliceChecks (length (now (a .page))) (now (a .hints)) (a .base)) (not-wide c)
 
 check-slice-requires : tie.Need-check-slice-requires
 check-slice-requires c κs = search needs
@@ -45,8 +52,9 @@ enum-told c = search needs
 
 fill-requires : tie.Need-fill-requires
 fill-requires c κs =
-    let a = c .before .before .before .before .before .before .before .before .before .before .before .args in
-    slice-filling (a .how) (length (now (a .page))) (now (a .hints)) (a .base) (ltb-false _ _ (narrow (c .before .before .before .before .before))) (sym (c .before .before .before .before .check-slice .ensures) ∙ c .before .before .enum-told .given .1)
+    let told = c .before .before in
+    let a = start (narrow told) .args in
+    slice-filling (a .how) (length (now (a .page))) (now (a .hints)) (a .base) (ltb-false _ _ (not-wide (narrow told))) (sym (told .before .before .check-slice .ensures) ∙ told .enum-told .given .1)
 
 returns-2 : tie.Need-returns-2
 returns-2 c = rows-refused _ _ (others (c .before .before .before .before) ∙ sym (c .before .before .before .check-slice .ensures) ∙ c .before .refusal .given .1)
@@ -58,7 +66,10 @@ same-length-2 : tie.Need-same-length-2
 same-length-2 c = search needs
 
 returns-3 : tie.Need-returns-3
-returns-3 c = rows-filled _ _ (others (c .before .before .before .before .before .before .before .before .before .before) ∙ sym (c .before .before .before .before .before .before .before .before .before .check-slice .ensures) ∙ c .before .before .before .before .before .before .before .enum-told .given .1) (c .before .before .before .before .fill .ensures)
+returns-3 c =
+    let filled = c .before .before .before .before in
+    let told = filled .before .before .before in
+    rows-filled _ _ (others (narrow told) ∙ sym (told .before .before .check-slice .ensures) ∙ told .enum-told .given .1) (filled .fill .ensures)
 
 pub carve-slice-spec : {M : Type 1} → statement M
 carve-slice-spec =

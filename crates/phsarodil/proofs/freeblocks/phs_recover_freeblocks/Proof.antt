@@ -27,7 +27,9 @@ same-length-4 : tie.Need-same-length-4
 same-length-4 c = search needs
 
 returns : tie.Need-returns
-returns c = tables-returned _ _ _ _ (c .before .before .before .before .before .before .before .before .before .before .before .recover-freeblocks .ensures) (c .number .ensures) (c .before .before .written .ensures)
+returns c =
+    let told = c .before .before in
+    tables-returned _ _ _ _ (told .before .before .before .before .before .before .before .before .before .recover-freeblocks .ensures) (c .number .ensures) (told .written .ensures)
 
 pub phs-recover-freeblocks-spec : {M : Type 1} → statement M
 phs-recover-freeblocks-spec =

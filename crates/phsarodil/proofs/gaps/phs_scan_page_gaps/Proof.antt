@@ -49,9 +49,10 @@ same-length-4 c = search needs
 
 returns-2 : tie.Need-returns-2
 returns-2 c =
-    let at = c .before .before .before .before .before .before .before .before .before .before .before in
+    let told = c .before .before in
+    let at = told .before .before .before .before .before .before .before .before .before in
     rw (sym (at .before .before .before .before .before .before .before .before .named .ensures) ∙ at .before .before .before .before .before .before .how .given .1)
-    (tables-returned _ _ _ _ (at .scan-page-gaps .ensures) (c .number .ensures) (c .before .before .written .ensures))
+    (tables-returned _ _ _ _ (at .scan-page-gaps .ensures) (c .number .ensures) (told .written .ensures))
 
 pub phs-scan-page-gaps-spec : {M : Type 1} → statement M
 phs-scan-page-gaps-spec =

@@ -9,6 +9,7 @@ use crate::lists::starts;
 use crate::lists::widened;
 use crate::lists::word_space;
 use streams::Output;
+ghost use Rattle.streams.specs.Moving.{StillWhole};
 
 // So many changed cells of a list are said one by one; of more their number, and what all cells of the list fold to.
 const FEW: u64 = 256;
@@ -19,7 +20,9 @@ const DECIMAL: u64 = 0x1000_0000;
 const SHORT: u64 = 0x1_0000_0000;
 
 // The line's beginning; a case is numbered by its place, from 1 on.
-pub fn begin(said: Output, n: u64, case: &[u8]) -> Output {
+pub fn begin(said: Output, n: u64, case: &[u8]) -> Output
+    ensures { λ r. ⌜ StillWhole (said .whole) (r .whole) ⌝ }
+{
     let said = said_by(said, has_rust(case));
     let name = name(case);
     if name.len() == 0 {
@@ -28,7 +31,9 @@ pub fn begin(said: Output, n: u64, case: &[u8]) -> Output {
     said.say(name).say(b": ")
 }
 
-fn said_by(said: Output, rust: bool) -> Output {
+fn said_by(said: Output, rust: bool) -> Output
+    ensures { λ r. ⌜ StillWhole (said .whole) (r .whole) ⌝ }
+{
     if rust {
         return said.say(b"Rust  ");
     }
@@ -36,16 +41,22 @@ fn said_by(said: Output, rust: bool) -> Output {
 }
 
 // A heading stands by itself.
-pub fn heading(said: Output, case: &[u8]) -> Output {
+pub fn heading(said: Output, case: &[u8]) -> Output
+    ensures { λ r. ⌜ StillWhole (said .whole) (r .whole) ⌝ }
+{
     said.say(b"\n").say(name(case)).say(b"\n")
 }
 
-pub fn answered(said: Output, number: u64, out: &[u64]) -> Output {
+pub fn answered(said: Output, number: u64, out: &[u64]) -> Output
+    ensures { λ r. ⌜ StillWhole (said .whole) (r .whole) ⌝ }
+{
     let said = said.say(b"answers ").say_decimal(number).say(b", out");
     say_cells(said, Cells::Out, out)
 }
 
-fn say_word(said: Output, n: u64) -> Output {
+fn say_word(said: Output, n: u64) -> Output
+    ensures { λ r. ⌜ StillWhole (said .whole) (r .whole) ⌝ }
+{
     if n < DECIMAL {
         return said.say_decimal(n);
     }
@@ -57,7 +68,9 @@ fn say_word(said: Output, n: u64) -> Output {
 }
 
 // Where the changed cells go on elsewhere, and where a row or an entry starts.
-fn say_place(said: Output, of: Cells, i: usize, joined: bool) -> Output {
+fn say_place(said: Output, of: Cells, i: usize, joined: bool) -> Output
+    ensures { λ r. ⌜ StillWhole (said .whole) (r .whole) ⌝ }
+{
     if i == 0 {
         return said;
     }
@@ -70,14 +83,18 @@ fn say_place(said: Output, of: Cells, i: usize, joined: bool) -> Output {
     said
 }
 
-fn say_cell(said: Output, of: Cells, i: usize, cell: u64, joined: bool) -> Output {
+fn say_cell(said: Output, of: Cells, i: usize, cell: u64, joined: bool) -> Output
+    ensures { λ r. ⌜ StillWhole (said .whole) (r .whole) ⌝ }
+{
     if is_fresh(of, i, cell) {
         return said;
     }
     say_word(say_place(said, of, i, joined).say(b" "), cell)
 }
 
-fn say_cells(said: Output, of: Cells, list: &[u64]) -> Output {
+fn say_cells(said: Output, of: Cells, list: &[u64]) -> Output
+    ensures { λ r. ⌜ StillWhole (said .whole) (r .whole) ⌝ }
+{
     let mut said = said;
     let mut joined = true;
     let mut i = 0;
@@ -89,7 +106,9 @@ fn say_cells(said: Output, of: Cells, list: &[u64]) -> Output {
     said
 }
 
-pub fn say_list(said: Output, label: &[u8], of: Cells, list: &[u64]) -> Output {
+pub fn say_list(said: Output, label: &[u8], of: Cells, list: &[u64]) -> Output
+    ensures { λ r. ⌜ StillWhole (said .whole) (r .whole) ⌝ }
+{
     let said = said.say(b"; ").say(label);
     let n = changed(of, list);
     if n == 0 {
@@ -102,14 +121,18 @@ pub fn say_list(said: Output, label: &[u8], of: Cells, list: &[u64]) -> Output {
     say_cells(said, of, list)
 }
 
-pub fn say_bytes(said: Output, label: &[u8], list: &[u8]) -> Output {
+pub fn say_bytes(said: Output, label: &[u8], list: &[u8]) -> Output
+    ensures { λ r. ⌜ StillWhole (said .whole) (r .whole) ⌝ }
+{
     let mut words = word_space();
     let n = widened(list, &mut words);
     say_list(said, label, Cells::Bytes, &words[..n])
 }
 
 // Rows, and their column entries.
-pub fn say_rows(said: Output, rows: &[u64], cols: &[u64]) -> Output {
+pub fn say_rows(said: Output, rows: &[u64], cols: &[u64]) -> Output
+    ensures { λ r. ⌜ StillWhole (said .whole) (r .whole) ⌝ }
+{
     let said = say_list(said, b"rows", Cells::Rows, rows);
     say_list(said, b"entries", Cells::Entries, cols)
 }

@@ -7,6 +7,8 @@ use sheet::WORDS_PER_ROW;
 use std::num::wrapping_add_u64;
 ghost use mathlib.Core.Path.{_≡_};
 ghost use lib.ListN.{length};
+ghost use Rattle.cases.specs.Layout.{cellsOf};
+ghost use Rattle.cases.specs.Lent.{FilledBy, byteIn, freshByte, freshIn, freshWord, startsIn};
 ghost use Rattle.io.specs.Counts.{Counts};
 
 pub fn word_space() -> [u64; CELLS]
@@ -32,18 +34,23 @@ pub enum Cells {
     Out,
 }
 
-fn fresh_word(i: usize) -> u64 {
+fn fresh_word(i: usize) -> u64
+    ensures { λ r. ⌜ r ≡ freshWord i ⌝ }
+{
     wrapping_add_u64(0x5EED_0000_0000_0000, i as u64)
 }
 
 // No hint code is that high, and no page flag is clear.
-fn fresh_byte(i: usize) -> u8 {
+fn fresh_byte(i: usize) -> u8
+    ensures { λ r. ⌜ r ≡ freshByte i ⌝ }
+{
     200 + (i % 50) as u8
 }
 
 // Fresh cells, as many as the list of the case has, and how many.
 pub fn fill_words(list: &mut [u64], case: &[u8], which: usize) -> usize
     ensures { λ r. ⌜ Counts r (now (list .exit)) ⌝ }
+    ensures cells { λ r. ⌜ FilledBy freshWord (cellsOf (now (case .entry)) which) (now (list .exit)) r ⌝ }
 {
     let cells = cells(case, which);
     let mut i = 0;
@@ -59,6 +66,7 @@ pub fn fill_words(list: &mut [u64], case: &[u8], which: usize) -> usize
 
 pub fn fill_bytes(list: &mut [u8], case: &[u8], which: usize) -> usize
     ensures { λ r. ⌜ Counts r (now (list .exit)) ⌝ }
+    ensures cells { λ r. ⌜ FilledBy freshByte (cellsOf (now (case .entry)) which) (now (list .exit)) r ⌝ }
 {
     let cells = cells(case, which);
     let mut i = 0;
@@ -73,7 +81,9 @@ pub fn fill_bytes(list: &mut [u8], case: &[u8], which: usize) -> usize
 }
 
 // Whether a cell holds what it held before the call.
-pub fn is_fresh(of: Cells, i: usize, cell: u64) -> bool {
+pub fn is_fresh(of: Cells, i: usize, cell: u64) -> bool
+    ensures { λ r. ⌜ r ≡ freshIn of i cell ⌝ }
+{
     match of {
         Cells::Out => false,
         Cells::Bytes => cell == wide(fresh_byte(i)),
@@ -84,7 +94,9 @@ pub fn is_fresh(of: Cells, i: usize, cell: u64) -> bool {
 }
 
 // Whether a row or an entry starts there.
-pub fn starts(of: Cells, i: usize) -> bool {
+pub fn starts(of: Cells, i: usize) -> bool
+    ensures { λ r. ⌜ r ≡ startsIn of i ⌝ }
+{
     match of {
         Cells::Rows => i % WORDS_PER_ROW == 0,
         Cells::Entries => i % WORDS_PER_ENTRY == 0,
@@ -127,6 +139,7 @@ pub fn fold(list: &[u64]) -> u64 {
 // Bytes as words, and how many.
 pub fn widened(list: &[u8], words: &mut [u64]) -> usize
     ensures { λ r. ⌜ Counts r (now (words .exit)) ⌝ }
+    ensures cells { λ r. ⌜ FilledBy (byteIn (now (list .entry))) (length (now (list .entry))) (now (words .exit)) r ⌝ }
 {
     let mut i = 0;
     while i < words.len() {

@@ -1,19 +1,20 @@
--- `cases::line::say_cells` is safe and ends: each turn passes a cell.
+-- `cases::line::say_cells` meets its contract and ends: each turn passes a cell.
 -- Assumes nothing.
 use Prim.Native.Nat.{_-_}
 use lib.ListN.{length}
 use borrow.Author.Needs.{needs}
+use Rattle.streams.specs.Moving.{StillWhole}
 use Rattle.cases.proofs.line.say_cells.Statement.{statement}
 use Rattle.cases.proofs.line.say_cells.Tie as tie
 
 abbrev Inv-loop : tie.InvT-loop
-Inv-loop of list said₀ joined₀ i₀ said joined i = Unit
+Inv-loop of list said₀ joined₀ i₀ said joined i = StillWhole (said₀ .whole) (said .whole)
 
 abbrev μ-loop : tie.MeasureT-loop
 μ-loop of list said₀ joined₀ i₀ said joined i = length list - i
 
 loop-holds : tie.Need-loop-holds Inv-loop μ-loop
-loop-holds c = search needs
+loop-holds c w = w
 
 mul-say-cell : tie.Need-mul-say-cell Inv-loop μ-loop
 mul-say-cell c = search needs
@@ -40,10 +41,10 @@ loop-less : tie.Need-loop-less Inv-loop μ-loop
 loop-less c = search needs
 
 loop-again : tie.Need-loop-again Inv-loop μ-loop
-loop-again c = search needs
+loop-again c w = c .before .before .before .before .before .loop .inv (c .before .before .say-cell .ensures w)
 
 returns : tie.Need-returns Inv-loop μ-loop
-returns c = search needs
+returns c = c .before .loop .inv
 
 pub say-cells-spec : {M : Type 1} → statement M
 say-cells-spec =

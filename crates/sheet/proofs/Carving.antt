@@ -70,35 +70,27 @@ module _ (width room n : ℕ) (rows cols : List ℕ) where
       }
 
 -- ---- some hits, and then others
-pub told-on : (room n k m : ℕ) (full : Bool) → on m ≡ carvedTo room n k full → (n + k ≤ room) × (m ≡ n + k) × (full ≡ false)
-told-on room n k m full e =
-    by-order room (n + k)
-    (λ lt. let d = simp (lt-leb (n + k) room lt) at e in absurd (let z : _≡_ {A = ℕ} 0 1 = cc in omega arith))
-    (λ le. go full le (simp (le-leb (n + k) room le) at e))
+-- what is told of k hits behind n rows: all of them found room, and the stack was full or not; or one found none
+abbrev ToldOf : ℕ → ℕ → ℕ → Bool → Told → Type 0
+ToldOf room n k full (on m) = (n + k ≤ room) × (m ≡ n + k) × (full ≡ false)
+ToldOf room n k full (short m) = (n + k ≤ room) × (m ≡ n + k) × (full ≡ true)
+ToldOf room n k full over = room < n + k
+
+told : (room n k : ℕ) (full : Bool) (t : Told) → t ≡ carvedTo room n k full → ToldOf room n k full t
+told room n k full t e = rw e (by-order room (n + k) (λ lt. simp (lt-leb (n + k) room lt) lt) (λ le. simp (le-leb (n + k) room le) (go full le)))
   where
-    go : (full : Bool) → n + k ≤ room → on m ≡ cond full (short (n + k)) (on (n + k)) → (n + k ≤ room) × (m ≡ n + k) × (full ≡ false)
-    go true le d = absurd (let z : _≡_ {A = ℕ} 0 1 = cc in omega arith)
-    go false le d = (le, (cc), refl)
+    go : (full : Bool) → n + k ≤ room → ToldOf room n k full (cond full (short (n + k)) (on (n + k)))
+    go true le = (le, refl, refl)
+    go false le = (le, refl, refl)
+
+pub told-on : (room n k m : ℕ) (full : Bool) → on m ≡ carvedTo room n k full → (n + k ≤ room) × (m ≡ n + k) × (full ≡ false)
+told-on room n k m full = told room n k full (on m)
 
 pub told-short : (room n k m : ℕ) (full : Bool) → short m ≡ carvedTo room n k full → (n + k ≤ room) × (m ≡ n + k) × (full ≡ true)
-told-short room n k m full e =
-    by-order room (n + k)
-    (λ lt. let d = simp (lt-leb (n + k) room lt) at e in absurd (let z : _≡_ {A = ℕ} 0 1 = cc in omega arith))
-    (λ le. go full le (simp (le-leb (n + k) room le) at e))
-  where
-    go : (full : Bool) → n + k ≤ room → short m ≡ cond full (short (n + k)) (on (n + k)) → (n + k ≤ room) × (m ≡ n + k) × (full ≡ true)
-    go true le d = (le, (cc), refl)
-    go false le d = absurd (let z : _≡_ {A = ℕ} 0 1 = cc in omega arith)
+told-short room n k m full = told room n k full (short m)
 
-pub told-over : (room n k : ℕ) (b : Bool) → over ≡ carvedTo room n k b → room < n + k
-told-over room n k b e =
-    by-order room (n + k)
-    (λ lt. lt)
-    (λ le. let d = simp (le-leb (n + k) room le) at e in absurd (never b d))
-  where
-    never : (b : Bool) → over ≡ cond b (short (n + k)) (on (n + k)) → ⊥
-    never true d = let z : _≡_ {A = ℕ} 0 1 = cc in omega arith
-    never false d = let z : _≡_ {A = ℕ} 0 1 = cc in omega arith
+pub told-over : (room n k : ℕ) (full : Bool) → over ≡ carvedTo room n k full → room < n + k
+told-over room n k full = told room n k full over
 
 module _ (width room n : ℕ) (a b : List Hit) (rows cols rows′ cols′ : List ℕ) where
   puts-more : (rows″ cols″ : List ℕ) (m : ℕ) → n + length a ≤ room → m ≡ n + length a

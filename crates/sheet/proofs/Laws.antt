@@ -1,9 +1,9 @@
 -- What other crates rest on: they cite these laws and unfold no definition of this one.
 -- Assumes nothing.
 use Prim.Native.Nat.{ℕ, zero, suc, _+_, _*_, _/_, _≤_, _<_, min}
-use mathlib.Core.Path.{_≡_, refl, ap, _∙_}
+use mathlib.Core.Path.{_≡_, refl, sym, ap, _∙_}
 use mathlib.Core.Bool.{Bool, true, false, cond, _||_, and-eq-true-iff}
-use mathlib.Core.List.{List, [], _∷_, _++_}
+use mathlib.Core.List.{List, [], _∷_, _++_, append-assoc}
 use native.Mathlib.Nat.{add-zero, zero-add, add-suc, suc-add, suc-mul, min-le-left, min-le-right, min-eq-left, min-eq-right, le-of-lt, le-trans, le-div-iff-mul-le}
 use native.Mathlib.Numerals.{add-one}
 use native.Mathlib.Omega.{arith}
@@ -124,6 +124,10 @@ column-words-length Unused = refl
 pub columns-words-length : (cs : List Column) → length (columnsWords cs) ≡ wordsPerEntry * length cs
 columns-words-length [] = refl
 columns-words-length (c ∷ cs) = simp (length-append, column-words-length, columns-words-length cs) (omega arith)
+
+pub columns-append : (a b : List Column) → columnsWords (a ++ b) ≡ columnsWords a ++ columnsWords b
+columns-append [] b = refl
+columns-append (c ∷ a) b = rw (columns-append a b) (sym (append-assoc (columnWords c) (columnsWords a) (columnsWords b)))
 
 pub unused-words-length : (n : ℕ) → length (unusedWords n) ≡ wordsPerEntry * n
 unfolding unusedWords

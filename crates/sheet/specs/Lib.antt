@@ -8,3 +8,4 @@ pub mod Refusal
 pub mod Row
 pub mod Sheet
 pub mod Slice
+pub mod Values

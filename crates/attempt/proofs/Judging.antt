@@ -2,7 +2,7 @@
 -- Assumes nothing.
 use Prim.Native.Nat.{ℕ, _+_, _-_, _≤_, _<_}
 use mathlib.Core.Path.{_≡_, refl, sym, ap, _∙_}
-use mathlib.Core.Bool.{Bool, true, false, _&&_}
+use mathlib.Core.Bool.{Bool, true, false, false≢true, _&&_}
 use mathlib.Core.List.{List, [], _++_}
 use native.Mathlib.Omega.{arith}
 use lib.Dec.{leb}
@@ -20,7 +20,6 @@ use Rattle.attempt.specs.Hints.{suited}
 use Rattle.attempt.specs.Inner.{reach, headerTypes, totalFrom, sizes, Headed, WholeIs, MissIs, HitIs}
 use Rattle.attempt.specs.Places.{mostPlaces, typePlaces, attemptPlaces}
 use Rattle.attempt.proofs.Bodies.{total-min, miss-count, miss-total, hit-total}
-use Rattle.attempt.proofs.Skipping.{never}
 use Rattle.attempt.proofs.Types.{Stops, stops, types-end}
 use Rattle.sheet.specs.Limits.{mostHeader}
 
@@ -148,9 +147,9 @@ fits-is len o h = go (leb 2 h) (leb h mostHeader) (leb h (len - o)) refl refl re
   where
     go : (a b c : Bool) → leb 2 h ≡ a → leb h mostHeader ≡ b → leb h (len - o) ≡ c → (a && (b && c)) ≡ true → (2 ≤ h) × (h ≤ mostHeader) × (h ≤ len - o)
     go true true true p q r e = (leb-true _ _ p, leb-true _ _ q, leb-true _ _ r)
-    go true true false p q r e = never e
-    go true false c p q r e = never e
-    go false b c p q r e = never e
+    go true true false p q r e = absurd (false≢true e)
+    go true false c p q r e = absurd (false≢true e)
+    go false b c p q r e = absurd (false≢true e)
 
 pub places-short : (s : List ℕ) (o : ℕ) → varintAt s o ≡ Short → attemptPlaces s o ≡ varintPlaces s o ++ []
 unfolding attemptPlaces

@@ -2,7 +2,7 @@
 -- Assumes nothing.
 use Prim.Native.Nat.{ℕ, zero, suc, _+_, _-_, _*_, _≤_, _<_}
 use mathlib.Core.Path.{_≡_, refl, sym, ap, _∙_}
-use mathlib.Core.Bool.{true, false}
+use mathlib.Core.Bool.{true, false≢true}
 use mathlib.Core.List.{List}
 use native.Mathlib.Omega.{arith}
 use lib.ListN.{length, getD}
@@ -15,9 +15,6 @@ use Rattle.record.specs.Places.{stopOf}
 use Rattle.record.specs.Varint.{varintAt}
 use Rattle.record.specs.declared.varint.Varint.{Varint}
 use Rattle.record.specs.declared.varint.Varint.the-variants.{Value, Short}
-
-pub never : {C : Type 0} → false ≡ true → C
-never e = let z : _≡_ {A = ℕ} 0 1 = cc in absurd (omega arith)
 
 -- of whole types, k have been skipped
 pub Skipped : (s : List ℕ) (stop : ℕ) (w : Types) (at k : ℕ) → Type 0
@@ -87,7 +84,7 @@ module _ (s : List ℕ) (stop : ℕ) (inside : stop ≤ length s) where
           (λ before.
           let r = rest (c .at) before (omega (arith, z .past)) (rw q at e) in
           rw q (omega (arith, z .nine, r .0), omega (arith, z .past, r .1)))
-      go lt Short v rest = never (rw (types-cut f s at stop lt v) at e)
+      go lt Short v rest = absurd (false≢true (rw (types-cut f s at stop lt v) at e))
 
   pub unfitting : (f at n : ℕ) → at ≤ stop → stop ≤ at + f → (n ≤ stop - at → stop - at ≤ 9 * n → ⊥)
       → isWhole (typesFrom f s at stop) ≡ true → length (kinds (typesFrom f s at stop)) ≡ n → ⊥
@@ -107,7 +104,7 @@ module _ (s : List ℕ) (stop : ℕ) (inside : stop ≤ length s) where
         go (Value t c) e =
             let z = varint-lies s at t c e in
             (f, omega (arith, z .past), λ q. let r = rw (types-step f s at stop t c lt e) at (g q) in (r .0, omega (arith, r .1)))
-        go Short e = (f, omega arith, λ q. let r = rw (types-cut f s at stop lt e) at (g q) in never (r .0))
+        go Short e = (f, omega arith, λ q. let r = rw (types-cut f s at stop lt e) at (g q) in absurd (false≢true (r .0)))
 
     -- too few, and too many
     pub skipped-few : (n : ℕ) → stop ≤ at → k < n → Skipped s stop w at k → isWhole w ≡ true → length (kinds w) ≡ n → ⊥
@@ -121,4 +118,4 @@ module _ (s : List ℕ) (stop : ℕ) (inside : stop ≤ length s) where
       where
         go : (v : Varint) → varintAt s at ≡ v → ⊥
         go (Value t d) v = let r = rw (types-step f s at stop t d lt v) at (g e) in omega (arith, r .1)
-        go Short v = let r = rw (types-cut f s at stop lt v) at (g e) in never (r .0)
+        go Short v = let r = rw (types-cut f s at stop lt v) at (g e) in absurd (false≢true (r .0))

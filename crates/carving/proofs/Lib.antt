@@ -1,5 +1,4 @@
 pub mod Callers
 pub mod Cases
-pub mod Entries
 pub mod ReadBack
 pub mod Unique

@@ -16,7 +16,6 @@ use Rattle.carving.specs.Calls.{widthBy, hitsBy, leafHits, SliceAsked, s
 use Rattle.carving.specs.Values.{valuesBy, leafValues, sliceValues, numberedValues}
 use Rattle.carving.specs.declared.inner.Carving.{Carving}
 use Rattle.carving.specs.declared.inner.Carving.the-variants.{Freeblocks, Gaps, Payload}
-use Rattle.carving.proofs.Entries.{AllFit, all-fit, rows-read}
 use Rattle.carving.proofs.freeblocks.recover_page_freeblocks.Kinds as page-freeblocks-kinds
 use Rattle.carving.proofs.freeblocks.recover_page_freeblocks.Reads as recover-page-freeblocks
 use Rattle.carving.proofs.freeblocks.recover_slice_freeblocks.Kinds as slice-freeblocks-kinds
@@ -30,20 +29,19 @@ use Rattle.carving.proofs.gaps.scan_single_page_gap.Reads as scan-singl
 use Rattle.cells.proofs.ReadBack.{payload-reads}
 use Rattle.freeblock.proofs.ReadBack.{freed-reads}
 use Rattle.gap.proofs.ReadBack.{page-reads}
-use Rattle.hit.proofs.ReadBack.{AllRead}
 use Rattle.hit.specs.declared.inner.Spot.{Spot}
 use Rattle.page.proofs.Laws.{size-range, there-page, page-inside}
 use Rattle.page.specs.Page.{startOf, pageOf, headOf}
 use Rattle.record.proofs.Shifts.{PartOf, part-rest, part-taken}
-use Rattle.scan.proofs.ReadBack.{ReadBack}
 use Rattle.sheet.proofs.Laws.{none-holds, count-fits}
+use Rattle.sheet.proofs.ReadBack.{ReadBack, AllFit, rows-read}
 use Rattle.sheet.specs.Filled.{filledWritten}
 use Rattle.sheet.specs.Hits.{RowOutcome, FillsRows}
 use Rattle.sheet.specs.declared.refusal.Checked.the-variants.{Passed}
 
 -- THE LAW: the rows of a page, whatever the way of carving it, over a slice in which it lies
 pub hits-read : (how : Carving) (slice page : List ℕ) (head : ℕ) (hints : List ℕ) (spot : Spot) → PartOf (spot .start) page slice → 1 ≤ length hints → length hints ≤ widthBy how
-    → AllRead slice (length hints) (hitsBy how page head hints spot) (valuesBy how (spot .start) page head hints)
+    → AllFit slice (length hints) (hitsBy how page head hints spot) (valuesBy how (spot .start) page head hints)
 unfolding hitsBy valuesBy
 hits-read Freeblocks slice page head hints spot part some few = freed-reads slice spot page head hints part
 hits-read (Gaps how) slice page head hints spot part some few = page-reads slice spot page hints part how some few head
@@ -54,9 +52,8 @@ slice-fit : (a : SliceAsked) → sliceChecked a ≡ Passed → AllFit (a .page) 
 slice-fit a e =
     let n = none-holds (sliceChecksBy (a .how) (length (a .page)) (a .hints) (a .base)) e in
     let k = count-fits (length (a .hints)) (not-false _ (n .1 .0)) in
-    all-fit (a .page) (length (a .hints)) (length (a .hints)) (omega arith) (sliceHits a) (valuesBy (a .how) 0 (a .page) (a .head) (a .hints))
-    (hits-read (a .how) (a .page) (a .page) (a .head) (a .hints) (record { base = a .base; start = 0; table = 0 }) (part-rest (a .page) 0 (omega arith)) (k .0)
-    (ltb-false _ _ (n .0)))
+    hits-read (a .how) (a .page) (a .page) (a .head) (a .hints) (record { base = a .base; start = 0; table = 0 }) (part-rest (a .page) 0 (omega arith)) (k .0)
+    (ltb-false _ _ (n .0))
 
 -- THE LAW: what the promises leave reads back
 pub slice-reads-back : (a : SliceAsked) (x : RowOutcome) → FillsRows (sliceFilling a) x
@@ -68,7 +65,7 @@ slice-reads-back a x p = rows-read (a .page) (sliceFilling a) (valuesBy (a .how)
 
 -- THE LAW: the rows of any page that is there, over the database
 pub leaf-reads : (how : Carving) (db : List ℕ) (size table p : ℕ) (hints : List ℕ) → 0 < size → 1 ≤ p → p ≤ length db / size → 1 ≤ length hints → length hints ≤ widthBy how
-    → AllRead db (length hints) (leafHits how db size table hints p) (leafValues how db size hints p)
+    → AllFit db (length hints) (leafHits how db size table hints p) (leafValues how db size hints p)
 unfolding leafHits leafValues
 leaf-reads how db size table p hints sized from to some few =
     hits-read how db (pageOf db size p) (headOf p) hints (record { base = startOf size p; start = startOf size p; table = table })
@@ -81,8 +78,7 @@ numbered-fit a e =
     let k = count-fits (length (a .hints)) (not-false _ (n .1 .0)) in
     let range = size-range (a .size) (not-false _ (n .1 .1 .1 .1 .0)) in
     let t = there-page (length (a .db)) (a .size) (a .page) (not-false _ (n .1 .1 .1 .1 .1 .0)) in
-    all-fit (a .db) (length (a .hints)) (length (a .hints)) (omega arith) (numberedHits a) (leafValues (a .how) (a .db) (a .size) (a .hints) (a .page))
-    (leaf-reads (a .how) (a .db) (a .size) 0 (a .page) (a .hints) (omega (arith, range .0)) (t .0) (t .1) (k .0) (ltb-false _ _ (n .0)))
+    leaf-reads (a .how) (a .db) (a .size) 0 (a .page) (a .hints) (omega (arith, range .0)) (t .0) (t .1) (k .0) (ltb-false _ _ (n .0))
 
 -- THE LAW: what the promises leave reads back
 pub numbered-reads-back : (a : NumberedAsked) (x : RowOutcome) → FillsRows (numberedFilling a) x

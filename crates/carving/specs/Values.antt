@@ -1,8 +1,7 @@
 -- The values of the rows that the calls write (rule 4.13): what their column entries read as over the lent slice.
 -- Assumes nothing.
-use Prim.Native.Nat.{ℕ, _+_, _-_}
-use mathlib.Core.List.{List, [], _∷_, _++_}
-use lib.ListN.{length, take, replicate}
+use Prim.Native.Nat.{ℕ, _+_}
+use mathlib.Core.List.{List}
 use Rattle.carving.specs.Calls.{SliceAsked, sliceFilling, NumberedAsked, numberedFilling}
 use Rattle.carving.specs.declared.inner.Carving.{Carving}
 use Rattle.carving.specs.declared.inner.Carving.the-variants.{Freeblocks, Gaps, Payload}
@@ -11,9 +10,7 @@ use Rattle.freeblock.specs.Values.{freedValues}
 use Rattle.gap.specs.Values.{pageValues}
 use Rattle.page.specs.Page.{startOf, pageOf, headOf}
 use Rattle.record.specs.declared.record.Value.{Value}
-use Rattle.record.specs.declared.record.Value.the-variants.{Null}
-use Rattle.sheet.specs.Hits.{RowFilling, rowRoom}
-use Rattle.sheet.specs.Refusal.{afterOrKept}
+use Rattle.sheet.specs.Values.{writtenValues}
 
 -- row by row, as `hitsBy` has them, said of a slice in which the page begins at `start`
 unfoldable pub valuesBy : Carving → ℕ → List ℕ → ℕ → List ℕ → List (List Value)
@@ -25,16 +22,7 @@ valuesBy (Payload how) start page head hints = inSlice (start + 0) (payloadValue
 unfoldable pub leafValues : Carving → List ℕ → ℕ → List ℕ → ℕ → List (List Value)
 leafValues how db size hints p = valuesBy how (startOf size p) (pageOf db size p) (headOf p) hints
 
--- Rule 5.2: groups one behind the other; the entries behind a narrower row's columns are NULL
-abbrev pub groupsValues : ℕ → List (List Value) → List Value
-groupsValues width [] = []
-groupsValues width (vs ∷ vss) = (vs ++ replicate (width - length vs) Null) ++ groupsValues width vss
-
--- those of the rows that a call writes, of all that are there
-abbrev pub writtenValues : RowFilling → List (List Value) → List Value
-writtenValues a values = afterOrKept (a .checked) (groupsValues (a .width) (take (rowRoom a) values)) []
-
--- on a slice, and on a page of a database
+-- those of the rows that a call writes, on a slice, and on a page of a database
 unfoldable pub sliceValues : SliceAsked → List Value
 sliceValues a = writtenValues (sliceFilling a) (valuesBy (a .how) 0 (a .page) (a .head) (a .hints))
 

@@ -17,7 +17,7 @@ use Rattle.cells.specs.Cells.{CellRow, Looked, noCell, cell, cellAt, cel
 use Rattle.cells.specs.Inner.{cellsThere, nextPlace}
 use Rattle.cells.specs.Values.{cellValues, cellsValues, valuesBehind, rebuiltValues, startValues, rebuiltValuesFrom, payloadValues, inSlice}
 use Rattle.cells.proofs.Looking.{cell-from, cells-none, cells-end, cells-on}
-use Rattle.hit.proofs.ReadBack.{HitReads, AllRead, read-append, map-again, moved-length, found-reads}
+use Rattle.hit.proofs.ReadBack.{map-again, moved-length, found-reads}
 use Rattle.hit.specs.declared.inner.Spot.{Spot}
 use Rattle.page.specs.Page.{among}
 use Rattle.rebuild.proofs.From.{rebuilt-from}
@@ -27,6 +27,7 @@ use Rattle.record.proofs.Numbers.{by-order}
 use Rattle.record.proofs.Shifts.{PartOf, part-taken, part-rest, part-within}
 use Rattle.record.specs.Value.{movedValue}
 use Rattle.record.specs.declared.record.Value.{Value}
+use Rattle.sheet.proofs.ReadBack.{HitReads, AllFit, fit-append}
 use Rattle.starts.specs.Starts.{rebuiltStarts}
 
 -- ---- values of the payload, said of the slice
@@ -45,7 +46,7 @@ module _ (s : List ℕ) (spot : Spot) (o : ℕ) (d hints : List ℕ) (part : Par
       rw (← add-assoc (spot .start) o (c .at), map-again (spot .start + o) (c .at) (rowValues (take (c .end - c .at) (drop (c .at) d)) 0))
       (found-reads there hints 0 (c .found) (f .found) _)
 
-  cells-read : (f pos : ℕ) → AllRead s (length hints) (cellHits spot (length hints) o (cellsFrom f d hints pos)) (inSlice (spot .start + o) (cellsValues d (cellsFrom f d hints pos)))
+  cells-read : (f pos : ℕ) → AllFit s (length hints) (cellHits spot (length hints) o (cellsFrom f d hints pos)) (inSlice (spot .start + o) (cellsValues d (cellsFrom f d hints pos)))
   cells-read zero pos = rw (cells-none d hints pos) tt
   cells-read (suc f) pos =
       by-order pos (length d)
@@ -53,8 +54,8 @@ module _ (s : List ℕ) (spot : Spot) (o : ℕ) (d hints : List ℕ) (part : Par
       (λ ge. rw (cells-end d hints (suc f) pos ge) tt)
     where
       go : (l : Looked) → cellAt d hints pos ≡ l
-          → ((next : ℕ) → AllRead s (length hints) (cellHits spot (length hints) o (cellsFrom f d hints next)) (inSlice (spot .start + o) (cellsValues d (cellsFrom f d hints next))))
-          → AllRead s (length hints) (cellHits spot (length hints) o (cellsThere l ++ cellsFrom f d hints (nextPlace pos l))) (inSlice (spot .start + o) (cellsValues d (cellsThere l ++ cellsFrom f d hints (nextPlace pos l))))
+          → ((next : ℕ) → AllFit s (length hints) (cellHits spot (length hints) o (cellsFrom f d hints next)) (inSlice (spot .start + o) (cellsValues d (cellsFrom f d hints next))))
+          → AllFit s (length hints) (cellHits spot (length hints) o (cellsThere l ++ cellsFrom f d hints (nextPlace pos l))) (inSlice (spot .start + o) (cellsValues d (cellsThere l ++ cellsFrom f d hints (nextPlace pos l))))
       go noCell e rest = rest (suc pos)
       go (cell c) e rest = (cell-reads pos c e, rest (c .end))
 
@@ -78,27 +79,27 @@ module _ (s : List ℕ) (spot : Spot) (o : ℕ) (d hints : List ℕ) (part : Par
         rw (rw (add-zero v, place) at kinds-are, ← place) (values-moved rest (0 + t) ts (f .found .columns) (0 + f .found .consumed) (m .bodies)) in
         rw (← add-assoc (spot .start) o v, ← (f .same), f .guess, values, map-again (spot .start + o) v (valuesFrom (drop v d) (0 + t) ts))
         (record {
-          counts = moved-length (spot .start + o + v) (f .found .columns) ∙ (laid-reads (drop v d) (0 + t) ts (f .found .columns) (0 + f .found .consumed) (m .bodies) .counts ∙ m .counts);
+          narrow = omega (arith, moved-length (spot .start + o + v) (f .found .columns), laid-reads (drop v d) (0 + t) ts (f .found .columns) (0 + f .found .consumed) (m .bodies) .counts, m .counts);
           as-values = part-reads (part-within rest part) (0 + t) ts (f .found .columns) (0 + f .found .consumed) (m .bodies);
         })
 
-    starts-read : (S : List ℕ) (k v : ℕ) → v + k ≤ suc (length d) → AllRead s (length hints) (rebuiltFrom k how spot o S d hints v) (inSlice (spot .start + o) (rebuiltValuesFrom k how S d hints v))
+    starts-read : (S : List ℕ) (k v : ℕ) → v + k ≤ suc (length d) → AllFit s (length hints) (rebuiltFrom k how spot o S d hints v) (inSlice (spot .start + o) (rebuiltValuesFrom k how S d hints v))
     unfolding rebuiltFrom rebuiltValuesFrom
     starts-read S zero v q = tt
     starts-read S (suc k) v q =
         rw (slice-append (spot .start + o) (startValues how d h v (among v S) (rebuilt how d hints v)) (rebuiltValuesFrom k how S d hints (suc v)))
-        (read-append s (length hints) (startHits spot h o v (among v S) (rebuilt how d hints v)) (rebuiltFrom k how spot o S d hints (suc v)) _ _ (one (among v S) (rebuilt how d hints v) refl) (starts-read S k (suc v) (omega arith)))
+        (fit-append s (length hints) (startHits spot h o v (among v S) (rebuilt how d hints v)) (rebuiltFrom k how spot o S d hints (suc v)) _ _ (one (among v S) (rebuilt how d hints v) refl) (starts-read S k (suc v) (omega arith)))
       where
-        one : (b : Bool) (t : Tried) → rebuilt how d hints v ≡ t → AllRead s (length hints) (startHits spot h o v b t) (inSlice (spot .start + o) (startValues how d h v b t))
+        one : (b : Bool) (t : Tried) → rebuilt how d hints v ≡ t → AllFit s (length hints) (startHits spot h o v b t) (inSlice (spot .start + o) (startValues how d h v b t))
         one true t e = tt
         one false miss e = tt
         one false (hit x) e = (rebuilt-reads v x (omega arith) e, tt)
 
     -- THE LAW: all rows of the payload
-    pub payload-reads : AllRead s (length hints) (payloadHits how spot o d hints) (inSlice (spot .start + o) (payloadValues how d hints))
+    pub payload-reads : AllFit s (length hints) (payloadHits how spot o d hints) (inSlice (spot .start + o) (payloadValues how d hints))
     unfolding payloadHits payloadValues cellsOf
     payload-reads =
         let cs = cellsFrom (length d) d hints 0 in
         rw (slice-append (spot .start + o) (cellsValues d cs) (rebuiltValuesFrom (rebuiltStarts (length d) h) how (startsOf cs) d hints 0))
-        (read-append s (length hints) (cellHits spot h o cs) (rebuiltFrom (rebuiltStarts (length d) h) how spot o (startsOf cs) d hints 0) _ _ (cells-read (length d) 0)
+        (fit-append s (length hints) (cellHits spot h o cs) (rebuiltFrom (rebuiltStarts (length d) h) how spot o (startsOf cs) d hints 0) _ _ (cells-read (length d) 0)
         (starts-read (startsOf cs) (rebuiltStarts (length d) h) 0 (omega arith)))

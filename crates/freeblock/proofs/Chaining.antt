@@ -2,7 +2,7 @@
 -- Assumes nothing.
 use Prim.Native.Nat.{ℕ, zero, suc, _+_, _≤_, _<_}
 use mathlib.Core.Path.{_≡_, refl, sym, ap, _∙_}
-use mathlib.Core.Bool.{Bool, true, false, cond, _||_, or-true}
+use mathlib.Core.Bool.{Bool, true, false, true≢false, cond, _||_, or-true}
 use mathlib.Core.List.{List, [], _∷_}
 use mathlib.Core.Logic.{by-cases}
 use native.Mathlib.Decide.{ℕ-discrete}
@@ -100,14 +100,11 @@ module _ (page : List ℕ) (head : ℕ) where
   EndsIn zero at = chainEnds page head at ≡ true
   EndsIn (suc n) at = (chainEnds page head at ≡ false) × EndsIn n (blockNext page at)
 
-  never : {C : Type 0} (b : Bool) → b ≡ true → b ≡ false → C
-  never b e f = absurd (let z : _≡_ {A = ℕ} 0 1 = cc in omega arith)
-
   -- it ends after one number of blocks only
   same-end : (n m at : ℕ) → EndsIn n at → EndsIn m at → n ≡ m
   same-end zero zero at e f = refl
-  same-end zero (suc m) at e f = never (chainEnds page head at) e (f .0)
-  same-end (suc n) zero at e f = never (chainEnds page head at) f (e .0)
+  same-end zero (suc m) at e f = absurd (true≢false (sym e ∙ f .0))
+  same-end (suc n) zero at e f = absurd (true≢false (sym f ∙ e .0))
   same-end (suc n) (suc m) at e f = ap suc (same-end n m (blockNext page at) (e .1) (f .1))
 
   -- from each of the places more blocks come than n

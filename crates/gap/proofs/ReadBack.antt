@@ -14,7 +14,7 @@ use Rattle.cells.specs.Cells.{payloadHits}
 use Rattle.cells.specs.Values.{payloadValues, inSlice}
 use Rattle.gap.specs.Gap.{gapFrom, gapTo, hasGap, gapOf, allZero, runHits, regionHits, gapHits, chainEnds, blockThen, chainFrom, chain, blocksHits, pageHits}
 use Rattle.gap.specs.Values.{rowsValues, regionValues, gapValues, blocksValues, pageValues}
-use Rattle.hit.proofs.ReadBack.{AllRead, read-append, found-reads}
+use Rattle.hit.proofs.ReadBack.{found-reads}
 use Rattle.hit.specs.declared.inner.Spot.{Spot}
 use Rattle.page.specs.Page.{Block, payloadOf, blockNext, blockSize}
 use Rattle.rebuild.specs.Header.{mostBy}
@@ -23,12 +23,13 @@ use Rattle.record.proofs.Numbers.{by-order}
 use Rattle.record.proofs.Shifts.{PartOf, part-taken, part-within}
 use Rattle.scan.proofs.Laws.{scan-none, scan-missed, scan-found, scan-full, scan-end}
 use Rattle.scan.specs.Scan.{scanFrom}
+use Rattle.sheet.proofs.ReadBack.{AllFit, fit-append}
 
 -- ---- a region that begins at `from` in its page
 module _ (slice : List ℕ) (spot : Spot) (from : ℕ) (s hints : List ℕ) (part : PartOf (spot .start + from) s slice) where
   abbrev RunRead : ℕ → ℕ → ℕ → Type 0
   RunRead f o n =
-      AllRead slice (length hints) (runHits spot (length hints) from (scanFrom f s hints (length s) o n)) (inSlice (spot .start + from) (rowsValues s (scanFrom f s hints (length s) o n)))
+      AllFit slice (length hints) (runHits spot (length hints) from (scanFrom f s hints (length s) o n)) (inSlice (spot .start + from) (rowsValues s (scanFrom f s hints (length s) o n)))
 
   run-reads : (f o n : ℕ) → RunRead f o n
   run-reads zero o n = rw (scan-none s hints (length s) o n) tt
@@ -43,7 +44,7 @@ module _ (slice : List ℕ) (spot : Spot) (from : ℕ) (s hints : List ℕ) (par
           (λ out. rw (scan-full f s hints (length s) o n lt x e out) tt)
 
   -- THE LAW: the rows of a region
-  pub region-reads : AllRead slice (length hints) (regionHits spot from s hints) (inSlice (spot .start + from) (regionValues s hints))
+  pub region-reads : AllFit slice (length hints) (regionHits spot from s hints) (inSlice (spot .start + from) (regionValues s hints))
   unfolding regionHits regionValues
   region-reads = run-reads (length s) 0 0
 
@@ -53,17 +54,17 @@ module _ (slice : List ℕ) (spot : Spot) (from : ℕ) (s hints : List ℕ) (par
 abbrev pub BlocksRead : Rebuilding → List ℕ → Spot → List ℕ → List ℕ → List Block → Type 0
 BlocksRead how slice spot page hints [] = Unit
 BlocksRead how slice spot page hints (b ∷ bs) =
-    AllRead slice (length hints) (payloadHits how spot (b .at + 4) (payloadOf page b) hints) (inSlice (spot .start + (b .at + 4)) (payloadValues how (payloadOf page b) hints))
+    AllFit slice (length hints) (payloadHits how spot (b .at + 4) (payloadOf page b) hints) (inSlice (spot .start + (b .at + 4)) (payloadValues how (payloadOf page b) hints))
     × BlocksRead how slice spot page hints bs
 
 module _ (slice : List ℕ) (spot : Spot) (page hints : List ℕ) (part : PartOf (spot .start) page slice) where
   -- THE LAW: the rows of its gap
-  pub gap-reads : (head : ℕ) → AllRead slice (length hints) (gapHits page head hints spot) (inSlice (spot .start + gapFrom page head) (gapValues page head hints))
+  pub gap-reads : (head : ℕ) → AllFit slice (length hints) (gapHits page head hints spot) (inSlice (spot .start + gapFrom page head) (gapValues page head hints))
   unfolding gapHits gapValues hasGap
   gap-reads head = go (ltb (gapFrom page head) (gapTo page head)) (leb (gapTo page head) (length page)) (not (allZero (gapOf page head))) refl refl
     where
       go : (a b c : Bool) → ltb (gapFrom page head) (gapTo page head) ≡ a → leb (gapTo page head) (length page) ≡ b
-          → AllRead slice (length hints) (cond ((a && b) && c) (regionHits spot (gapFrom page head) (gapOf page head) hints) [])
+          → AllFit slice (length hints) (cond ((a && b) && c) (regionHits spot (gapFrom page head) (gapOf page head) hints) [])
           (inSlice (spot .start + gapFrom page head) (cond ((a && b) && c) (regionValues (gapOf page head) hints) []))
       go true true true e f =
           let lt = ltb-true (gapFrom page head) (gapTo page head) e in
@@ -101,22 +102,22 @@ module _ (slice : List ℕ) (spot : Spot) (page hints : List ℕ) (part : PartOf
     unfolding chain
     blocks-read head = steps-read _ _
 
-    all-blocks : (bs : List Block) → BlocksRead how slice spot page hints bs → AllRead slice (length hints) (blocksHits how page hints spot bs) (blocksValues how (spot .start) page hints bs)
+    all-blocks : (bs : List Block) → BlocksRead how slice spot page hints bs → AllFit slice (length hints) (blocksHits how page hints spot bs) (blocksValues how (spot .start) page hints bs)
     all-blocks [] r = tt
     all-blocks (b ∷ bs) r =
-        read-append slice (length hints) (payloadHits how spot (b .at + 4) (payloadOf page b) hints) (blocksHits how page hints spot bs)
+        fit-append slice (length hints) (payloadHits how spot (b .at + 4) (payloadOf page b) hints) (blocksHits how page hints spot bs)
         (inSlice (spot .start + (b .at + 4)) (payloadValues how (payloadOf page b) hints)) (blocksValues how (spot .start) page hints bs) (r .0) (all-blocks bs (r .1))
 
     -- THE LAW: so all rows of the page
-    pub page-reads : (head : ℕ) → AllRead slice (length hints) (pageHits how page head hints spot) (pageValues how (spot .start) page head hints)
+    pub page-reads : (head : ℕ) → AllFit slice (length hints) (pageHits how page head hints spot) (pageValues how (spot .start) page head hints)
     unfolding pageHits pageValues
     page-reads head = go (ltb (length page) (head + 8))
       where
         go : (b : Bool)
-            → AllRead slice (length hints) (cond b [] (gapHits page head hints spot ++ blocksHits how page hints spot (chain page head)))
+            → AllFit slice (length hints) (cond b [] (gapHits page head hints spot ++ blocksHits how page hints spot (chain page head)))
             (cond b [] (inSlice (spot .start + gapFrom page head) (gapValues page head hints) ++ blocksValues how (spot .start) page hints (chain page head)))
         go true = tt
         go false =
-            read-append slice (length hints) (gapHits page head hints spot) (blocksHits how page hints spot (chain page head))
+            fit-append slice (length hints) (gapHits page head hints spot) (blocksHits how page hints spot (chain page head))
             (inSlice (spot .start + gapFrom page head) (gapValues page head hints)) (blocksValues how (spot .start) page hints (chain page head)) (gap-reads head)
             (all-blocks (chain page head) (blocks-read head))

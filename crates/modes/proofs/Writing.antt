@@ -2,7 +2,7 @@
 -- Assumes nothing.
 use Prim.Native.Nat.{ℕ, zero, suc, _+_, _-_, _*_, _≤_, _<_}
 use mathlib.Core.Path.{_≡_, refl, sym, ap, _∙_}
-use mathlib.Core.List.{List, [], _∷_, _++_, append-assoc}
+use mathlib.Core.List.{List, [], _∷_, _++_}
 use native.Mathlib.Omega.{arith}
 use lib.ListN.{length, length-append}
 use lib.Seq.{sets}
@@ -14,7 +14,7 @@ use Rattle.modes.proofs.Reading.{kinds-step, kinds-cut, kinds-none}
 use Rattle.record.specs.Varint.{varintAt}
 use Rattle.record.specs.declared.varint.Cursor.{Cursor}
 use Rattle.record.specs.declared.varint.Varint.the-variants.{Value, Short}
-use Rattle.sheet.proofs.Laws.{column-words-length, columns-words-length, sets-append, room-rows, room-cols, counted-fits}
+use Rattle.sheet.proofs.Laws.{column-words-length, columns-words-length, columns-append, sets-append, room-rows, room-cols, counted-fits}
 use Rattle.sheet.specs.Columns.{columnWords, unusedWords, roomOf}
 use Rattle.sheet.specs.Limits.{wordsPerEntry}
 use Rattle.sheet.specs.Refusal.{firstHeld}
@@ -64,10 +64,6 @@ module _ (s ts : List ℕ) (start : ℕ) (cols₀ : List ℕ) (k at end : ℕ) (
   written-all z = nothing-left (rw z (kinds-none s at))
 
 -- ---- the group of a row
-pub columns-append : (a b : List Column) → columnsWords (a ++ b) ≡ columnsWords a ++ columnsWords b
-columns-append [] b = refl
-columns-append (c ∷ a) b = rw (columns-append a b) (sym (append-assoc (columnWords c) (columnsWords a) (columnsWords b)))
-
 pub lost-length : (n : ℕ) → length (lostColumns n) ≡ n
 lost-length zero = refl
 lost-length (suc n) = ap suc (lost-length n)

@@ -9,12 +9,13 @@ use denote.Ref.{now}
 use denote.Triple.Clauses.{AtExit}
 use borrow.Fn.Kinds.{Dens, resT, endedOf}
 use lib.ListN.{length}
-use Rattle.modes.proofs.Entries.{AllFew, ReadBack}
-use Rattle.modes.proofs.ReadBack.{written-read}
+use Rattle.modes.proofs.Entries.{AllFew, found-fit}
 use Rattle.modes.specs.Found.{Tried, miss, hit, endOf}
+use Rattle.modes.specs.Values.{rowsValues}
 use Rattle.record.proofs.Numbers.{by-order}
+use Rattle.sheet.proofs.ReadBack.{ReadBack, rows-read}
 use Rattle.sheet.specs.Filled.{filledWritten}
-use Rattle.unalloc.specs.Learned.{attemptAt, rowsFrom, rowsFound, learnedFilling}
+use Rattle.unalloc.specs.Learned.{attemptAt, rowsFrom, rowsFound}
 use Rattle.unalloc.specs.Values.{learnedValues}
 use Rattle.unalloc.proofs.Attempting.{attempt-found}
 use Rattle.unalloc.proofs.Running.{rows-hit, rows-miss, rows-end}
@@ -46,5 +47,4 @@ unfolding learnedValues
 carve-reads-back k a x s p =
     let region = now (a .0) in
     let types = now (a .1 .0) in
-    let asked = learnedFilling region types (a .1 .1 .0) (now (a .1 .1 .1 .0)) (now (a .1 .1 .1 .1 .0)) in
-    rw (p .written, p .entries) (written-read region (a .1 .1 .0) asked (rowsFound region types) refl (few-found region types))
+    rows-read region _ (rowsValues region (rowsFound region types)) _ p (λ e. found-fit region (a .1 .1 .0) (length types) (rowsFound region types) (few-found region types))

@@ -2,10 +2,11 @@
 -- Assumes nothing.
 use Prim.Native.Nat.{ℕ}
 use mathlib.Core.List.{List}
-use Rattle.modes.specs.Values.{writtenValues}
+use Rattle.modes.specs.Values.{rowsValues}
 use Rattle.record.specs.declared.record.Value.{Value}
+use Rattle.sheet.specs.Values.{writtenValues}
 use Rattle.unalloc.specs.Learned.{rowsFound, learnedFilling}
 
 -- Rule 14.6
 unfoldable pub learnedValues : List ℕ → List ℕ → ℕ → List ℕ → List ℕ → List Value
-learnedValues s ls base rows cols = writtenValues s (learnedFilling s ls base rows cols) (rowsFound s ls)
+learnedValues s ls base rows cols = writtenValues (learnedFilling s ls base rows cols) (rowsValues s (rowsFound s ls))

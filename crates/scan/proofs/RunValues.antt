@@ -2,7 +2,7 @@
 -- Assumes nothing.
 use Prim.Native.Nat.{ℕ, zero, suc, _+_, _-_, _*_, _<_}
 use mathlib.Core.Path.{_≡_, refl, sym}
-use mathlib.Core.List.{List, [], _++_, map, append-assoc, map-append}
+use mathlib.Core.List.{List, [], _++_, append-assoc}
 use native.Mathlib.Nat.{suc-mul, zero-mul}
 use native.Mathlib.Omega.{arith}
 use lib.ListN.{length, length-append}
@@ -10,30 +10,22 @@ use Rattle.attempt.proofs.ReadBack.{hit-reads}
 use Rattle.attempt.specs.Attempt.{Found, Tried, miss, hit, attemptAt}
 use Rattle.attempt.specs.Values.{rowValues}
 use Rattle.record.proofs.Numbers.{by-order}
-use Rattle.record.specs.Entry.{readEntry}
-use Rattle.record.specs.declared.entry.EntryRead.the-variants.{Of}
 use Rattle.scan.specs.Scan.{Run, through, noRoom, found, scanFrom, rowCount, entriesOf}
 use Rattle.scan.specs.Sheet.{runValues}
 use Rattle.scan.proofs.Running.{scan-none, scan-missed, scan-found, scan-full, scan-end}
 use Rattle.sheet.proofs.Laws.{columns-words-length}
+use Rattle.sheet.proofs.ReadBack.{ReadBack, nothing-read, reads-before}
 use Rattle.sheet.specs.Limits.{wordsPerEntry}
-use Rattle.sheet.specs.Sheet.{columnsWords, entriesIn, AllWithin}
+use Rattle.sheet.specs.Sheet.{columnsWords}
 
--- of a run: how many words its entries have, that they lie in the region, and what they read as, whatever words stand behind them
+-- of a run: how many words its entries have, and what they read as, whatever words stand behind them
 pub record RunReads (s : List ℕ) (columns : ℕ) (t : Run) : Type 0 where
   pub words : length (entriesOf t) ≡ rowCount t * (wordsPerEntry * columns)
-  pub reads : (rest : List ℕ) → map (λ e. readEntry e s) (entriesIn (rowCount t * columns) (entriesOf t ++ rest)) ≡ map Of (runValues s t)
-  pub within : (rest : List ℕ) → AllWithin (length s) (entriesIn (rowCount t * columns) (entriesOf t ++ rest))
+  pub back : (rest : List ℕ) → ReadBack s (rowCount t * columns) (entriesOf t ++ rest) (runValues s t)
 
 module _ (s hints : List ℕ) where
   pub reads-none : (t : Run) → entriesOf t ≡ [] → rowCount t ≡ 0 → runValues s t ≡ [] → RunReads s (length hints) t
-  reads-none t e r v =
-      let z = zero-mul (length hints) in
-      record {
-        words = rw (e, r) (sym (zero-mul (wordsPerEntry * length hints)));
-        reads = λ rest. rw (r, v, z) refl;
-        within = λ rest. rw (r, z) tt;
-      }
+  reads-none t e r v = record { words = rw (e, r) (sym (zero-mul (wordsPerEntry * length hints))); back = λ rest. rw (r, v) (nothing-read s (length hints) (entriesOf t ++ rest)) }
 
   -- THE LAW: a row more
   pub reads-found : (o : ℕ) (x : Found) (t : Run) → attemptAt s hints o ≡ hit x → RunReads s (length hints) t → RunReads s (length hints) (found o x t)
@@ -42,9 +34,9 @@ module _ (s hints : List ℕ) where
       let n : suc (rowCount t) * length hints ≡ length (x .columns) + rowCount t * length hints = omega (arith, suc-mul (rowCount t) (length hints), h .0) in
       record {
         words = omega (arith, length-append (columnsWords (x .columns)) (entriesOf t), columns-words-length (x .columns), h .0, r .words, suc-mul (rowCount t) (wordsPerEntry * length hints));
-        reads = λ rest.
-            rw (n, append-assoc (columnsWords (x .columns)) (entriesOf t) rest, h .1 (rowCount t * length hints) (entriesOf t ++ rest), r .reads rest, map-append Of (rowValues s o) (runValues s t));
-        within = λ rest. rw (n, append-assoc (columnsWords (x .columns)) (entriesOf t) rest) (h .2 (rowCount t * length hints) (entriesOf t ++ rest) (r .within rest));
+        back = λ rest.
+            rw (n, append-assoc (columnsWords (x .columns)) (entriesOf t) rest)
+            (reads-before s (x .columns) (rowValues s o) (rowCount t * length hints) (entriesOf t ++ rest) (runValues s t) (h .1) (r .back rest));
       }
 
   -- THE LAW: so a scan
@@ -58,7 +50,7 @@ module _ (s hints : List ℕ) where
           → RunReads s (length hints) (scanFrom (suc f) s hints room o n)
       go lt miss e rest =
           let r = rest (o + 1) n in
-          rw (scan-missed f s hints room o n lt e) (record { words = r .words; reads = r .reads; within = r .within })
+          rw (scan-missed f s hints room o n lt e) (record { words = r .words; back = r .back })
       go lt (hit x) e rest =
           by-order n room
           (λ in′. rw (scan-found f s hints room o n lt x e in′) (reads-found o x _ e (rest (o + x .consumed) (n + 1))))

@@ -2,11 +2,8 @@
 -- Assumes nothing.
 use Prim.Native.Nat.{ℕ, _*_, _≤_}
 use mathlib.Core.Path.{_≡_}
-use mathlib.Core.Bool.{cond}
 use mathlib.Core.List.{List, [], _++_}
-use lib.Dec.{ltb}
 use lib.ListN.{length, take}
-use Rattle.attempt.specs.Attempt.{Tried, miss, hit, attemptAt}
 use Rattle.attempt.specs.Places.{mostPlaces}
 use Rattle.attempt.specs.Values.{rowValues}
 use Rattle.record.specs.Places.{AgreeAt}
@@ -105,12 +102,3 @@ runValues s (found o x t) = rowValues s o ++ runValues s t
 
 unfoldable pub askedValues : Asked → List Value
 askedValues a = afterOrKept (askedChecked a) (runValues (a .region) (askedRun a)) []
-
--- and of the one that an attempt finds, where there is room for it
-abbrev pub triedValues : List ℕ → ℕ → ℕ → Tried → List Value
-triedValues s o room miss = []
-triedValues s o room (hit x) = cond (ltb 0 room) (rowValues s o) []
-
-unfoldable pub onceValues : List ℕ → List ℕ → ℕ → ℕ → ℕ → ℕ → List Value
-onceValues s hints base o rows cols =
-    afterOrKept (scanChecked s hints base) (triedValues s o (roomOf rows cols (length hints)) (attemptAt s hints o)) []

@@ -89,6 +89,15 @@ module _ (s : List ℕ) where
         within = λ m rest w. rw (n m, words rest) (p .within (length b + m) (columnsWords b ++ rest) (q .within m rest w));
       }
 
+  -- ---- entries from the front of a list on: none, and columns before others
+  pub nothing-read : (width : ℕ) (cols : List ℕ) → ReadBack s (0 * width) cols []
+  nothing-read width cols = rw (zero-mul width) (record { reads = refl; within = tt })
+
+  pub reads-before : (cs : List Column) (vs : List Value) (n : ℕ) (cols : List ℕ) (values : List Value) → Reads s cs vs → ReadBack s n cols values
+      → ReadBack s (length cs + n) (columnsWords cs ++ cols) (vs ++ values)
+  reads-before cs vs n cols values r b =
+      record { reads = r .reads n cols ∙ rw (b .reads) (sym (map-append Of vs values)); within = r .within n cols (b .within) }
+
   -- columns that read as values are as many
   entries-length : (n : ℕ) (ws : List ℕ) → length (entriesIn n ws) ≡ n
   entries-length zero ws = refl
@@ -138,7 +147,7 @@ module _ (s : List ℕ) where
   -- THE LAW: groups of rows read as the rows' values, whatever words stand behind them
   groups-read : (width : ℕ) (hs : List Hit) (vss : List (List Value)) (rest : List ℕ) → AllFit width hs vss
       → ReadBack s (length hs * width) (groupsWords width hs ++ rest) (groupsValues width vss)
-  groups-read width [] [] rest r = rw (zero-mul width) (record { reads = refl; within = tt })
+  groups-read width [] [] rest r = nothing-read width rest
   groups-read width [] (vs ∷ vss) rest r = absurd r
   groups-read width (h ∷ hs) [] rest r = absurd r
   groups-read width (h ∷ hs) (vs ∷ vss) rest r =
@@ -152,11 +161,7 @@ module _ (s : List ℕ) where
       = omega (arith, suc-mul (length hs) width, length-append cs pad, length-replicate (width - length cs) Unused, r .0 .narrow) in
       let words : (groupWords width h ++ groupsWords width hs) ++ rest ≡ columnsWords (cs ++ pad) ++ behind
       = append-assoc (groupWords width h) (groupsWords width hs) rest ∙ rw (unused-are (width - length cs), columns-append cs pad) in
-      rw (n, words)
-      (record {
-        reads = group .reads (length hs * width) behind ∙ rw (later .reads) (sym (map-append Of (vs ++ replicate (width - length vs) Null) (groupsValues width vss)));
-        within = group .within (length hs * width) behind (later .within);
-      })
+      rw (n, words) (reads-before (cs ++ pad) (vs ++ replicate (width - length vs) Null) (length hs * width) behind (groupsValues width vss) group later)
 
   -- THE LAW: what a call leaves that writes such rows, as many as there is room for, unless a check refuses
   written-read : (a : RowFilling) (vss : List (List Value)) (c : Checked) → (c ≡ Passed → AllFit (a .width) (a .hits) vss)
@@ -165,7 +170,7 @@ module _ (s : List ℕ) where
       let written = take (rowRoom a) (a .hits) in
       rw (sym (length-take (rowRoom a) (a .hits)))
       (groups-read (a .width) written (take (rowRoom a) vss) (drop (length (groupsWords (a .width) written)) (a .cols)) (fit-taken (rowRoom a) (a .width) (a .hits) vss (f refl)))
-  written-read a vss (Held k) f = rw (zero-mul (a .width)) (record { reads = refl; within = tt })
+  written-read a vss (Held k) f = nothing-read (a .width) (a .cols)
 
   pub rows-read : (a : RowFilling) (vss : List (List Value)) (x : RowOutcome) → FillsRows a x → (a .checked ≡ Passed → AllFit (a .width) (a .hits) vss)
       → ReadBack s (filledWritten (x .answer) * a .width) (x .cols) (writtenValues a vss)

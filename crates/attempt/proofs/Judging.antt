@@ -1,7 +1,7 @@
 -- The ways out of an attempt: what each says of the definition, and of the header places.
 -- Assumes nothing.
 use Prim.Native.Nat.{ℕ, _+_, _-_, _≤_, _<_}
-use mathlib.Core.Path.{_≡_, refl, sym, ap, _∙_}
+use mathlib.Core.Path.{_≡_, refl, ap, _∙_}
 use mathlib.Core.Bool.{Bool, true, false, false≢true, _&&_}
 use mathlib.Core.List.{List, [], _++_}
 use native.Mathlib.Omega.{arith}
@@ -13,14 +13,12 @@ use Rattle.record.proofs.Numbers.{by-order, by-test}
 use Rattle.record.specs.Places.{placesFrom, stopOf, varintPlaces}
 use Rattle.record.specs.Varint.{varintAt}
 use Rattle.record.specs.declared.varint.Cursor.{Cursor}
-use Rattle.record.specs.declared.varint.Varint.{Varint}
 use Rattle.record.specs.declared.varint.Varint.the-variants.{Value, Short}
-use Rattle.attempt.specs.Attempt.{Types, ended, cut, kind, kinds, isWhole, Tried, miss, judged, judgedWhole, headerFits, attemptAt, mostBytes}
-use Rattle.attempt.specs.Hints.{suited}
-use Rattle.attempt.specs.Inner.{reach, headerTypes, totalFrom, sizes, Headed, WholeIs, MissIs, HitIs}
+use Rattle.attempt.specs.Attempt.{Types, ended, cut, kind, kinds, isWhole, miss, judged, judgedWhole, headerFits, attemptAt, mostBytes}
+use Rattle.attempt.specs.Inner.{reach, headerTypes, totalFrom, Headed, WholeIs, MissIs, HitIs}
 use Rattle.attempt.specs.Places.{mostPlaces, typePlaces, attemptPlaces}
 use Rattle.attempt.proofs.Bodies.{total-min, miss-count, miss-total, hit-total}
-use Rattle.attempt.proofs.Types.{Stops, stops, types-end}
+use Rattle.attempt.proofs.Types.{stops, types-end}
 use Rattle.sheet.specs.Limits.{mostHeader}
 
 cut-reach : (s : List ℕ) (ts : Types) → isWhole ts ≡ false → reach s ts ≡ length s

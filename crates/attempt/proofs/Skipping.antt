@@ -7,7 +7,7 @@ use mathlib.Core.List.{List}
 use native.Mathlib.Omega.{arith}
 use lib.ListN.{length, getD}
 use Rattle.attempt.proofs.Types.{types-step, types-cut, types-none, types-end}
-use Rattle.attempt.specs.Attempt.{Types, ended, cut, kind, kinds, isWhole, typesFrom}
+use Rattle.attempt.specs.Attempt.{Types, kinds, isWhole, typesFrom}
 use Rattle.attempt.specs.Inner.{reach, Ends}
 use Rattle.record.proofs.Laws.{varint-lies, varint-reach, varint-ends}
 use Rattle.record.proofs.Numbers.{by-order}

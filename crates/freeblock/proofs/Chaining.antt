@@ -7,14 +7,13 @@ use mathlib.Core.List.{List, [], _∷_}
 use mathlib.Core.Logic.{by-cases}
 use native.Mathlib.Decide.{ℕ-discrete}
 use native.Mathlib.Nat.{add-zero, zero-add}
-use native.Mathlib.Numerals.{add-one}
 use native.Mathlib.Omega.{arith}
 use borrow.Author.Tests.{lt-ltb, le-ltb, ltb-false, eqb-true, eq-eqb, ne-eqb}
 use lib.Dec.{ltb, eqb}
 use lib.ListN.{length, getD, set, replicate, length-set, length-replicate, getD-replicate}
 use lib.Seq.{getD-set-same, getD-set-other}
 use Rattle.freeblock.specs.Freeblock.{chainEnds, blocksFrom, freeblocks}
-use Rattle.page.specs.Page.{among, firstFreeblock, blockNext, blockSize, Block}
+use Rattle.page.specs.Page.{among, firstFreeblock, blockNext, blockSize}
 use Rattle.sheet.proofs.Laws.{neither}
 
 -- ---- where it ends

@@ -3,10 +3,10 @@
 use Prim.Native.Nat.{ℕ, zero, suc, _+_, _-_, _≤_, min}
 use mathlib.Core.Path.{_≡_, refl}
 use mathlib.Core.Bool.{Bool, true, false, cond, _||_}
-use mathlib.Core.List.{List, [], _∷_, _++_}
+use mathlib.Core.List.{List, [], _∷_}
 use native.Mathlib.Nat.{add-assoc}
 use native.Mathlib.Omega.{arith}
-use lib.ListN.{length, take, drop}
+use lib.ListN.{length, drop}
 use Rattle.attempt.specs.Attempt.{Tried, miss, hit, attemptAt}
 use Rattle.freeblock.specs.Freeblock.{chainEnds, blocksFrom, freeblocks, mostStarts, firstOr, firstFrom, firstStart, firstHits, blockHits, blocksHits, pageHits}
 use Rattle.freeblock.specs.Values.{firstValues, blocksValues, freedValues}

@@ -24,7 +24,7 @@ use Rattle.sheet.specs.declared.filled.Filled.the-variants.{Done, Full}
 use Rattle.sheet.specs.declared.inner.Carved.the-variants.{On as More, Full as NoMore}
 
 -- a row whose columns fill its group
-pub group-whole : (width : ℕ) (h : Hit) → length (h .columns) ≡ width → groupWords width h ≡ columnsWords (h .columns)
+group-whole : (width : ℕ) (h : Hit) → length (h .columns) ≡ width → groupWords width h ≡ columnsWords (h .columns)
 unfolding unusedWords
 group-whole width h e = rw (← e, sub-self (length (h .columns))) (append-nil (columnsWords (h .columns)))
 

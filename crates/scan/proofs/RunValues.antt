@@ -8,13 +8,12 @@ use native.Mathlib.Omega.{arith}
 use lib.ListN.{length, length-append}
 use Rattle.attempt.proofs.ReadBack.{hit-reads}
 use Rattle.attempt.specs.Attempt.{Found, Tried, miss, hit, attemptAt}
-use Rattle.attempt.specs.Values.{rowValues}
 use Rattle.record.proofs.Numbers.{by-order}
 use Rattle.scan.specs.Scan.{Run, through, noRoom, found, scanFrom, rowCount, entriesOf}
 use Rattle.scan.specs.Sheet.{runValues}
 use Rattle.scan.proofs.Running.{scan-none, scan-missed, scan-found, scan-full, scan-end}
 use Rattle.sheet.proofs.Laws.{columns-words-length}
-use Rattle.sheet.proofs.ReadBack.{ReadBack, nothing-read, reads-before}
+use Rattle.sheet.proofs.ReadBack.{ReadBack, nothing-read}
 use Rattle.sheet.specs.Limits.{wordsPerEntry}
 use Rattle.sheet.specs.Sheet.{columnsWords}
 
@@ -36,7 +35,7 @@ module _ (s hints : List ℕ) where
         words = omega (arith, length-append (columnsWords (x .columns)) (entriesOf t), columns-words-length (x .columns), h .0, r .words, suc-mul (rowCount t) (wordsPerEntry * length hints));
         back = λ rest.
             rw (n, append-assoc (columnsWords (x .columns)) (entriesOf t) rest)
-            (reads-before s (x .columns) (rowValues s o) (rowCount t * length hints) (entriesOf t ++ rest) (runValues s t) (h .1) (r .back rest));
+            (h .1 .before (rowCount t * length hints) (entriesOf t ++ rest) (runValues s t) (r .back rest));
       }
 
   -- THE LAW: so a scan

@@ -7,14 +7,14 @@ use mathlib.Core.List.{List, [], _∷_, _++_, append-nil, append-assoc}
 use native.Mathlib.Nat.{add-mul, suc-mul, min-le-left, mul-le-mul-right}
 use native.Mathlib.Omega.{arith}
 use borrow.Author.Tests.{le-leb, lt-leb}
-use lib.ListN.{length, take, drop, length-append, length-take}
+use lib.ListN.{length, take, length-append, length-take}
 use lib.Seq.{sets, take-nil, take-all, take-append-le, take-append-add}
 use Rattle.record.proofs.Numbers.{by-order}
 use Rattle.sheet.proofs.Laws.{sets-append, rows-words-length, columns-words-length, unused-words-length, room-rows, room-cols, laid-over}
-use Rattle.sheet.specs.Columns.{unusedWords, roomOf}
+use Rattle.sheet.specs.Columns.{roomOf}
 use Rattle.sheet.specs.Limits.{wordsPerRow, wordsPerEntry}
 use Rattle.sheet.specs.Row.{rowWords}
-use Rattle.sheet.specs.Sheet.{overlay, rowsWords, columnsWords}
+use Rattle.sheet.specs.Sheet.{overlay, rowsWords}
 use Rattle.sheet.specs.Hits.{Hit, rowsOf, groupWords, groupsWords}
 use Rattle.sheet.specs.Inner.{Puts, Told, on, over, short, carvedTo, Carves}
 

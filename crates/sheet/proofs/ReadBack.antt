@@ -2,7 +2,7 @@
 -- Assumes nothing.
 use Prim.Native.Nat.{ℕ, zero, suc, _+_, _-_, _*_, _≤_, min}
 use mathlib.Core.Path.{_≡_, refl, sym, ap, _∙_}
-use mathlib.Core.List.{List, [], _∷_, _++_, map, append-assoc, map-append}
+use mathlib.Core.List.{List, [], _∷_, _++_, map, append-assoc}
 use native.Mathlib.Nat.{zero-add, zero-mul, suc-add, suc-mul, add-assoc}
 use native.Mathlib.Omega.{arith}
 use lib.Dec.{lit≤}
@@ -19,6 +19,7 @@ use Rattle.record.specs.declared.record.Value.the-variants.{Null}
 use Rattle.sheet.specs.Columns.{columnWords, unusedWords}
 use Rattle.sheet.specs.Filled.{filledWritten}
 use Rattle.sheet.specs.Hits.{Hit, groupWords, groupsWords, RowFilling, rowRoom, RowOutcome, FillsRows, rowsWritten, entriesLeft}
+use Rattle.sheet.specs.Limits.{wordsPerEntry}
 use Rattle.sheet.specs.Refusal.{afterOr0, afterOrKept}
 use Rattle.sheet.specs.Sheet.{overlay, columnsWords, entriesIn, AllWithin}
 use Rattle.sheet.specs.Values.{groupsValues, writtenValues}
@@ -33,10 +34,9 @@ pub record ReadBack (s : List ℕ) (n : ℕ) (cols : List ℕ) (values : List Va
   pub reads : map (λ e. readEntry e s) (entriesIn n cols) ≡ map Of values
   pub within : AllWithin (length s) (entriesIn n cols)
 
--- whatever words stand behind theirs, columns lie in the slice, and read over it as these values
+-- columns lie in the slice, and read over it as these values, before entries that read as others
 pub record Reads (s : List ℕ) (cs : List Column) (vs : List Value) : Type 0 where
-  pub reads : (m : ℕ) (rest : List ℕ) → map (λ e. readEntry e s) (entriesIn (length cs + m) (columnsWords cs ++ rest)) ≡ map Of vs ++ map (λ e. readEntry e s) (entriesIn m rest)
-  pub within : (m : ℕ) (rest : List ℕ) → AllWithin (length s) (entriesIn m rest) → AllWithin (length s) (entriesIn (length cs + m) (columnsWords cs ++ rest))
+  pub before : (n : ℕ) (cols : List ℕ) (values : List Value) → ReadBack s n cols values → ReadBack s (length cs + n) (columnsWords cs ++ cols) (vs ++ values)
 
 -- a row of at most so many columns, which read as these values
 pub record HitReads (s : List ℕ) (width : ℕ) (h : Hit) (vs : List Value) : Type 0 where
@@ -46,24 +46,28 @@ pub record HitReads (s : List ℕ) (width : ℕ) (h : Hit) (vs : List Value) : T
 module _ (s : List ℕ) where
   -- ---- columns
   pub reads-nil : Reads s [] []
-  reads-nil = record { reads = λ m rest. rw (zero-add m); within = λ m rest w. rw (zero-add m) w }
+  reads-nil = record { before = λ n cols values b. rw (zero-add n) b }
+
+  -- one more, by its entry
+  reads-one : (c : Column) (state kind start len : ℕ) (v : Value) (cs : List Column) (vs : List Value) → columnWords c ≡ state ∷ kind ∷ start ∷ len ∷ []
+      → readEntry (record { state = state; kind = kind; start = start; len = len }) s ≡ Of v → start + len ≤ length s → Reads s cs vs → Reads s (c ∷ cs) (v ∷ vs)
+  reads-one c state kind start len v cs vs words is in′ r =
+      record {
+        before = λ n cols values b.
+            let later = r .before n cols values b in
+            rw (suc-add (length cs) n, words) (record { reads = rw (is, later .reads); within = (in′, later .within) });
+      }
 
   pub reads-body : (t at n : ℕ) (cs : List Column) (vs : List Value) → bodyLength t ≡ Bytes n → at + n ≤ length s → Reads s cs vs → Reads s (Body t at n ∷ cs) (valueOf t s at n ∷ vs)
   unfolding columnWords
-  reads-body t at n cs vs l in′ r =
-      record {
-        reads = λ m rest. rw (suc-add (length cs) m, entry-body (record { state = 0; kind = t; start = at; len = n }) s refl l in′ .0, r .reads m rest);
-        within = λ m rest w. rw (suc-add (length cs) m) (in′, r .within m rest w);
-      }
+  reads-body t at n cs vs l in′ =
+      reads-one (Body t at n) 0 t at n (valueOf t s at n) cs vs refl (entry-body (record { state = 0; kind = t; start = at; len = n }) s refl l in′ .0) in′
 
   -- the three states that have no body
   reads-null : (c : Column) (state kind : ℕ) (cs : List Column) (vs : List Value) → columnWords c ≡ state ∷ kind ∷ 0 ∷ 0 ∷ [] → (state ≡ bodyState → ⊥) → state ≤ unusedState
       → Reads s cs vs → Reads s (c ∷ cs) (Null ∷ vs)
-  reads-null c state kind cs vs e other hi r =
-      record {
-        reads = λ m rest. rw (suc-add (length cs) m, e, entry-null (record { state = state; kind = kind; start = 0; len = 0 }) s other hi .0, r .reads m rest);
-        within = λ m rest w. rw (suc-add (length cs) m, e) (omega arith, r .within m rest w);
-      }
+  reads-null c state kind cs vs words other hi =
+      reads-one c state kind 0 0 Null cs vs words (entry-null (record { state = state; kind = kind; start = 0; len = 0 }) s other hi .0) (omega arith)
 
   pub reads-unfit : (t : ℕ) (cs : List Column) (vs : List Value) → Reads s cs vs → Reads s (Unfit t ∷ cs) (Null ∷ vs)
   unfolding columnWords
@@ -80,35 +84,23 @@ module _ (s : List ℕ) where
 
   pub reads-append : (a b : List Column) (x y : List Value) → Reads s a x → Reads s b y → Reads s (a ++ b) (x ++ y)
   reads-append a b x y p q =
-      let n : (m : ℕ) → length (a ++ b) + m ≡ length a + (length b + m) = λ m. rw (length-append a b) (add-assoc (length a) (length b) m) in
-      let words : (rest : List ℕ) → columnsWords (a ++ b) ++ rest ≡ columnsWords a ++ (columnsWords b ++ rest)
-      = λ rest. rw (columns-append a b) (append-assoc (columnsWords a) (columnsWords b) rest) in
       record {
-        reads = λ m rest.
-            rw (n m, words rest, p .reads (length b + m) (columnsWords b ++ rest), q .reads m rest, map-append Of x y) (sym (append-assoc (map Of x) (map Of y) (map (λ e. readEntry e s) (entriesIn m rest))));
-        within = λ m rest w. rw (n m, words rest) (p .within (length b + m) (columnsWords b ++ rest) (q .within m rest w));
+        before = λ n cols values r.
+            rw (length-append a b, add-assoc (length a) (length b) n, columns-append a b, append-assoc (columnsWords a) (columnsWords b) cols, append-assoc x y values)
+            (p .before (length b + n) (columnsWords b ++ cols) (y ++ values) (q .before n cols values r));
       }
-
-  -- ---- entries from the front of a list on: none, and columns before others
-  pub nothing-read : (width : ℕ) (cols : List ℕ) → ReadBack s (0 * width) cols []
-  nothing-read width cols = rw (zero-mul width) (record { reads = refl; within = tt })
-
-  pub reads-before : (cs : List Column) (vs : List Value) (n : ℕ) (cols : List ℕ) (values : List Value) → Reads s cs vs → ReadBack s n cols values
-      → ReadBack s (length cs + n) (columnsWords cs ++ cols) (vs ++ values)
-  reads-before cs vs n cols values r b =
-      record { reads = r .reads n cols ∙ rw (b .reads) (sym (map-append Of vs values)); within = r .within n cols (b .within) }
 
   -- columns that read as values are as many
   entries-length : (n : ℕ) (ws : List ℕ) → length (entriesIn n ws) ≡ n
   entries-length zero ws = refl
-  entries-length (suc n) ws = ap suc (entries-length n (drop 4 ws))
+  entries-length (suc n) ws = ap suc (entries-length n (drop wordsPerEntry ws))
 
   as-many : (cs : List Column) (vs : List Value) → Reads s cs vs → length cs ≡ length vs
   as-many cs vs r =
       let read : Entry → EntryRead = λ e. readEntry e s in
-      let there = entriesIn (length cs + 0) (columnsWords cs ++ []) in
-      omega
-      (arith, ap (λ (l : List EntryRead). length l) (r .reads 0 []), length-map there read, entries-length (length cs + 0) (columnsWords cs ++ []), length-append (map Of vs) (map read (entriesIn 0 [])), length-map vs Of)
+      let same = ap (λ (l : List EntryRead). length l) (r .before 0 [] [] (record { reads = refl; within = tt }) .reads) in
+      let words = columnsWords cs ++ [] in
+      omega (arith, same, length-map (entriesIn (length cs + 0) words) read, entries-length (length cs + 0) words, length-map (vs ++ []) Of, length-append vs [])
 
   -- ---- rows of at most so many columns, each with its values
   abbrev pub AllFit : ℕ → List Hit → List (List Value) → Type 0
@@ -138,6 +130,9 @@ module _ (s : List ℕ) where
   fit-taken (suc n) width (h ∷ hs) (vs ∷ vss) r = (r .0, fit-taken n width hs vss (r .1))
 
   -- ---- groups
+  pub nothing-read : (width : ℕ) (cols : List ℕ) → ReadBack s (0 * width) cols []
+  nothing-read width cols = rw (zero-mul width) (record { reads = refl; within = tt })
+
   -- what pads a group are columns too
   unused-are : (n : ℕ) → unusedWords n ≡ columnsWords (replicate n Unused)
   unfolding unusedWords
@@ -161,7 +156,7 @@ module _ (s : List ℕ) where
       = omega (arith, suc-mul (length hs) width, length-append cs pad, length-replicate (width - length cs) Unused, r .0 .narrow) in
       let words : (groupWords width h ++ groupsWords width hs) ++ rest ≡ columnsWords (cs ++ pad) ++ behind
       = append-assoc (groupWords width h) (groupsWords width hs) rest ∙ rw (unused-are (width - length cs), columns-append cs pad) in
-      rw (n, words) (reads-before (cs ++ pad) (vs ++ replicate (width - length vs) Null) (length hs * width) behind (groupsValues width vss) group later)
+      rw (n, words) (group .before (length hs * width) behind (groupsValues width vss) later)
 
   -- THE LAW: what a call leaves that writes such rows, as many as there is room for, unless a check refuses
   written-read : (a : RowFilling) (vss : List (List Value)) (c : Checked) → (c ≡ Passed → AllFit (a .width) (a .hits) vss)

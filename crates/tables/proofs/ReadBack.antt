@@ -15,16 +15,15 @@ use borrow.Fn.Kinds.{Dens, resT, endedOf}
 use lib.Dec.{ltb}
 use lib.ListN.{length}
 use Rattle.carving.proofs.Callers.{narrow-on}
-use Rattle.carving.proofs.Entries.{AllFit, all-fit, fit-append, rows-read}
 use Rattle.carving.proofs.ReadBack.{leaf-reads}
 use Rattle.carving.specs.Calls.{widthBy, leafHits}
 use Rattle.carving.specs.Values.{leafValues}
 use Rattle.carving.specs.declared.inner.Carving.the-variants.{Freeblocks, Gaps}
 use Rattle.carving.specs.declared.inner.Carving.{Carving}
 use Rattle.page.specs.Page.{wholePages}
-use Rattle.scan.proofs.ReadBack.{ReadBack}
 use Rattle.record.specs.declared.record.Value.{Value}
 use Rattle.sheet.proofs.Laws.{none-holds, filled-numbers}
+use Rattle.sheet.proofs.ReadBack.{ReadBack, AllFit, all-fit, fit-append, rows-read}
 use Rattle.sheet.specs.Hits.{Hit, RowFilling, rowRoom, rowsAnswer, rowsNumber, rowsWritten, rowsLeft, entriesLeft, rowOutcome, FillsRows}
 use Rattle.sheet.specs.Refusal.{afterOr0}
 use Rattle.sheet.specs.declared.refusal.Checked.the-variants.{Passed}

@@ -4,9 +4,10 @@ use Prim.Native.Nat.{ℕ}
 use mathlib.Core.Bool.{cond}
 use mathlib.Core.List.{List, [], _∷_, _++_}
 use lib.ListN.{length}
-use Rattle.carving.specs.Values.{leafValues, writtenValues}
+use Rattle.carving.specs.Values.{leafValues}
 use Rattle.carving.specs.declared.inner.Carving.{Carving}
 use Rattle.record.specs.declared.record.Value.{Value}
+use Rattle.sheet.specs.Values.{writtenValues}
 use Rattle.tables.specs.Calls.{Asked, tabledWalking, tabledFilling}
 use Rattle.walk.specs.Carve.{Table, tablesOf}
 use Rattle.walk.specs.Collect.{walkingThings}

@@ -14,8 +14,8 @@ use Rattle.sheet.specs.Values.{writtenValues}
 abbrev pub scanHit : ℕ → ℕ → ℕ → Found → Hit
 scanHit base columns o x = record { row = rowOf base columns o x; columns = x .columns }
 
--- Rule 4.12: one attempt is the first step of a scan, and no more: the row that it finds, or none. Where a scan tries the offset, the law is
--- `first-step`.
+-- Rule 4.12: one attempt is the first step of a scan, and no more: the row that it finds, or none. Where a scan tries the offset, the law
+-- is `first-step`.
 abbrev pub triedHits : ℕ → ℕ → ℕ → Tried → List Hit
 triedHits base columns o miss = []
 triedHits base columns o (hit x) = scanHit base columns o x ∷ []

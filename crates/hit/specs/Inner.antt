@@ -6,7 +6,8 @@ use mathlib.Core.List.{List}
 use lib.ListN.{length}
 use Rattle.attempt.specs.Attempt.{kinds}
 use Rattle.attempt.specs.Inner.{sizes, columnsAt, headerTypes, Headed}
-use Rattle.hit.specs.declared.inner.Head.{Head}
+use Rattle.attempt.specs.declared.inner.Find.{Find}
+use Rattle.hit.specs.declared.inner.Header.{Header}
 use Rattle.hit.specs.declared.inner.Lent.{Lent}
 use Rattle.hit.specs.declared.inner.Spot.{Spot}
 use Rattle.sheet.specs.Columns.{roomOf}
@@ -14,17 +15,21 @@ use Rattle.sheet.specs.Limits.{wordsPerRow, wordsPerEntry, mostColumns, largest
 use Rattle.sheet.specs.declared.row.Row.{Row}
 use Rattle.sheet.specs.Hits.{Hit}
 
--- the types of a header, and the row that has them
-abbrev pub kindsAt : List ℕ → Head → List ℕ
-kindsAt s h = kinds (headerTypes s (h .o) (h .head) (h .from))
+-- where the header of a find stands: at o of bytes that lie `by` bytes into the lent slice
+abbrev pub headerAt : ℕ → Find → ℕ → Header
+headerAt o x by = record { o = o; len = x .head; from = x .from; by = by }
 
-abbrev pub hitThere : List ℕ → Head → Row → Hit
-hitThere s h row = record { row = row; columns = columnsAt (h .by + (h .o + h .head)) (kindsAt s h) }
+-- the types of a header, and the row that has them
+abbrev pub kindsAt : List ℕ → Header → List ℕ
+kindsAt s h = kinds (headerTypes s (h .o) (h .len) (h .from))
+
+abbrev pub hitThere : List ℕ → Header → Row → Hit
+hitThere s h row = record { row = row; columns = columnsAt (h .by + (h .o + h .len)) (kindsAt s h) }
 
 -- so many columns lie in the bytes, and these in a slice that may be lent
-pub record Laid (s : List ℕ) (h : Head) (columns : ℕ) : Type 0 where
-  pub headed : Headed s (h .o) (h .head) (h .from)
-  pub bodies : h .o + h .head + sizes (kindsAt s h) ≤ length s
+pub record Laid (s : List ℕ) (h : Header) (columns : ℕ) : Type 0 where
+  pub headed : Headed s (h .o) (h .len) (h .from)
+  pub bodies : h .o + h .len + sizes (kindsAt s h) ≤ length s
   pub counts : length (kindsAt s h) ≡ columns
   pub inside : h .by + length s ≤ largestRegion
 

@@ -17,9 +17,9 @@ use Rattle.attempt.specs.declared.inner.Find.{Find}
 use Rattle.cells.specs.Cells.{CellRow, Looked, noCell, cell, recordIs, idThen, lengthThen, cellAt, cellThen, cellsFrom, cellsOf, cellHits}
 use Rattle.cells.specs.Inner.{recordOf, CellFound, cellsThere, nextPlace}
 use Rattle.cells.proofs.Along.{Along, along-start, along-end, along-on, along-full}
-use Rattle.hit.proofs.Laws.{find-laid, ready-part}
+use Rattle.hit.proofs.Laws.{ready-part}
 use Rattle.hit.specs.Hit.{intraPage, hitOf}
-use Rattle.hit.specs.Inner.{headerAt, Laid, Ready}
+use Rattle.hit.specs.Inner.{Ready}
 use Rattle.hit.specs.declared.inner.Lent.{Lent}
 use Rattle.hit.specs.declared.inner.Origin.{Origin}
 use Rattle.hit.specs.declared.inner.Spot.{Spot}
@@ -217,15 +217,12 @@ module _ (d hints : List ℕ) (pos : ℕ) (spot : Spot) (o : ℕ) (lent : Lent) 
     taken-long : length taken ≡ end - start
     taken-long = simp (length-take, length-drop) (omega (arith, f .inside))
 
-    pub place-laid : Laid taken (headerAt 0 x (spot .start + (o + start))) (length hints)
-    place-laid = find-laid taken hints 0 _ _ x (spot .start + (o + start)) (f .found) (omega (arith, taken-long, f .on, f .inside, ready .inside))
-
     pub place-ready : Ready (o + start + length taken) (length hints) spot lent n (length rows) (length cols)
     place-ready = ready-part (o + length d) (o + start + length taken) (length hints) spot lent n (length rows) (length cols) (omega (arith, taken-long, f .on, f .inside)) ready
 
-    module _ (origin : Origin) (e : origin ≡ intraPage (Present id) (share (x .matched) (length hints))) (r : Told) (rows′ cols′ : List ℕ) where
-      pub place-one : Carves (lent .width) (lent .room) n (hitOf spot (o + start + 0) (o + start) origin (foundAt taken 0 x) ∷ []) false rows cols r rows′ cols′ → Carved r rows′ cols′
-      place-one c = rw (f .is) (rw (add-zero (o + start), e) at c)
+    pub place-one : (origin : Origin) (r : Told) (rows′ cols′ : List ℕ) → origin ≡ intraPage (Present id) (share (x .matched) (length hints))
+        → Carves (lent .width) (lent .room) n (hitOf spot (o + start + 0) (o + start) origin (foundAt taken 0 x) ∷ []) false rows cols r rows′ cols′ → Carved r rows′ cols′
+    place-one origin r rows′ cols′ e c = rw (f .is) (rw (add-zero (o + start), e) at c)
 
     pub place-next : end ≡ nextPlace pos (cellAt d hints pos)
     place-next = rw (f .is)

@@ -15,9 +15,8 @@ use Rattle.attempt.specs.declared.inner.Find.{Find}
 use Rattle.cells.specs.Cells.{rebuiltHit, startHits}
 use Rattle.cells.specs.Inner.{nextRow}
 use Rattle.starts.specs.Inner.{isCell}
-use Rattle.hit.proofs.Laws.{find-laid}
 use Rattle.hit.specs.Hit.{intraPage, hitOf}
-use Rattle.hit.specs.Inner.{headerAt, Laid, Ready}
+use Rattle.hit.specs.Inner.{Ready}
 use Rattle.hit.specs.declared.inner.Lent.{Lent}
 use Rattle.hit.specs.declared.inner.Origin.{Origin}
 use Rattle.hit.specs.declared.inner.Spot.{Spot}
@@ -59,9 +58,6 @@ module _ (how : Rebuilding) (d hints : List ℕ) (v : ℕ) (spot : Spot) (o : �
     start-none m = rw (e, m) none
 
     module _ (x : Find) (f : RebuiltFound how d hints v x) where
-      pub start-laid : Laid d (headerAt v x (spot .start + o)) (length hints)
-      start-laid = find-laid d hints v (f .tried) (f .places) x (spot .start + o) (f .found) (omega (arith, ready .inside))
-
       pub start-one : (origin : Origin) (r : Told) (rows′ cols′ : List ℕ) → origin ≡ intraPage Absent (rebuiltShare (share (x .matched) (length hints)))
           → Carves (lent .width) (lent .room) n (hitOf spot (o + v) o origin (foundAt d v x) ∷ []) false rows cols r rows′ cols′ → Started r rows′ cols′
       start-one origin r rows′ cols′ g c = rw (e, f .is) (rw (g, rebuilt-is d v x (length hints) spot o) at c)

@@ -12,9 +12,9 @@ use Rattle.attempt.specs.declared.inner.Find.{Find}
 use Rattle.freeblock.specs.Freeblock.{nowhere, firstStart, firstHits, blockHits, blocksHits, chainEnds, blocksFrom, freeblocks, pageHits}
 use Rattle.freeblock.specs.Inner.{StartIs}
 use Rattle.freeblock.proofs.Chaining.{blocks-some, blocks-end, ends-low, ends-past, Lies, lies}
-use Rattle.hit.proofs.Laws.{find-laid, ready-part}
+use Rattle.hit.proofs.Laws.{ready-part}
 use Rattle.hit.specs.Hit.{hitOf}
-use Rattle.hit.specs.Inner.{headerAt, Laid, Ready}
+use Rattle.hit.specs.Inner.{Ready}
 use Rattle.hit.specs.declared.inner.Lent.{Lent}
 use Rattle.hit.specs.declared.inner.Origin.{Origin}
 use Rattle.hit.specs.declared.inner.Spot.{Spot}
@@ -37,14 +37,10 @@ module _ (payload hints : List ℕ) (o : ℕ) (spot : Spot) (lent : Lent) (n : �
   payload-none e = rw e (carves-none (lent .width) (lent .room) n rows cols (ready .space .fits))
 
   module _ (v : ℕ) (x : Find) (is : StartIs payload hints v x) where
-    rest : length (drop v payload) ≡ length payload - v
-    rest = length-drop v payload
-
-    pub payload-laid : Laid (drop v payload) (headerAt 0 x (spot .start + (o + v))) (length hints)
-    payload-laid = find-laid (drop v payload) hints 0 _ _ x (spot .start + (o + v)) (is .found) (omega (arith, rest, ready .inside, is .inside))
-
     pub payload-ready : Ready (o + v + length (drop v payload)) (length hints) spot lent n (length rows) (length cols)
-    payload-ready = ready-part (o + length payload) (o + v + length (drop v payload)) (length hints) spot lent n (length rows) (length cols) (omega (arith, rest, is .inside)) ready
+    payload-ready =
+        let rest : length (drop v payload) ≡ length payload - v = length-drop v payload in
+        ready-part (o + length payload) (o + v + length (drop v payload)) (length hints) spot lent n (length rows) (length cols) (omega (arith, is .inside)) ready
 
     pub payload-one : (origin : Origin) (r : Told) (rows′ cols′ : List ℕ) → origin ≡ record { id = Absent; source = Freelist; confidence = freedShare (share (x .matched) (length hints)) }
         → Carves (lent .width) (lent .room) n (hitOf spot (o + v + 0) (o + v) origin (foundAt (drop v payload) 0 x) ∷ []) false rows cols r rows′ cols′

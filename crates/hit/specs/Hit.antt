@@ -17,7 +17,7 @@ use Rattle.sheet.specs.Hits.{Hit}
 abbrev pub intraPage : RowId → Float → Origin
 intraPage id confidence = record { id = id; source = CarvedIntraPage (percentOf confidence); confidence = confidence }
 
--- Rule 10.3: the row at the place `place` of a page; its columns are those of the page's part that begins at `part`
+-- Rule 10.3: the row at the place `place` of a page,
 abbrev pub rowAt : Spot → ℕ → Origin → Found → Row
 rowAt spot place origin x =
     record {
@@ -30,5 +30,6 @@ rowAt spot place origin x =
       table = spot .table;
     }
 
+-- with its columns, which are those of the page's part that begins at `part`
 abbrev pub hitOf : Spot → ℕ → ℕ → Origin → Found → Hit
 hitOf spot place part origin x = record { row = rowAt spot place origin x; columns = moved (spot .start + part) (x .columns) }

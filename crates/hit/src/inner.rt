@@ -13,13 +13,13 @@ use sheet::row::Source;
 ghost use mathlib.Core.Path.{_≡_};
 ghost use mathlib.Core.Bool.{false};
 ghost use mathlib.Core.List.{[], _∷_};
-ghost use Prim.Native.Nat.{_+_, _*_};
+ghost use Prim.Native.Nat.{_+_, _*_, _≤_};
 ghost use lib.ListN.{length};
 ghost use lib.Seq.{sets};
 ghost use Rattle.attempt.specs.Inner.{foundAt};
 ghost use Rattle.hit.specs.Hit.{intraPage, hitOf};
-ghost use Rattle.hit.specs.Inner.{headerAt, hitThere, Laid, Fitting, Ready};
-ghost use Rattle.sheet.specs.Limits.{wordsPerRow, wordsPerEntry};
+ghost use Rattle.hit.specs.Inner.{Laid, hitThere, Fitting, Ready};
+ghost use Rattle.sheet.specs.Limits.{wordsPerRow, wordsPerEntry, largestRegion};
 ghost use Rattle.sheet.specs.Row.{rowWords};
 ghost use Rattle.sheet.specs.Hits.{groupWords};
 ghost use Rattle.sheet.specs.Inner.{carvedAs, Carves};
@@ -38,24 +38,18 @@ pub struct Origin {
     pub confidence: f32,
 }
 
-// A header of `len` bytes at o, whose types start at `from`; its bytes lie `by` bytes into the lent slice.
-pub struct Header {
-    pub o: usize,
-    pub len: usize,
-    pub from: usize,
-    pub by: usize,
-}
-
 // How wide a group is, and for how many rows there is room.
 pub struct Lent {
     pub width: usize,
     pub room: usize,
 }
 
-// Writes the row n of both lists.
+// Writes the row n of both lists. Its columns are those of the find at o of bytes that lie `by` bytes into the lent slice.
 fn put_hit(
     bytes: &[u8],
-    at: Header,
+    o: usize,
+    find: Find,
+    by: usize,
     columns: usize,
     row: Row,
     width: usize,
@@ -63,15 +57,16 @@ fn put_hit(
     rows: &mut [u64],
     cols: &mut [u64],
 )
-    requires { ⌜ Laid (now bytes) at columns ⌝ }
+    requires { ⌜ Laid (now bytes) o find columns ⌝ }
+    requires { ⌜ by + length (now bytes) ≤ largestRegion ⌝ }
     requires { ⌜ Fitting columns width n (length (now rows)) (length (now cols)) ⌝ }
     ensures rows { λ _. ⌜ now (rows .exit) ≡ sets (now (rows .entry)) (n * wordsPerRow) (rowWords row) ⌝ }
     ensures cols { λ _. ⌜ now (cols .exit) ≡ sets (now (cols .entry)) (n * (wordsPerEntry * width))
-        (groupWords width (hitThere (now (bytes .entry)) at row)) ⌝ }
+        (groupWords width (hitThere (now (bytes .entry)) o find by row)) ⌝ }
 {
     put_row(rows, n, row);
     let group = n * (WORDS_PER_ENTRY * width);
-    put_columns(bytes, at.o, at.len, at.from, at.by, cols, group);
+    put_columns(bytes, o, find.head, find.from, by, cols, group);
     put_unused(cols, group + WORDS_PER_ENTRY * columns, width - columns);
 }
 
@@ -100,7 +95,7 @@ pub fn add_found(
     rows: &mut [u64],
     cols: &mut [u64],
 ) -> Carved
-    requires { ⌜ Laid (now bytes) (headerAt o find (spot .start + part)) columns ⌝ }
+    requires { ⌜ Laid (now bytes) o find columns ⌝ }
     requires { ⌜ Ready (part + length (now bytes)) columns spot lent n (length (now rows)) (length (now cols)) ⌝ }
     ensures { λ r. ⌜ Carves (lent .width) (lent .room) n (hitOf spot (part + o) part origin (foundAt (now (bytes .entry)) o find) ∷ [])
         false (now (rows .entry)) (now (cols .entry)) (carvedAs r) (now (rows .exit)) (now (cols .exit)) ⌝ }
@@ -120,12 +115,7 @@ pub fn add_found(
         mode: Mode::Plain,
         table: spot.table,
     };
-    let at = Header {
-        o,
-        len: find.head,
-        from: find.from,
-        by: spot.start + part,
-    };
-    put_hit(bytes, at, columns, row, lent.width, n, rows, cols);
+    let by = spot.start + part;
+    put_hit(bytes, o, find, by, columns, row, lent.width, n, rows, cols);
     Carved::On(n + 1)
 }

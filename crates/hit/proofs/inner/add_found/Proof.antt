@@ -1,5 +1,6 @@
 -- `hit::inner::add_found` meets its contract: there is no room for one row, or it is written and is the one that was found (`found-written`).
 -- Assumes nothing.
+use native.Mathlib.Omega.{arith}
 use borrow.Author.Needs.{needs}
 use denote.Ref.{now}
 use Rattle.hit.proofs.Laws.{space-fits, found-written}
@@ -16,16 +17,16 @@ add-place c = search needs
 add-t19 : tie.Need-add-t19
 add-t19 c = search needs
 
-add-t22 : tie.Need-add-t22
-add-t22 c = search needs
+add-by : tie.Need-add-by
+add-by c = search needs
 
 put-hit-requires : tie.Need-put-hit-requires
 put-hit-requires c κs =
     let s = c .before .before .before .before .before .before .before .before .before in
-    (s .pre .0, space-fits _ _ _ _ _ (s .pre .1 .space) (c .before .before .before .before .if1 .left))
+    (s .pre .0, (omega (arith, s .pre .1 .inside), space-fits _ _ _ _ _ (s .pre .1 .space) (c .before .before .before .before .if1 .left)))
 
-add-t22-2 : tie.Need-add-t22-2
-add-t22-2 c = search needs
+add-t27 : tie.Need-add-t27
+add-t27 c = search needs
 
 same-length : tie.Need-same-length
 same-length c = search needs
@@ -47,9 +48,9 @@ add-found-spec =
     returns
     add-place
     add-t19
-    add-t22
+    add-by
     put-hit-requires
-    add-t22-2
+    add-t27
     same-length
     same-length-2
     returns-2)

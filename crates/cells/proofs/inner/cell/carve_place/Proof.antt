@@ -5,7 +5,8 @@ use native.Mathlib.Omega.{arith}
 use denote.Ref.{now}
 use lib.ListN.{length}
 use Rattle.cells.specs.Inner.{CellFound}
-use Rattle.cells.proofs.Looking.{place-none, place-laid, place-ready, place-one, place-next}
+use Rattle.cells.proofs.Looking.{place-none, place-ready, place-one, place-next}
+use Rattle.hit.proofs.Laws.{find-laid}
 use Rattle.hit.specs.Hit.{intraPage}
 use Rattle.sheet.specs.Confidence.{share}
 use Rattle.sheet.specs.declared.row.RowId.the-variants.{Present}
@@ -66,7 +67,7 @@ add-found-requires : tie.Need-add-found-requires
 add-found-requires c κs =
     let s = c .before .before .before .before .before .before .before .before .before .before .before .before .before in
     let f = found (c .before .before .before .before .before) in
-    (place-laid _ _ _ _ _ _ _ (now (s .args .rows)) (now (s .args .cols)) (s .pre .1) _ _ _ _ f, place-ready _ _ _ _ _ _ _ (now (s .args .rows)) (now (s .args .cols)) (s .pre .1) _ _ _ _ f)
+    (find-laid _ _ _ _ _ _ (f .found), place-ready _ _ _ _ _ _ _ (now (s .args .rows)) (now (s .args .cols)) (s .pre .1) _ _ _ _ f)
 
 enum-known-m : tie.Need-enum-known-m
 enum-known-m c = search needs
@@ -83,7 +84,7 @@ same-length-2 c = search needs
 returns-2 : tie.Need-returns-2
 returns-2 c =
     let x = rw (c .enum-told2 .given .1) at (c .before .before .before .before .before .before .add-found .ensures) in
-    (place-one _ _ _ _ _ _ _ _ _ (c .before .before .before .before .before .before .before .before .before .before .before .before .before .before .before .before .before .before .before .before .pre .1) _ _ _ _ (found (c .before .before .before .before .before .before .before .before .before .before .before .before)) _ (origin-is (c .before .before .before .before .before .before .before .before .before .before)) _ _ _ x, tt)
+    (place-one _ _ _ _ _ _ _ _ _ (c .before .before .before .before .before .before .before .before .before .before .before .before .before .before .before .before .before .before .before .before .pre .1) _ _ _ _ (found (c .before .before .before .before .before .before .before .before .before .before .before .before)) _ _ _ _ (origin-is (c .before .before .before .before .before .before .before .before .before .before)) x, tt)
 
 same-length-3 : tie.Need-same-length-3
 same-length-3 c = search needs
@@ -96,7 +97,7 @@ returns-3 c =
     let s = c .before .before .before .before .before .before .before .before .before .before .before .before .before .before .before .before .before .before .before .before .before in
     let f = found (c .before .before .before .before .before .before .before .before .before .before .before .before .before) in
     let x = rw (c .before .m .given .1) at (c .before .before .before .before .before .before .before .add-found .ensures) in
-    (place-one _ _ _ _ _ _ _ _ _ (s .pre .1) _ _ _ _ f _ (origin-is (c .before .before .before .before .before .before .before .before .before .before .before)) _ _ _ x, place-next _ _ _ _ _ _ _ (now (s .args .rows)) (now (s .args .cols)) (s .pre .1) _ _ _ _ f)
+    (place-one _ _ _ _ _ _ _ _ _ (s .pre .1) _ _ _ _ f _ _ _ _ (origin-is (c .before .before .before .before .before .before .before .before .before .before .before)) x, place-next _ _ _ _ _ _ _ (now (s .args .rows)) (now (s .args .cols)) (s .pre .1) _ _ _ _ f)
 
 pub carve-place-spec : {M : Type 1} → statement M
 carve-place-spec =

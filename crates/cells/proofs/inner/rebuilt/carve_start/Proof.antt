@@ -8,10 +8,11 @@ use native.Mathlib.Omega.{arith}
 use denote.Ref.{now}
 use lib.ListN.{length}
 use Rattle.starts.specs.Inner.{isCell}
-use Rattle.cells.proofs.Rebuilding.{start-passed, start-next, start-none, start-laid, start-one}
+use Rattle.cells.proofs.Rebuilding.{start-passed, start-next, start-none, start-one}
 use Rattle.cells.proofs.Skipping.{rows-fit}
 use Rattle.starts.proofs.Laws.{cell-below}
 use Rattle.rebuild.specs.Inner.{RebuiltFound}
+use Rattle.hit.proofs.Laws.{find-laid}
 use Rattle.hit.specs.Hit.{intraPage}
 use Rattle.sheet.specs.Confidence.{share, rebuiltShare}
 use Rattle.sheet.specs.declared.row.RowId.the-variants.{Absent}
@@ -89,9 +90,7 @@ origin-is : (c : tie.After-intra-page) →
 origin-is c = c .intra-page .ensures ∙ rw (c .before .rebuilt .ensures, c .before .before .suited-share .ensures)
 
 add-found-requires : tie.Need-add-found-requires
-add-found-requires c κs =
-    let s = c .before .before .before .before .before .before .before .before .before .before .before .before .before .before .before .before .before in
-    (start-laid _ _ _ _ _ _ _ (s .args .k) (s .args .cells) _ (now (s .args .rows)) (now (s .args .cols)) (s .pre .1) (clear (c .before .before .before .before .before .before .before .before .before)) _ (found (c .before .before .before .before .before)), s .pre .1)
+add-found-requires c κs = (find-laid _ _ _ _ _ _ (found (c .before .before .before .before .before) .found), c .before .before .before .before .before .before .before .before .before .before .before .before .before .before .before .before .before .pre .1)
 
 enum-known-m : tie.Need-enum-known-m
 enum-known-m c = search needs

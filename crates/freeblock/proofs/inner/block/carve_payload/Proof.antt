@@ -4,10 +4,10 @@ use native.Mathlib.Omega.{arith}
 use borrow.Author.Needs.{needs}
 use denote.Ref.{now}
 use Rattle.freeblock.specs.Inner.{StartIs}
-use Rattle.freeblock.proofs.Blocks.{payload-none, payload-laid, payload-ready, payload-one}
+use Rattle.freeblock.proofs.Blocks.{payload-none, payload-ready, payload-one}
 use Rattle.freeblock.proofs.inner.block.carve_payload.Statement.{statement}
 use Rattle.freeblock.proofs.inner.block.carve_payload.Tie as tie
-use Rattle.hit.proofs.Laws.{part-is}
+use Rattle.hit.proofs.Laws.{part-is, find-laid}
 
 first-start-requires : tie.Need-first-start-requires
 first-start-requires c κs = search needs
@@ -50,8 +50,7 @@ add-found-requires : tie.Need-add-found-requires
 add-found-requires c κs =
     let s = c .before .before .before .before .before .before .before .before .before .before .before .before .before in
     let is = started (c .before .before .before .before .before) in
-    rw (part-is (now (s .args .payload)) (c .before .before .before .before .before .before .v .given .0 .0))
-    (payload-laid _ _ _ _ _ _ (now (s .args .rows)) (now (s .args .cols)) (s .pre) _ _ is, payload-ready _ _ _ _ _ _ (now (s .args .rows)) (now (s .args .cols)) (s .pre) _ _ is)
+    rw (part-is (now (s .args .payload)) (c .before .before .before .before .before .before .v .given .0 .0)) (find-laid _ _ _ _ _ _ (is .found), payload-ready _ _ _ _ _ _ (now (s .args .rows)) (now (s .args .cols)) (s .pre) _ _ is)
 
 same-length : tie.Need-same-length
 same-length c = search needs

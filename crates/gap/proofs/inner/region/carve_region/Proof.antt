@@ -100,10 +100,7 @@ origin-is : (c : tie.After-intra-page Inv-loop μ-loop) →
 origin-is c = c .intra-page .ensures ∙ rw (c .before .suited-share .ensures)
 
 add-found-requires : tie.Need-add-found-requires Inv-loop μ-loop
-add-found-requires c κs =
-    let s = c .before .before .before .before .before .before .before .before .before .before .before .before .before .before in
-    let ready = along-ready _ _ _ _ _ _ _ _ _ _ _ _ (c .before .before .before .before .before .before .before .before .loop .inv .0 .along) (s .pre) in
-    (find-laid _ _ _ _ _ _ _ (found (c .before .before .before .before) .found) (omega (arith, ready .inside)), ready)
+add-found-requires c κs = (find-laid _ _ _ _ _ _ (found (c .before .before .before .before) .found), along-ready _ _ _ _ _ _ _ _ _ _ _ _ (c .before .before .before .before .before .before .before .before .loop .inv .0 .along) (c .before .before .before .before .before .before .before .before .before .before .before .before .before .before .pre))
 
 enum-known-next : tie.Need-enum-known-next Inv-loop μ-loop
 enum-known-next c = search needs

@@ -4,6 +4,7 @@ use Prim.Native.Nat.{ℕ, zero, suc, _+_, _-_, _≤_, _<_}
 use mathlib.Core.Path.{_≡_, refl, _∙_}
 use mathlib.Core.Bool.{Bool, true, false, cond}
 use mathlib.Core.List.{List, [], _∷_, _++_}
+use native.Mathlib.Nat.{add-zero}
 use native.Mathlib.Numerals.{add-one}
 use native.Mathlib.Omega.{arith}
 use borrow.Author.Tests.{lt-ltb, le-ltb, le-leb, lt-leb, leb-true, ltb-true}
@@ -13,23 +14,22 @@ use Rattle.attempt.specs.Attempt.{Tried, miss, hit, attemptAt}
 use Rattle.attempt.specs.Inner.{foundAt, HitIs}
 use Rattle.attempt.specs.Places.{attemptPlaces}
 use Rattle.attempt.specs.declared.inner.Find.{Find}
-use Rattle.cells.specs.Cells.{CellRow, Looked, noCell, cell, recordIs, idThen, lengthThen, cellAt, cellThen, cellsFrom, cellsOf, cellHit, cellHits}
+use Rattle.cells.specs.Cells.{CellRow, Looked, noCell, cell, recordIs, idThen, lengthThen, cellAt, cellThen, cellsFrom, cellsOf, cellHits}
 use Rattle.cells.specs.Inner.{recordOf, CellFound, cellsThere, nextPlace}
 use Rattle.cells.proofs.Along.{Along, along-start, along-end, along-on, along-full}
-use Rattle.hit.proofs.Laws.{headAt, find-laid, there-is, ready-part}
-use Rattle.hit.specs.Hit.{rowAt}
-use Rattle.hit.specs.Inner.{hitThere, Laid, Ready}
+use Rattle.hit.proofs.Laws.{ready-part}
+use Rattle.hit.specs.Hit.{intraPage, hitOf}
+use Rattle.hit.specs.Inner.{Ready}
 use Rattle.hit.specs.declared.inner.Lent.{Lent}
+use Rattle.hit.specs.declared.inner.Origin.{Origin}
 use Rattle.hit.specs.declared.inner.Spot.{Spot}
 use Rattle.record.proofs.Laws.{varint-lies}
 use Rattle.record.specs.Varint.{varintAt}
 use Rattle.record.specs.declared.varint.Cursor.{Cursor}
 use Rattle.record.specs.declared.varint.Varint.{Varint}
 use Rattle.record.specs.declared.varint.Varint.the-variants.{Value, Short}
-use Rattle.sheet.specs.Confidence.{share, percentOf}
-use Rattle.sheet.specs.declared.row.Row.{Row}
+use Rattle.sheet.specs.Confidence.{share}
 use Rattle.sheet.specs.declared.row.RowId.the-variants.{Present}
-use Rattle.sheet.specs.declared.row.Source.the-variants.{CarvedIntraPage}
 use Rattle.sheet.proofs.Carving.{carves-none}
 use Rattle.sheet.specs.Hits.{Hit}
 use Rattle.sheet.specs.Inner.{Told, on, over, Carves}
@@ -202,12 +202,6 @@ module _ (d hints : List ℕ) (spot : Spot) (o : ℕ) (lent : Lent) (n₀ : ℕ)
         looking-full x = along-full lent n₀ whole rows₀ cols₀ rows cols n there _ (later .2) rows′ cols′ x
 
 -- ---- one place is carved
-pub cell-added : (body : List ℕ) (x : Find) (id columns : ℕ) (spot : Spot) (o : ℕ) (lent : Lent) (n : ℕ) (rows cols : List ℕ) (row : Row) (r : Told) (rows′ cols′ : List ℕ)
-    → row ≡ rowAt spot o (x .consumed) (Present id) (CarvedIntraPage (percentOf (share (x .matched) columns))) (share (x .matched) columns)
-    → Carves (lent .width) (lent .room) n (hitThere body (headAt 0 x (spot .start + o)) row ∷ []) false rows cols r rows′ cols′
-    → Carves (lent .width) (lent .room) n (cellHit spot columns o id (foundAt body 0 x) ∷ []) false rows cols r rows′ cols′
-cell-added body x id columns spot o lent n rows cols row r rows′ cols′ e c = rw (there-is body spot row o 0 x, e) at c
-
 module _ (d hints : List ℕ) (pos : ℕ) (spot : Spot) (o : ℕ) (lent : Lent) (n : ℕ) (rows cols : List ℕ)
     (ready : Ready (o + length d) (length hints) spot lent n (length rows) (length cols)) where
   abbrev Carved : Told → List ℕ → List ℕ → Type 0
@@ -223,15 +217,12 @@ module _ (d hints : List ℕ) (pos : ℕ) (spot : Spot) (o : ℕ) (lent : Lent) 
     taken-long : length taken ≡ end - start
     taken-long = simp (length-take, length-drop) (omega (arith, f .inside))
 
-    pub place-laid : Laid taken (headAt 0 x (spot .start + (o + start))) (length hints)
-    place-laid = find-laid taken hints 0 _ _ x (spot .start + (o + start)) (f .found) (omega (arith, taken-long, f .on, f .inside, ready .inside))
-
     pub place-ready : Ready (o + start + length taken) (length hints) spot lent n (length rows) (length cols)
     place-ready = ready-part (o + length d) (o + start + length taken) (length hints) spot lent n (length rows) (length cols) (omega (arith, taken-long, f .on, f .inside)) ready
 
-    module _ (r : Told) (rows′ cols′ : List ℕ) where
-      pub place-one : Carves (lent .width) (lent .room) n (cellHit spot (length hints) (o + start) id (foundAt taken 0 x) ∷ []) false rows cols r rows′ cols′ → Carved r rows′ cols′
-      place-one c = rw (f .is) c
+    pub place-one : (origin : Origin) (r : Told) (rows′ cols′ : List ℕ) → origin ≡ intraPage (Present id) (share (x .matched) (length hints))
+        → Carves (lent .width) (lent .room) n (hitOf spot (o + start + 0) (o + start) origin (foundAt taken 0 x) ∷ []) false rows cols r rows′ cols′ → Carved r rows′ cols′
+    place-one origin r rows′ cols′ e c = rw (f .is) (rw (add-zero (o + start), e) at c)
 
     pub place-next : end ≡ nextPlace pos (cellAt d hints pos)
     place-next = rw (f .is)

@@ -9,24 +9,22 @@ use native.Mathlib.Omega.{arith}
 use lib.ListN.{length}
 use Rattle.attempt.proofs.Shifts.{moved-at}
 use Rattle.attempt.specs.Attempt.{miss, kinds}
-use Rattle.attempt.specs.Inner.{columnsAt, findTypes}
+use Rattle.attempt.specs.Inner.{columnsAt, findTypes, foundAt}
 use Rattle.attempt.specs.Moved.{moved}
 use Rattle.attempt.specs.declared.inner.Find.{Find}
 use Rattle.cells.specs.Cells.{rebuiltHit, startHits}
 use Rattle.cells.specs.Inner.{nextRow}
 use Rattle.starts.specs.Inner.{isCell}
-use Rattle.hit.proofs.Laws.{headAt, find-laid, there-is}
-use Rattle.hit.specs.Hit.{rowAt, hitOf}
-use Rattle.hit.specs.Inner.{hitThere, Laid, Ready}
+use Rattle.hit.specs.Hit.{intraPage, hitOf}
+use Rattle.hit.specs.Inner.{Ready}
 use Rattle.hit.specs.declared.inner.Lent.{Lent}
+use Rattle.hit.specs.declared.inner.Origin.{Origin}
 use Rattle.hit.specs.declared.inner.Spot.{Spot}
 use Rattle.rebuild.specs.Header.{rebuilt}
 use Rattle.rebuild.specs.Inner.{foundFrom, RebuiltFound}
 use Rattle.rebuild.specs.declared.rebuilding.Rebuilding.{Rebuilding}
-use Rattle.sheet.specs.Confidence.{share, rebuiltShare, percentOf}
-use Rattle.sheet.specs.declared.row.Row.{Row}
+use Rattle.sheet.specs.Confidence.{share, rebuiltShare}
 use Rattle.sheet.specs.declared.row.RowId.the-variants.{Absent}
-use Rattle.sheet.specs.declared.row.Source.the-variants.{CarvedIntraPage}
 use Rattle.sheet.proofs.Carving.{carves-none}
 use Rattle.sheet.specs.Inner.{Told, on, Carves}
 
@@ -36,15 +34,10 @@ start-next k passed e = rw e
 moved-twice : (a b : ℕ) (at : ℕ) (ts : List ℕ) → moved a (columnsAt (b + at) ts) ≡ moved (a + b) (columnsAt at ts)
 moved-twice a b at ts = moved-at a (b + at) ts ∙ rw (← add-assoc a b at) (sym (moved-at (a + b) at ts))
 
-pub rebuilt-added : (d : List ℕ) (v : ℕ) (x : Find) (columns : ℕ) (spot : Spot) (o : ℕ) (lent : Lent) (n : ℕ) (rows cols : List ℕ) (row : Row) (r : Told) (rows′ cols′ : List ℕ)
-    → row ≡ rowAt spot (o + v) (x .consumed) Absent (CarvedIntraPage (percentOf (rebuiltShare (share (x .matched) columns)))) (rebuiltShare (share (x .matched) columns))
-    → Carves (lent .width) (lent .room) n (hitThere d (headAt v x (spot .start + o)) row ∷ []) false rows cols r rows′ cols′
-    → Carves (lent .width) (lent .room) n (rebuiltHit spot columns (o + v) (foundFrom d v x) ∷ []) false rows cols r rows′ cols′
-rebuilt-added d v x columns spot o lent n rows cols row r rows′ cols′ e c =
-    let ts = kinds (findTypes d v x) in
-    let same : hitThere d (headAt v x (spot .start + o)) row ≡ hitOf spot row (o + v) (columnsAt (x .head) ts) =
-    there-is d spot row o v x ∙ rw (moved-twice (spot .start + o) v (x .head) ts, add-assoc (spot .start) o v) in
-    rw (same, e) at c
+-- the row at v of the payload is the one that is said of the bytes from v on
+rebuilt-is : (d : List ℕ) (v : ℕ) (x : Find) (columns : ℕ) (spot : Spot) (o : ℕ)
+    → hitOf spot (o + v) o (intraPage Absent (rebuiltShare (share (x .matched) columns))) (foundAt d v x) ≡ rebuiltHit spot columns (o + v) (foundFrom d v x)
+rebuilt-is d v x columns spot o = rw (moved-twice (spot .start + o) v (x .head) (kinds (findTypes d v x)), add-assoc (spot .start) o v)
 
 module _ (how : Rebuilding) (d hints : List ℕ) (v : ℕ) (spot : Spot) (o : ℕ) (lent : Lent) (k cells n : ℕ) (rows cols : List ℕ)
     (ready : Ready (o + length d) (length hints) spot lent n (length rows) (length cols)) where
@@ -65,9 +58,6 @@ module _ (how : Rebuilding) (d hints : List ℕ) (v : ℕ) (spot : Spot) (o : �
     start-none m = rw (e, m) none
 
     module _ (x : Find) (f : RebuiltFound how d hints v x) where
-      pub start-laid : Laid d (headAt v x (spot .start + o)) (length hints)
-      start-laid = find-laid d hints v (f .tried) (f .places) x (spot .start + o) (f .found) (omega (arith, ready .inside))
-
-      pub start-one : (r : Told) (rows′ cols′ : List ℕ)
-          → Carves (lent .width) (lent .room) n (rebuiltHit spot (length hints) (o + v) (foundFrom d v x) ∷ []) false rows cols r rows′ cols′ → Started r rows′ cols′
-      start-one r rows′ cols′ c = rw (e, f .is) c
+      pub start-one : (origin : Origin) (r : Told) (rows′ cols′ : List ℕ) → origin ≡ intraPage Absent (rebuiltShare (share (x .matched) (length hints)))
+          → Carves (lent .width) (lent .room) n (hitOf spot (o + v) o origin (foundAt d v x) ∷ []) false rows cols r rows′ cols′ → Started r rows′ cols′
+      start-one origin r rows′ cols′ g c = rw (e, f .is) (rw (g, rebuilt-is d v x (length hints) spot o) at c)

@@ -4,10 +4,9 @@ use Prim.Native.Nat.{ℕ, zero, suc, _+_, _-_}
 use mathlib.Core.Bool.{Bool, true, false, cond}
 use mathlib.Core.List.{List, [], _∷_, _++_}
 use lib.Dec.{ltb, leb}
-use lib.Ieee.{Float}
 use lib.ListN.{length, take, drop}
 use Rattle.attempt.specs.Attempt.{Found, Tried, miss, hit, attemptAt}
-use Rattle.hit.specs.Hit.{rowAt, hitOf}
+use Rattle.hit.specs.Hit.{intraPage, hitOf}
 use Rattle.hit.specs.declared.inner.Spot.{Spot}
 use Rattle.page.specs.Page.{among}
 use Rattle.record.specs.Varint.{varintAt}
@@ -15,10 +14,8 @@ use Rattle.record.specs.declared.varint.Varint.{Varint}
 use Rattle.record.specs.declared.varint.Varint.the-variants.{Value, Short}
 use Rattle.rebuild.specs.Header.{rebuilt}
 use Rattle.rebuild.specs.declared.rebuilding.Rebuilding.{Rebuilding}
-use Rattle.sheet.specs.Confidence.{share, rebuiltShare, percentOf}
-use Rattle.sheet.specs.declared.row.RowId.{RowId}
+use Rattle.sheet.specs.Confidence.{share, rebuiltShare}
 use Rattle.sheet.specs.declared.row.RowId.the-variants.{Absent, Present}
-use Rattle.sheet.specs.declared.row.Source.the-variants.{CarvedIntraPage}
 use Rattle.starts.specs.Starts.{rebuiltStarts}
 use Rattle.sheet.specs.Hits.{Hit}
 
@@ -77,16 +74,12 @@ startsOf (c ∷ cs) = c .at ∷ startsOf cs
 
 -- ---- rows
 
--- Rule 11.7: a row at the place o of its page; the percent is of its confidence
-abbrev pub gapHit : Spot → ℕ → RowId → Float → Found → Hit
-gapHit spot o id confidence x =
-    hitOf spot (rowAt spot o (x .consumed) id (CarvedIntraPage (percentOf confidence)) confidence) o (x .columns)
-
+-- Rule 11.7: the row at the place o of its page
 abbrev pub cellHit : Spot → ℕ → ℕ → ℕ → Found → Hit
-cellHit spot columns o id x = gapHit spot o (Present id) (share (x .matched) columns) x
+cellHit spot columns o id x = hitOf spot o o (intraPage (Present id) (share (x .matched) columns)) x
 
 abbrev pub rebuiltHit : Spot → ℕ → ℕ → Found → Hit
-rebuiltHit spot columns o x = gapHit spot o Absent (rebuiltShare (share (x .matched) columns)) x
+rebuiltHit spot columns o x = hitOf spot o o (intraPage Absent (rebuiltShare (share (x .matched) columns))) x
 
 -- the payload stands at o in its page
 abbrev pub cellHits : Spot → ℕ → ℕ → List CellRow → List Hit

@@ -4,21 +4,23 @@ use Prim.Native.Nat.{ℕ, _+_, _-_, _≤_, _<_}
 use mathlib.Core.Path.{_≡_, sym, _∙_}
 use mathlib.Core.Bool.{false}
 use mathlib.Core.List.{List, [], _∷_, _++_, append-nil, append-assoc}
+use native.Mathlib.Nat.{add-zero}
 use native.Mathlib.Omega.{arith}
 use lib.ListN.{length, take, drop, length-take, length-drop}
+use Rattle.attempt.specs.Inner.{foundAt}
 use Rattle.attempt.specs.declared.inner.Find.{Find}
 use Rattle.freeblock.specs.Freeblock.{nowhere, firstStart, firstHits, blockHits, blocksHits, chainEnds, blocksFrom, freeblocks, pageHits}
 use Rattle.freeblock.specs.Inner.{StartIs}
 use Rattle.freeblock.proofs.Chaining.{blocks-some, blocks-end, ends-low, ends-past, Lies, lies}
-use Rattle.hit.proofs.Laws.{headAt, find-laid, there-is}
-use Rattle.hit.specs.Hit.{rowAt}
-use Rattle.hit.specs.Inner.{hitThere, Laid, Ready}
+use Rattle.hit.proofs.Laws.{ready-part}
+use Rattle.hit.specs.Hit.{hitOf}
+use Rattle.hit.specs.Inner.{Ready}
 use Rattle.hit.specs.declared.inner.Lent.{Lent}
+use Rattle.hit.specs.declared.inner.Origin.{Origin}
 use Rattle.hit.specs.declared.inner.Spot.{Spot}
 use Rattle.page.specs.Page.{firstFreeblock, blockNext, blockSize, Block, payloadOf}
 use Rattle.record.proofs.Numbers.{by-order}
 use Rattle.sheet.specs.Confidence.{share, freedShare}
-use Rattle.sheet.specs.declared.row.Row.{Row}
 use Rattle.sheet.specs.declared.row.RowId.the-variants.{Absent}
 use Rattle.sheet.specs.declared.row.Source.the-variants.{Freelist}
 use Rattle.sheet.proofs.Carving.{carves-none, carves-more, carves-stop}
@@ -35,15 +37,15 @@ module _ (payload hints : List ℕ) (o : ℕ) (spot : Spot) (lent : Lent) (n : �
   payload-none e = rw e (carves-none (lent .width) (lent .room) n rows cols (ready .space .fits))
 
   module _ (v : ℕ) (x : Find) (is : StartIs payload hints v x) where
-    pub payload-laid : Laid (drop v payload) (headAt 0 x (spot .start + (o + v))) (length hints)
-    payload-laid =
+    pub payload-ready : Ready (o + v + length (drop v payload)) (length hints) spot lent n (length rows) (length cols)
+    payload-ready =
         let rest : length (drop v payload) ≡ length payload - v = length-drop v payload in
-        find-laid (drop v payload) hints 0 _ _ x (spot .start + (o + v)) (is .found) (omega (arith, ready .inside, is .inside))
+        ready-part (o + length payload) (o + v + length (drop v payload)) (length hints) spot lent n (length rows) (length cols) (omega (arith, is .inside)) ready
 
-    pub payload-one : (row : Row) (r : Told) (rows′ cols′ : List ℕ) → row ≡ rowAt spot (o + v) (x .consumed) Absent Freelist (freedShare (share (x .matched) (length hints)))
-        → Carves (lent .width) (lent .room) n (hitThere (drop v payload) (headAt 0 x (spot .start + (o + v))) row ∷ []) false rows cols r rows′ cols′
+    pub payload-one : (origin : Origin) (r : Told) (rows′ cols′ : List ℕ) → origin ≡ record { id = Absent; source = Freelist; confidence = freedShare (share (x .matched) (length hints)) }
+        → Carves (lent .width) (lent .room) n (hitOf spot (o + v + 0) (o + v) origin (foundAt (drop v payload) 0 x) ∷ []) false rows cols r rows′ cols′
         → Carves (lent .width) (lent .room) n hits false rows cols r rows′ cols′
-    payload-one row r rows′ cols′ e c = rw (is .is) (rw (there-is (drop v payload) spot row (o + v) 0 x, e) at c)
+    payload-one origin r rows′ cols′ e c = rw (is .is) (rw (add-zero (o + v), e) at c)
 
 -- ---- a block
 pub payload-is : (page : List ℕ) (at size : ℕ) → take (at + size - (at + 4)) (drop (at + 4) page) ≡ payloadOf page (record { at = at; size = size })

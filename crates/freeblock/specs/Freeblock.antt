@@ -6,7 +6,7 @@ use mathlib.Core.List.{List, [], _∷_, _++_}
 use lib.Dec.{ltb, eqb}
 use lib.ListN.{length, drop}
 use Rattle.attempt.specs.Attempt.{Found, Tried, miss, hit, attemptAt}
-use Rattle.hit.specs.Hit.{rowAt, hitOf}
+use Rattle.hit.specs.Hit.{hitOf}
 use Rattle.hit.specs.declared.inner.Spot.{Spot}
 use Rattle.page.specs.Page.{among, firstFreeblock, blockNext, blockSize, Block, payloadOf}
 use Rattle.sheet.specs.Confidence.{share, freedShare}
@@ -58,7 +58,8 @@ firstStart payload hints = firstFrom (min mostStarts (length payload)) payload h
 
 -- Rules 10.3 and 5.4: the row that is found at the place o of a page
 abbrev pub hitAt : Spot → ℕ → ℕ → Found → Hit
-hitAt spot columns o x = hitOf spot (rowAt spot o (x .consumed) Absent Freelist (freedShare (share (x .matched) columns))) o (x .columns)
+hitAt spot columns o x =
+    hitOf spot o o (record { id = Absent; source = Freelist; confidence = freedShare (share (x .matched) columns) }) x
 
 abbrev pub firstHits : Spot → ℕ → ℕ → First → List Hit
 firstHits spot columns from nowhere = []

@@ -1,40 +1,25 @@
 -- A region scanned as by the scan, attempt by attempt: there is always room in the definition, since no more rows were found than bytes passed.
 -- Assumes nothing.
 use Prim.Native.Nat.{ℕ, zero, suc, _+_, _-_, _≤_, _<_}
-use mathlib.Core.Path.{_≡_, ap}
+use mathlib.Core.Path.{_≡_}
 use mathlib.Core.Bool.{false}
-use mathlib.Core.List.{List, [], _∷_, _++_}
+use mathlib.Core.List.{List, [], _∷_}
 use native.Mathlib.Omega.{arith}
 use lib.ListN.{length}
 use Rattle.attempt.proofs.Laws.{hit-takes}
 use Rattle.attempt.specs.Attempt.{Found, miss, hit, attemptAt}
-use Rattle.attempt.specs.Inner.{foundAt}
-use Rattle.attempt.specs.declared.inner.Find.{Find}
 use Rattle.filter.proofs.Laws.{misses-keep}
 use Rattle.filter.specs.Inner.{MissBetween, ThroughIs}
 use Rattle.gap.specs.Gap.{regionHit, runHits, regionHits}
 use Rattle.cells.proofs.Along.{Along, along-start, along-end, along-on, along-full}
-use Rattle.hit.proofs.Laws.{headAt, there-is}
-use Rattle.hit.specs.Inner.{hitThere}
 use Rattle.hit.specs.declared.inner.Lent.{Lent}
 use Rattle.hit.specs.declared.inner.Spot.{Spot}
 use Rattle.record.proofs.Numbers.{by-order}
 use Rattle.scan.proofs.Laws.{scan-missed, scan-found, scan-end}
-use Rattle.scan.specs.Scan.{Run, scanFrom}
-use Rattle.sheet.specs.declared.row.Row.{Row}
+use Rattle.scan.specs.Scan.{scanFrom}
 use Rattle.sheet.specs.Hits.{Hit}
-use Rattle.sheet.specs.Inner.{Told, on, over, Carves}
+use Rattle.sheet.specs.Inner.{on, over, Carves}
 
--- ---- one row
-
--- a row that is written with its columns is the hit that the definition has there
-pub row-is : (s : List ℕ) (from : ℕ) (hints : List ℕ) (spot : Spot) (lent : Lent) (n : ℕ) (rows cols : List ℕ) (o : ℕ) (x : Find) (row : Row) (r : Told) (rows′ cols′ : List ℕ)
-    → row ≡ regionHit spot (length hints) from o (foundAt s o x) .row
-    → Carves (lent .width) (lent .room) n (hitThere s (headAt o x (spot .start + from)) row ∷ []) false rows cols r rows′ cols′
-    → Carves (lent .width) (lent .room) n (regionHit spot (length hints) from o (foundAt s o x) ∷ []) false rows cols r rows′ cols′
-row-is s from hints spot lent n rows cols o x row r rows′ cols′ e c = rw (there-is s spot row from o x, e) at c
-
--- ---- one row after the other
 module _ (s : List ℕ) (from : ℕ) (hints : List ℕ) (spot : Spot) where
   -- the hits of what is left of a run, from o on and with k rows before it
   abbrev left-hits : ℕ → ℕ → ℕ → List Hit

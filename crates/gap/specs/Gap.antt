@@ -7,14 +7,13 @@ use lib.Dec.{ltb, leb, eqb}
 use lib.ListN.{length, take, drop}
 use Rattle.attempt.specs.Attempt.{Found}
 use Rattle.cells.specs.Cells.{payloadHits}
-use Rattle.hit.specs.Hit.{rowAt, hitOf}
+use Rattle.hit.specs.Hit.{intraPage, hitOf}
 use Rattle.hit.specs.declared.inner.Spot.{Spot}
 use Rattle.page.specs.Page.{Block, payloadOf, firstFreeblock, cellCount, contentStart, blockNext, blockSize}
 use Rattle.rebuild.specs.declared.rebuilding.Rebuilding.{Rebuilding}
 use Rattle.scan.specs.Scan.{Run, through, noRoom, missed, found, scanFrom}
-use Rattle.sheet.specs.Confidence.{share, percentOf}
+use Rattle.sheet.specs.Confidence.{share}
 use Rattle.sheet.specs.declared.row.RowId.the-variants.{Absent}
-use Rattle.sheet.specs.declared.row.Source.the-variants.{CarvedIntraPage}
 use Rattle.sheet.specs.Hits.{Hit}
 
 -- ---- the gap
@@ -39,10 +38,7 @@ allZero (b ∷ bs) = eqb b 0 && allZero bs
 
 -- Rule 11.2: the row at o of a region that begins at `from` in its page
 abbrev pub regionHit : Spot → ℕ → ℕ → ℕ → Found → Hit
-regionHit spot columns from o x =
-    hitOf spot
-    (rowAt spot (from + o) (x .consumed) Absent (CarvedIntraPage (percentOf (share (x .matched) columns))) (share (x .matched) columns))
-    from (x .columns)
+regionHit spot columns from o x = hitOf spot (from + o) from (intraPage Absent (share (x .matched) columns)) x
 
 abbrev pub runHits : Spot → ℕ → ℕ → Run → List Hit
 runHits spot columns from through = []

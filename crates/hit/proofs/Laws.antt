@@ -12,17 +12,18 @@ use Rattle.attempt.proofs.Shifts.{moved-at}
 use Rattle.attempt.specs.Attempt.{Tried, kinds}
 use Rattle.attempt.specs.Inner.{findTypes, foundAt, HitIs}
 use Rattle.attempt.specs.declared.inner.Find.{Find}
-use Rattle.hit.specs.Hit.{hitOf}
-use Rattle.hit.specs.Inner.{kindsAt, hitThere, Laid, Fitting, Space, Ready}
-use Rattle.hit.specs.declared.inner.Head.{Head}
+use Rattle.hit.specs.Hit.{rowAt, hitOf}
+use Rattle.hit.specs.Inner.{Laid, hitThere, Fitting, Space, Ready}
 use Rattle.hit.specs.declared.inner.Lent.{Lent}
+use Rattle.hit.specs.declared.inner.Origin.{Origin}
 use Rattle.hit.specs.declared.inner.Spot.{Spot}
 use Rattle.sheet.proofs.Laws.{sets-append, columns-words-length, room-rows, room-cols}
 use Rattle.sheet.specs.Columns.{unusedWords, roomOf}
-use Rattle.sheet.specs.Limits.{wordsPerRow, wordsPerEntry, largestRegion}
+use Rattle.sheet.specs.Limits.{wordsPerRow, wordsPerEntry}
+use Rattle.sheet.specs.Row.{rowWords}
 use Rattle.sheet.specs.Sheet.{rowsWords, columnsWords}
 use Rattle.sheet.specs.declared.row.Row.{Row}
-use Rattle.sheet.proofs.Carving.{told-on}
+use Rattle.sheet.proofs.Carving.{carves-one, told-on}
 use Rattle.sheet.specs.Hits.{Hit, rowsOf, groupWords, groupsWords}
 use Rattle.sheet.specs.Inner.{on, Told, Carves}
 
@@ -41,28 +42,25 @@ group-is cols group width columns h e =
 
 -- ---- a row that was found
 
--- where the header of a find stands: at o of bytes that lie `by` bytes into the lent slice
-abbrev pub headAt : ℕ → Find → ℕ → Head
-headAt o x by = record { o = o; head = x .head; from = x .from; by = by }
+pub there-length : (s : List ℕ) (o : ℕ) (x : Find) (by : ℕ) (row : Row) (columns : ℕ) → Laid s o x columns → length (hitThere s o x by row .columns) ≡ columns
+there-length s o x by row columns l = columns-at-length (by + (o + x .head)) (kinds (findTypes s o x)) ∙ l .counts
 
 -- THE LAW: what an attempt tells of is laid in the bytes,
-pub find-laid : (s hints : List ℕ) (o : ℕ) (t : Tried) (p : List ℕ) (x : Find) (by : ℕ) → HitIs s hints o t p x → by + length s ≤ largestRegion
-    → Laid s (headAt o x by) (length hints)
-find-laid s hints o t p x by is in′ =
-    record {
-      headed = is .headed;
-      bodies = omega (arith, is .bodies, is .inside);
-      counts = is .columns;
-      inside = in′;
-    }
+pub find-laid : (s hints : List ℕ) (o : ℕ) (t : Tried) (p : List ℕ) (x : Find) → HitIs s hints o t p x → Laid s o x (length hints)
+find-laid s hints o t p x is = record { headed = is .headed; bodies = omega (arith, is .bodies, is .inside); counts = is .columns }
 
 -- and written it is the row that was found, said of the lent slice: its bytes begin at `part` of a page
-pub there-is : (s : List ℕ) (spot : Spot) (row : Row) (part o : ℕ) (x : Find)
-    → hitThere s (headAt o x (spot .start + part)) row ≡ hitOf spot row part (foundAt s o x .columns)
-there-is s spot row part o x = rw (moved-at (spot .start + part) (o + x .head) (kinds (findTypes s o x)))
+module _ (s : List ℕ) (o : ℕ) (x : Find) (part : ℕ) (origin : Origin) (columns : ℕ) (spot : Spot) (lent : Lent) (n : ℕ) (rows cols rows′ cols′ : List ℕ) where
+  abbrev hit : Hit
+  hit = hitThere s o x (spot .start + part) (rowAt spot (part + o) origin (foundAt s o x))
 
-pub there-length : (s : List ℕ) (h : Head) (row : Row) (columns : ℕ) → Laid s h columns → length (hitThere s h row .columns) ≡ columns
-there-length s h row columns l = columns-at-length (h .by + (h .o + h .head)) (kindsAt s h) ∙ l .counts
+  pub found-written : Laid s o x columns → columns ≤ lent .width → n < lent .room → rows′ ≡ sets rows (n * wordsPerRow) (rowWords (hit .row))
+      → cols′ ≡ sets cols (n * (wordsPerEntry * lent .width)) (groupWords (lent .width) hit)
+      → Carves (lent .width) (lent .room) n (hitOf spot (part + o) part origin (foundAt s o x) ∷ []) false rows cols (on (n + 1)) rows′ cols′
+  found-written laid narrow below e f =
+      let few = there-length s o x (spot .start + part) (hit .row) columns laid in
+      rw (moved-at (spot .start + part) (o + x .head) (kinds (findTypes s o x)))
+      (carves-one (lent .width) (lent .room) n rows cols hit rows′ cols′ below (omega arith) e f)
 
 -- ---- room
 pub space-fits : (columns : ℕ) (lent : Lent) (n rows cols : ℕ) → Space columns lent n rows cols → n < lent .room → Fitting columns (lent .width) n rows cols

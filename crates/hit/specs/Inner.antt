@@ -5,8 +5,8 @@ use mathlib.Core.Path.{_≡_}
 use mathlib.Core.List.{List}
 use lib.ListN.{length}
 use Rattle.attempt.specs.Attempt.{kinds}
-use Rattle.attempt.specs.Inner.{sizes, columnsAt, headerTypes, Headed}
-use Rattle.hit.specs.declared.inner.Head.{Head}
+use Rattle.attempt.specs.Inner.{sizes, columnsAt, findTypes, Headed}
+use Rattle.attempt.specs.declared.inner.Find.{Find}
 use Rattle.hit.specs.declared.inner.Lent.{Lent}
 use Rattle.hit.specs.declared.inner.Spot.{Spot}
 use Rattle.sheet.specs.Columns.{roomOf}
@@ -14,19 +14,15 @@ use Rattle.sheet.specs.Limits.{wordsPerRow, wordsPerEntry, mostColumns, largest
 use Rattle.sheet.specs.declared.row.Row.{Row}
 use Rattle.sheet.specs.Hits.{Hit}
 
--- the types of a header, and the row that has them
-abbrev pub kindsAt : List ℕ → Head → List ℕ
-kindsAt s h = kinds (headerTypes s (h .o) (h .head) (h .from))
+-- a find at o has its header and so many columns in the bytes
+pub record Laid (s : List ℕ) (o : ℕ) (x : Find) (columns : ℕ) : Type 0 where
+  pub headed : Headed s o (x .head) (x .from)
+  pub bodies : o + x .head + sizes (kinds (findTypes s o x)) ≤ length s
+  pub counts : length (kinds (findTypes s o x)) ≡ columns
 
-abbrev pub hitThere : List ℕ → Head → Row → Hit
-hitThere s h row = record { row = row; columns = columnsAt (h .by + (h .o + h .head)) (kindsAt s h) }
-
--- so many columns lie in the bytes, and these in a slice that may be lent
-pub record Laid (s : List ℕ) (h : Head) (columns : ℕ) : Type 0 where
-  pub headed : Headed s (h .o) (h .head) (h .from)
-  pub bodies : h .o + h .head + sizes (kindsAt s h) ≤ length s
-  pub counts : length (kindsAt s h) ≡ columns
-  pub inside : h .by + length s ≤ largestRegion
+-- a row with its columns, where the bytes lie `by` bytes into the lent slice
+abbrev pub hitThere : List ℕ → ℕ → Find → ℕ → Row → Hit
+hitThere s o x by row = record { row = row; columns = columnsAt (by + (o + x .head)) (kinds (findTypes s o x)) }
 
 -- the row n and its group have their words in lists of so many
 pub record Fitting (columns width n rows cols : ℕ) : Type 0 where

@@ -3,27 +3,21 @@ use crate::inner::turn::Turn;
 use attempt::inner::Find;
 use attempt::inner::Verdict;
 use attempt::inner::attempt;
-use hit::inner::Head;
 use hit::inner::Lent;
 use hit::inner::Spot;
-use hit::inner::add_hit;
+use hit::inner::add_found;
+use hit::inner::intra_page;
 use record::varint::Cursor;
 use record::varint::Varint;
-use sheet::confidence::percent;
 use sheet::confidence::suited_share;
 use sheet::inner::Carved;
-use sheet::row::Mode;
-use sheet::row::Row;
 use sheet::row::RowId;
-use sheet::row::Source;
 ghost use mathlib.Core.Bool.{false};
-ghost use mathlib.Core.List.{[], _∷_};
 ghost use Prim.Native.Nat.{_+_, _≤_, _<_};
 ghost use lib.ListN.{length};
-ghost use Rattle.attempt.specs.Inner.{foundAt};
-ghost use Rattle.cells.specs.Cells.{cellAt, cellHit, cellHits, cellsOf};
+ghost use Rattle.cells.specs.Cells.{cellAt, cellHits, cellsOf};
 ghost use Rattle.cells.specs.Inner.{CellIs, cellsThere, nextPlace, turnAs, GoesTo};
-ghost use Rattle.hit.specs.Inner.{Laid, Ready};
+ghost use Rattle.hit.specs.Inner.{Ready};
 ghost use Rattle.sheet.specs.Limits.{largestRegion};
 ghost use Rattle.sheet.specs.Inner.{carvedAs, Carves};
 
@@ -75,43 +69,6 @@ fn cell_at(payload: &[u8], hints: &[u8], pos: usize) -> Cell
     }
 }
 
-// Adds the row that a record is, which stands at o in its page.
-fn add_cell(
-    body: &[u8],
-    find: Find,
-    id: u64,
-    columns: usize,
-    spot: Spot,
-    o: usize,
-    lent: Lent,
-    n: usize,
-    rows: &mut [u64],
-    cols: &mut [u64],
-) -> Carved
-    requires { ⌜ Laid (now body) (record { o = 0; head = find .head; from = find .from; by = spot .start + o }) columns ⌝ }
-    requires { ⌜ Ready (o + length (now body)) columns spot lent n (length (now rows)) (length (now cols)) ⌝ }
-    ensures { λ r. ⌜ Carves (lent .width) (lent .room) n (cellHit spot columns o id (foundAt (now (body .entry)) 0 find) ∷ []) false
-        (now (rows .entry)) (now (cols .entry)) (carvedAs r) (now (rows .exit)) (now (cols .exit)) ⌝ }
-{
-    let confidence = suited_share(find.matched, columns as u16);
-    let row = Row {
-        offset: spot.base + o as u64,
-        consumed: find.consumed as u64,
-        id: RowId::Present(id),
-        source: Source::CarvedIntraPage(percent(confidence)),
-        confidence,
-        mode: Mode::Plain,
-        table: spot.table,
-    };
-    let at = Head {
-        o: 0,
-        head: find.head,
-        from: find.from,
-        by: spot.start + o,
-    };
-    add_hit(body, at, columns, row, lent, n, rows, cols)
-}
-
 // One place: the row of the cell there, if there is one, and where the next is looked for.
 fn carve_place(
     payload: &[u8],
@@ -140,13 +97,17 @@ fn carve_place(
     else {
         return Turn::On { next: pos + 1, n };
     };
-    let Carved::On(m) = add_cell(
+    let columns = hints.len();
+    let confidence = suited_share(find.matched, columns as u16);
+    let origin = intra_page(RowId::Present(id), confidence);
+    let Carved::On(m) = add_found(
         &payload[start..end],
+        0,
         find,
-        id,
-        hints.len(),
-        spot,
         o + start,
+        origin,
+        columns,
+        spot,
         lent,
         n,
         rows,

@@ -1,76 +1,29 @@
 // Records whose header's length is lost: each start of a payload is tried.
 use crate::inner::turn::Turn;
-use attempt::inner::Find;
-use hit::inner::Head;
 use hit::inner::Lent;
 use hit::inner::Spot;
-use hit::inner::add_hit;
+use hit::inner::add_found;
+use hit::inner::intra_page;
 use rebuild::inner::Rebuilt;
 use rebuild::inner::rebuild;
 use rebuild::rebuilding::Rebuilding;
-use sheet::confidence::percent;
 use sheet::confidence::rebuilt;
 use sheet::confidence::suited_share;
 use sheet::inner::Carved;
-use sheet::row::Mode;
-use sheet::row::Row;
 use sheet::row::RowId;
-use sheet::row::Source;
 use starts::inner::is_cell;
 use starts::inner::next_start;
 use starts::inner::starts_of;
 ghost use mathlib.Core.Bool.{false};
-ghost use mathlib.Core.List.{[], _∷_};
 ghost use Prim.Native.Nat.{_+_, _≤_};
 ghost use lib.ListN.{length};
-ghost use Rattle.cells.specs.Cells.{cellsOf, startsOf, rebuiltHit, startHits, rebuiltFrom};
+ghost use Rattle.cells.specs.Cells.{cellsOf, startsOf, startHits, rebuiltFrom};
 ghost use Rattle.cells.specs.Inner.{nextRow, Standing, turnAs, GoesTo};
-ghost use Rattle.hit.specs.Inner.{Laid, Ready};
+ghost use Rattle.hit.specs.Inner.{Ready};
 ghost use Rattle.rebuild.specs.Header.{mostBy, rebuilt as rebuiltAt};
-ghost use Rattle.rebuild.specs.Inner.{foundFrom};
 ghost use Rattle.starts.specs.Starts.{rebuiltStarts};
 ghost use Rattle.starts.specs.Inner.{isCell};
 ghost use Rattle.sheet.specs.Inner.{carvedAs, Carves};
-
-// Adds the row whose types begin at v of a payload, which stands at o in its page.
-fn add_rebuilt(
-    payload: &[u8],
-    v: usize,
-    find: Find,
-    columns: usize,
-    spot: Spot,
-    o: usize,
-    lent: Lent,
-    n: usize,
-    rows: &mut [u64],
-    cols: &mut [u64],
-) -> Carved
-    requires { ⌜ v ≤ length (now payload) ⌝ }
-    requires { ⌜ Laid (now payload) (record { o = v; head = find .head; from = find .from; by = spot .start + o }) columns ⌝ }
-    requires { ⌜ Ready (o + length (now payload)) columns spot lent n (length (now rows)) (length (now cols)) ⌝ }
-    ensures { λ r. ⌜ Carves (lent .width) (lent .room) n (rebuiltHit spot columns (o + v) (foundFrom (now (payload .entry)) v find) ∷ [])
-        false (now (rows .entry)) (now (cols .entry)) (carvedAs r) (now (rows .exit)) (now (cols .exit)) ⌝ }
-{
-    let share = suited_share(find.matched, columns as u16);
-    let confidence = rebuilt(share);
-    let place = o + v;
-    let row = Row {
-        offset: spot.base + place as u64,
-        consumed: find.consumed as u64,
-        id: RowId::Absent,
-        source: Source::CarvedIntraPage(percent(confidence)),
-        confidence,
-        mode: Mode::Plain,
-        table: spot.table,
-    };
-    let at = Head {
-        o: v,
-        head: find.head,
-        from: find.from,
-        by: spot.start + o,
-    };
-    add_hit(payload, at, columns, row, lent, n, rows, cols)
-}
 
 // One start, which is passed over if the record of a cell starts there: the row k is the next of a cell.
 fn carve_start(
@@ -102,8 +55,22 @@ fn carve_start(
     let Rebuilt::Found(find) = rebuild(how, payload, hints, v) else {
         return Turn::On { next: k, n };
     };
-    let Carved::On(m) = add_rebuilt(payload, v, find, hints.len(), spot, o, lent, n, rows, cols)
-    else {
+    let columns = hints.len();
+    let confidence = rebuilt(suited_share(find.matched, columns as u16));
+    let origin = intra_page(RowId::Absent, confidence);
+    let Carved::On(m) = add_found(
+        payload,
+        v,
+        find,
+        o,
+        origin,
+        columns,
+        spot,
+        lent,
+        n,
+        rows,
+        cols,
+    ) else {
         return Turn::Full;
     };
     Turn::On { next: k, n: m }

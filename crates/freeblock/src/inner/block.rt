@@ -2,15 +2,13 @@
 use attempt::inner::Find;
 use attempt::inner::Verdict;
 use attempt::inner::attempt;
-use hit::inner::Head;
 use hit::inner::Lent;
+use hit::inner::Origin;
 use hit::inner::Spot;
-use hit::inner::add_hit;
+use hit::inner::add_found;
 use sheet::confidence::freed;
 use sheet::confidence::suited_share;
 use sheet::inner::Carved;
-use sheet::row::Mode;
-use sheet::row::Row;
 use sheet::row::RowId;
 use sheet::row::Source;
 ghost use mathlib.Core.Path.{_≡_};
@@ -72,23 +70,24 @@ fn carve_payload(
         return Carved::On(n);
     };
     let columns = hints.len();
-    let place = o + v;
-    let row = Row {
-        offset: spot.base + place as u64,
-        consumed: find.consumed as u64,
+    let origin = Origin {
         id: RowId::Absent,
         source: Source::Freelist,
         confidence: freed(suited_share(find.matched, columns as u16)),
-        mode: Mode::Plain,
-        table: spot.table,
     };
-    let at = Head {
-        o: 0,
-        head: find.head,
-        from: find.from,
-        by: spot.start + place,
-    };
-    add_hit(&payload[v..], at, columns, row, lent, n, rows, cols)
+    add_found(
+        &payload[v..],
+        0,
+        find,
+        o + v,
+        origin,
+        columns,
+        spot,
+        lent,
+        n,
+        rows,
+        cols,
+    )
 }
 
 // Carves the block of so many bytes at a place of a page.

@@ -1,31 +1,22 @@
 // The gap of a page, scanned as a region.
-use attempt::inner::Find;
 use filter::inner::High;
 use filter::inner::Next;
 use filter::inner::last_of;
 use filter::inner::next_row;
-use hit::inner::Head;
 use hit::inner::Lent;
 use hit::inner::Spot;
-use hit::inner::add_hit;
+use hit::inner::add_found;
+use hit::inner::intra_page;
 use page::inner::cell_count;
 use page::inner::content_start;
-use sheet::confidence::percent;
 use sheet::confidence::suited_share;
 use sheet::inner::Carved;
-use sheet::row::Mode;
-use sheet::row::Row;
 use sheet::row::RowId;
-use sheet::row::Source;
 ghost use mathlib.Core.Path.{_≡_};
 ghost use mathlib.Core.Bool.{false};
-ghost use mathlib.Core.List.{[], _∷_};
 ghost use Prim.Native.Nat.{_+_, _≤_};
 ghost use lib.ListN.{length};
-ghost use Rattle.attempt.specs.Attempt.{attemptAt};
-ghost use Rattle.attempt.specs.Inner.{foundAt, HitIs};
-ghost use Rattle.attempt.specs.Places.{attemptPlaces};
-ghost use Rattle.gap.specs.Gap.{allZero, gapFrom, gapTo, regionHit, regionHits, gapHits};
+ghost use Rattle.gap.specs.Gap.{allZero, gapFrom, gapTo, regionHits, gapHits};
 ghost use Rattle.hit.specs.Inner.{Ready};
 ghost use Rattle.page.specs.Inner.{farthest};
 ghost use Rattle.sheet.specs.Inner.{carvedAs, Carves};
@@ -44,45 +35,6 @@ fn all_zero(bytes: &[u8]) -> bool
         i = i + 1;
     }
     true
-}
-
-// Adds the row at o of a region that begins at `from` in its page.
-fn add_row(
-    bytes: &[u8],
-    from: usize,
-    o: usize,
-    find: Find,
-    hints: &[u8],
-    spot: Spot,
-    lent: Lent,
-    n: usize,
-    rows: &mut [u64],
-    cols: &mut [u64],
-) -> Carved
-    requires { ⌜ HitIs (now bytes) (now hints) o (attemptAt (now bytes) (now hints) o) (attemptPlaces (now bytes) o) find ⌝ }
-    requires { ⌜ Ready (from + length (now bytes)) (length (now hints)) spot lent n (length (now rows)) (length (now cols)) ⌝ }
-    ensures { λ r. ⌜ Carves (lent .width) (lent .room) n (regionHit spot (length (now (hints .entry))) from o
-        (foundAt (now (bytes .entry)) o find) ∷ []) false (now (rows .entry)) (now (cols .entry)) (carvedAs r) (now (rows .exit))
-        (now (cols .exit)) ⌝ }
-{
-    let columns = hints.len();
-    let confidence = suited_share(find.matched, columns as u16);
-    let row = Row {
-        offset: spot.base + (from + o) as u64,
-        consumed: find.consumed as u64,
-        id: RowId::Absent,
-        source: Source::CarvedIntraPage(percent(confidence)),
-        confidence,
-        mode: Mode::Plain,
-        table: spot.table,
-    };
-    let at = Head {
-        o,
-        head: find.head,
-        from: find.from,
-        by: spot.start + from,
-    };
-    add_hit(bytes, at, columns, row, lent, n, rows, cols)
 }
 
 // Scans a region that begins at `from` in its page.
@@ -108,8 +60,22 @@ fn carve_region(
         let Next::Row { at, find, run, .. } = next_row(bytes, hints, o, last, met) else {
             return Carved::On(m);
         };
-        let Carved::On(next) = add_row(bytes, from, at, find, hints, spot, lent, m, rows, cols)
-        else {
+        let columns = hints.len();
+        let confidence = suited_share(find.matched, columns as u16);
+        let origin = intra_page(RowId::Absent, confidence);
+        let Carved::On(next) = add_found(
+            bytes,
+            at,
+            find,
+            from,
+            origin,
+            columns,
+            spot,
+            lent,
+            m,
+            rows,
+            cols,
+        ) else {
             return Carved::Full;
         };
         m = next;

@@ -44,9 +44,9 @@ returns : tie.Need-returns
 returns c =
     let s = c .before .before .before .before .before .before .before .before .before .before .before .before .before .before .before in
     let a = s .args in
-    let hit = hitThere (now (a .bytes)) (a .at) (a .row) in (
+    let hit = hitThere (now (a .bytes)) (a .o) (a .find) (a .by) (a .row) in (
       c .before .before .before .before .before .before .before .before .before .before .put-row .ensures,
-      c .before .before .put-unused .ensures ∙ rw (c .before .before .before .before .before .before .put-columns .ensures) (group-is (now (a .cols)) (a .n * (wordsPerEntry * a .width)) (a .width) (a .columns) hit (there-length (now (a .bytes)) (a .at) (a .row) (a .columns) (s .pre .0))),
+      c .before .before .put-unused .ensures ∙ rw (c .before .before .before .before .before .before .put-columns .ensures) (group-is (now (a .cols)) (a .n * (wordsPerEntry * a .width)) (a .width) (a .columns) hit (there-length (now (a .bytes)) (a .o) (a .find) (a .by) (a .row) (a .columns) (s .pre .0))),
     )
 
 pub put-hit-spec : {M : Type 1} → statement M

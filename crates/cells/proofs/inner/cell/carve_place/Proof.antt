@@ -1,9 +1,15 @@
 -- `cells::inner::cell::carve_place` meets its contract: no cell, or the row of one.
 -- Assumes nothing.
+use mathlib.Core.Path.{_≡_, _∙_}
 use native.Mathlib.Omega.{arith}
 use denote.Ref.{now}
+use lib.ListN.{length}
 use Rattle.cells.specs.Inner.{CellFound}
-use Rattle.cells.proofs.Looking.{place-none, place-laid, place-ready, place-one, place-next}
+use Rattle.cells.proofs.Looking.{place-none, place-ready, place-one, place-next}
+use Rattle.hit.proofs.Laws.{find-laid}
+use Rattle.hit.specs.Hit.{intraPage}
+use Rattle.sheet.specs.Confidence.{share}
+use Rattle.sheet.specs.declared.row.RowId.the-variants.{Present}
 use borrow.Author.Needs.{needs}
 use Rattle.cells.proofs.inner.cell.carve_place.Statement.{statement}
 use Rattle.cells.proofs.inner.cell.carve_place.Tie as tie
@@ -17,8 +23,8 @@ enum-known-start c = search needs
 enum-told : tie.Need-enum-told
 enum-told c = search needs
 
-add-t16 : tie.Need-add-t16
-add-t16 c = search needs
+add-t19 : tie.Need-add-t19
+add-t19 c = search needs
 
 returns : tie.Need-returns
 returns c = place-none _ _ _ _ _ _ _ _ _ (c .before .before .before .before .before .before .before .pre .1) (rw (c .enum-told .given .1) at (c .before .before .cell-at .ensures))
@@ -30,23 +36,38 @@ found : (c : tie.After-known-told) →
     CellFound (now (a .payload)) (now (a .hints)) (a .pos) (x .0) (x .1 .0) (x .1 .1 .0) (x .1 .1 .1 .0)
 found c = rw (c .before .start .given .1) at (c .before .before .before .cell-at .ensures)
 
-sub-add-cell : tie.Need-sub-add-cell
-sub-add-cell c = found c .on
+cast-suited-share : tie.Need-cast-suited-share
+cast-suited-share c = search needs
 
-part-add-cell-start : tie.Need-part-add-cell-start
-part-add-cell-start c = found c .on
+suited-share-requires : tie.Need-suited-share-requires
+suited-share-requires c κs = search needs
 
-part-add-cell-end : tie.Need-part-add-cell-end
-part-add-cell-end c = found c .inside
+intra-page-requires : tie.Need-intra-page-requires
+intra-page-requires c κs = search needs
 
-add-add-cell : tie.Need-add-add-cell
-add-add-cell c = omega (arith, found (c .before) .on, found (c .before) .inside, c .before .before .before .before .before .before .before .before .before .pre .1 .inside)
+-- where its row comes from
+origin-is : (c : tie.After-intra-page) →
+    let x = c .before .before .before .start .given .0 in
+    c .intra-page .result ≡ intraPage (Present (x .1 .1 .0)) (share (x .1 .1 .1 .0 .matched) (length (now (c .before .before .before .before .before .before .before .before .before .before .args .hints))))
+origin-is c = c .intra-page .ensures ∙ rw (c .before .suited-share .ensures)
 
-add-cell-requires : tie.Need-add-cell-requires
-add-cell-requires c κs =
-    let s = c .before .before .before .before .before .before .before .before .before .before .before in
-    let f = found (c .before .before .before) in
-    (place-laid _ _ _ _ _ _ _ (now (s .args .rows)) (now (s .args .cols)) (s .pre .1) _ _ _ _ f, place-ready _ _ _ _ _ _ _ (now (s .args .rows)) (now (s .args .cols)) (s .pre .1) _ _ _ _ f)
+sub-add-found : tie.Need-sub-add-found
+sub-add-found c = found (c .before .before) .on
+
+part-add-found-start : tie.Need-part-add-found-start
+part-add-found-start c = found (c .before .before) .on
+
+part-add-found-end : tie.Need-part-add-found-end
+part-add-found-end c = found (c .before .before) .inside
+
+add-add-found : tie.Need-add-add-found
+add-add-found c = let f = found (c .before .before .before) in omega (arith, f .on, f .inside, c .before .before .before .before .before .before .before .before .before .before .before .pre .1 .inside)
+
+add-found-requires : tie.Need-add-found-requires
+add-found-requires c κs =
+    let s = c .before .before .before .before .before .before .before .before .before .before .before .before .before in
+    let f = found (c .before .before .before .before .before) in
+    (find-laid _ _ _ _ _ _ (f .found), place-ready _ _ _ _ _ _ _ (now (s .args .rows)) (now (s .args .cols)) (s .pre .1) _ _ _ _ f)
 
 enum-known-m : tie.Need-enum-known-m
 enum-known-m c = search needs
@@ -62,8 +83,8 @@ same-length-2 c = search needs
 
 returns-2 : tie.Need-returns-2
 returns-2 c =
-    let x = rw (c .enum-told2 .given .1) at (c .before .before .before .before .before .before .add-cell .ensures) in
-    (place-one _ _ _ _ _ _ _ _ _ (c .before .before .before .before .before .before .before .before .before .before .before .before .before .before .before .before .before .before .pre .1) _ _ _ _ (found (c .before .before .before .before .before .before .before .before .before .before)) _ _ _ x, tt)
+    let x = rw (c .enum-told2 .given .1) at (c .before .before .before .before .before .before .add-found .ensures) in
+    (place-one _ _ _ _ _ _ _ _ _ (c .before .before .before .before .before .before .before .before .before .before .before .before .before .before .before .before .before .before .before .before .pre .1) _ _ _ _ (found (c .before .before .before .before .before .before .before .before .before .before .before .before)) _ _ _ _ (origin-is (c .before .before .before .before .before .before .before .before .before .before)) x, tt)
 
 same-length-3 : tie.Need-same-length-3
 same-length-3 c = search needs
@@ -73,10 +94,10 @@ same-length-4 c = search needs
 
 returns-3 : tie.Need-returns-3
 returns-3 c =
-    let s = c .before .before .before .before .before .before .before .before .before .before .before .before .before .before .before .before .before .before .before in
-    let f = found (c .before .before .before .before .before .before .before .before .before .before .before) in
-    let x = rw (c .before .m .given .1) at (c .before .before .before .before .before .before .before .add-cell .ensures) in
-    (place-one _ _ _ _ _ _ _ _ _ (s .pre .1) _ _ _ _ f _ _ _ x, place-next _ _ _ _ _ _ _ (now (s .args .rows)) (now (s .args .cols)) (s .pre .1) _ _ _ _ f)
+    let s = c .before .before .before .before .before .before .before .before .before .before .before .before .before .before .before .before .before .before .before .before .before in
+    let f = found (c .before .before .before .before .before .before .before .before .before .before .before .before .before) in
+    let x = rw (c .before .m .given .1) at (c .before .before .before .before .before .before .before .add-found .ensures) in
+    (place-one _ _ _ _ _ _ _ _ _ (s .pre .1) _ _ _ _ f _ _ _ _ (origin-is (c .before .before .before .before .before .before .before .before .before .before .before)) x, place-next _ _ _ _ _ _ _ (now (s .args .rows)) (now (s .args .cols)) (s .pre .1) _ _ _ _ f)
 
 pub carve-place-spec : {M : Type 1} → statement M
 carve-place-spec =
@@ -85,13 +106,16 @@ carve-place-spec =
     cell-at-requires
     enum-known-start
     enum-told
-    add-t16
+    add-t19
     returns
-    sub-add-cell
-    part-add-cell-start
-    part-add-cell-end
-    add-add-cell
-    add-cell-requires
+    cast-suited-share
+    suited-share-requires
+    intra-page-requires
+    sub-add-found
+    part-add-found-start
+    part-add-found-end
+    add-add-found
+    add-found-requires
     enum-known-m
     enum-told-2
     same-length

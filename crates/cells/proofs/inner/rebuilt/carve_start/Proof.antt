@@ -8,10 +8,14 @@ use native.Mathlib.Omega.{arith}
 use denote.Ref.{now}
 use lib.ListN.{length}
 use Rattle.starts.specs.Inner.{isCell}
-use Rattle.cells.proofs.Rebuilding.{start-passed, start-next, start-none, start-laid, start-one}
+use Rattle.cells.proofs.Rebuilding.{start-passed, start-next, start-none, start-one}
 use Rattle.cells.proofs.Skipping.{rows-fit}
 use Rattle.starts.proofs.Laws.{cell-below}
 use Rattle.rebuild.specs.Inner.{RebuiltFound}
+use Rattle.hit.proofs.Laws.{find-laid}
+use Rattle.hit.specs.Hit.{intraPage}
+use Rattle.sheet.specs.Confidence.{share, rebuiltShare}
+use Rattle.sheet.specs.declared.row.RowId.the-variants.{Absent}
 use borrow.Author.Needs.{needs}
 use Rattle.cells.proofs.inner.rebuilt.carve_start.Statement.{statement}
 use Rattle.cells.proofs.inner.rebuilt.carve_start.Tie as tie
@@ -31,8 +35,8 @@ is-cell-requires c κs =
 passed : (c : tie.Then1) → let a = c .before .before .before .before .before .before .before .before .args in isCell (now (a .rows)) (a .k) (a .cells) (a .spot .base + (a .o + a .v)) ≡ true
 passed c = sym (c .before .is-cell .ensures) ∙ c .if1 .taken
 
-add-t21 : tie.Need-add-t21
-add-t21 c = omega (arith, cell-below _ _ _ _ (passed c))
+add-t24 : tie.Need-add-t24
+add-t24 c = omega (arith, cell-below _ _ _ _ (passed c))
 
 same-length : tie.Need-same-length
 same-length c = search needs
@@ -68,10 +72,25 @@ returns-2 c =
 found : (c : tie.After-known-told) → let a = c .before .before .before .before .before .before .before .before .before .before .before .before .args in RebuiltFound (a .how) (now (a .payload)) (now (a .hints)) (a .v) (c .before .find .given .0 .0)
 found c = rw (c .before .find .given .1) at (c .before .before .before .rebuild .ensures)
 
-add-rebuilt-requires : tie.Need-add-rebuilt-requires
-add-rebuilt-requires c κs =
-    let s = c .before .before .before .before .before .before .before .before .before .before .before .before .before .before in
-    (s .pre .0 .0, (start-laid _ _ _ _ _ _ _ (s .args .k) (s .args .cells) _ (now (s .args .rows)) (now (s .args .cols)) (s .pre .1) (clear (c .before .before .before .before .before .before)) _ (found (c .before .before)), s .pre .1))
+cast-suited-share : tie.Need-cast-suited-share
+cast-suited-share c = search needs
+
+suited-share-requires : tie.Need-suited-share-requires
+suited-share-requires c κs = search needs
+
+rebuilt-requires : tie.Need-rebuilt-requires
+rebuilt-requires c κs = search needs
+
+intra-page-requires : tie.Need-intra-page-requires
+intra-page-requires c κs = search needs
+
+-- where it comes from
+origin-is : (c : tie.After-intra-page) →
+    c .intra-page .result ≡ intraPage Absent (rebuiltShare (share (c .before .before .before .before .find .given .0 .0 .matched) (length (now (c .before .before .before .before .before .before .before .before .before .before .before .before .before .before .before .args .hints)))))
+origin-is c = c .intra-page .ensures ∙ rw (c .before .rebuilt .ensures, c .before .before .suited-share .ensures)
+
+add-found-requires : tie.Need-add-found-requires
+add-found-requires c κs = (find-laid _ _ _ _ _ _ (found (c .before .before .before .before .before) .found), c .before .before .before .before .before .before .before .before .before .before .before .before .before .before .before .before .before .pre .1)
 
 enum-known-m : tie.Need-enum-known-m
 enum-known-m c = search needs
@@ -87,8 +106,8 @@ same-length-4 c = search needs
 
 returns-3 : tie.Need-returns-3
 returns-3 c =
-    let x = rw (c .enum-told2 .given .1) at (c .before .before .before .before .before .before .add-rebuilt .ensures) in
-    (start-one _ _ _ _ _ _ _ _ _ _ _ _ (c .before .before .before .before .before .before .before .before .before .before .before .before .before .before .before .before .before .before .before .before .before .pre .1) (clear (c .before .before .before .before .before .before .before .before .before .before .before .before .before)) _ (found (c .before .before .before .before .before .before .before .before .before)) _ _ _ x, tt)
+    let x = rw (c .enum-told2 .given .1) at (c .before .before .before .before .before .before .add-found .ensures) in
+    (start-one _ _ _ _ _ _ _ _ _ _ _ _ (c .before .before .before .before .before .before .before .before .before .before .before .before .before .before .before .before .before .before .before .before .before .before .before .before .pre .1) (clear (c .before .before .before .before .before .before .before .before .before .before .before .before .before .before .before .before)) _ (found (c .before .before .before .before .before .before .before .before .before .before .before .before)) _ _ _ _ (origin-is (c .before .before .before .before .before .before .before .before .before)) x, tt)
 
 same-length-5 : tie.Need-same-length-5
 same-length-5 c = search needs
@@ -98,10 +117,10 @@ same-length-6 c = search needs
 
 returns-4 : tie.Need-returns-4
 returns-4 c =
-    let s = c .before .before .before .before .before .before .before .before .before .before .before .before .before .before .before .before .before .before .before .before .before .before in
-    let e = clear (c .before .before .before .before .before .before .before .before .before .before .before .before .before .before) in
-    let x = rw (c .before .m .given .1) at (c .before .before .before .before .before .before .before .add-rebuilt .ensures) in (
-      start-one _ _ _ _ _ _ _ _ _ _ _ _ (s .pre .1) e _ (found (c .before .before .before .before .before .before .before .before .before .before)) _ _ _ x,
+    let s = c .before .before .before .before .before .before .before .before .before .before .before .before .before .before .before .before .before .before .before .before .before .before .before .before .before in
+    let e = clear (c .before .before .before .before .before .before .before .before .before .before .before .before .before .before .before .before .before) in
+    let x = rw (c .before .m .given .1) at (c .before .before .before .before .before .before .before .add-found .ensures) in (
+      start-one _ _ _ _ _ _ _ _ _ _ _ _ (s .pre .1) e _ (found (c .before .before .before .before .before .before .before .before .before .before .before .before .before)) _ _ _ _ (origin-is (c .before .before .before .before .before .before .before .before .before .before)) x,
       start-next _ _ e,
     )
 
@@ -112,7 +131,7 @@ carve-start-spec =
     add-place
     add-is-cell
     is-cell-requires
-    add-t21
+    add-t24
     same-length
     returns
     rebuild-requires
@@ -120,7 +139,11 @@ carve-start-spec =
     enum-told
     same-length-2
     returns-2
-    add-rebuilt-requires
+    cast-suited-share
+    suited-share-requires
+    rebuilt-requires
+    intra-page-requires
+    add-found-requires
     enum-known-m
     enum-told-2
     same-length-3

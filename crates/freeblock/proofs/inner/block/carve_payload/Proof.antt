@@ -4,10 +4,10 @@ use native.Mathlib.Omega.{arith}
 use borrow.Author.Needs.{needs}
 use denote.Ref.{now}
 use Rattle.freeblock.specs.Inner.{StartIs}
-use Rattle.freeblock.proofs.Blocks.{payload-none, payload-laid, payload-one}
+use Rattle.freeblock.proofs.Blocks.{payload-none, payload-ready, payload-one}
 use Rattle.freeblock.proofs.inner.block.carve_payload.Statement.{statement}
 use Rattle.freeblock.proofs.inner.block.carve_payload.Tie as tie
-use Rattle.hit.proofs.Laws.{part-is}
+use Rattle.hit.proofs.Laws.{part-is, find-laid}
 
 first-start-requires : tie.Need-first-start-requires
 first-start-requires c κs = search needs
@@ -25,12 +25,6 @@ returns c = payload-none _ _ _ _ _ _ _ _ (c .before .before .before .before .bef
 started : (c : tie.After-known-told) → let a = c .before .before .before .before .before .before .before .before .args in StartIs (now (a .payload)) (now (a .hints)) (c .before .v .given .0 .0) (c .before .v .given .0 .1 .0)
 started c = rw (c .before .v .given .1) at (c .before .before .before .first-start .ensures)
 
-add-place : tie.Need-add-place
-add-place c = omega (arith, started c .inside, c .before .before .before .before .before .before .before .before .pre .inside)
-
-add-t17 : tie.Need-add-t17
-add-t17 c = let p = c .before .before .before .before .before .before .before .before .before .pre in omega (arith, started (c .before) .inside, p .inside, p .near)
-
 cast-suited-share : tie.Need-cast-suited-share
 cast-suited-share c = search needs
 
@@ -40,23 +34,23 @@ suited-share-requires c κs = search needs
 freed-requires : tie.Need-freed-requires
 freed-requires c κs = search needs
 
-add-add-hit : tie.Need-add-add-hit
-add-add-hit c = omega (arith, started (c .before .before .before .before) .inside, c .before .before .before .before .before .before .before .before .before .before .before .before .pre .inside)
+sub-add-found : tie.Need-sub-add-found
+sub-add-found c = omega (arith, started (c .before .before) .inside)
 
-sub-add-hit : tie.Need-sub-add-hit
-sub-add-hit c = omega (arith, started (c .before .before .before .before) .inside)
+part-add-found-start : tie.Need-part-add-found-start
+part-add-found-start c = omega (arith, started (c .before .before) .inside)
 
-part-add-hit-start : tie.Need-part-add-hit-start
-part-add-hit-start c = omega (arith, started (c .before .before .before .before) .inside)
+part-add-found-end : tie.Need-part-add-found-end
+part-add-found-end c = search needs
 
-part-add-hit-end : tie.Need-part-add-hit-end
-part-add-hit-end c = search needs
+add-add-found : tie.Need-add-add-found
+add-add-found c = omega (arith, started (c .before .before .before) .inside, c .before .before .before .before .before .before .before .before .before .before .before .pre .inside)
 
-add-hit-requires : tie.Need-add-hit-requires
-add-hit-requires c κs =
-    let s = c .before .before .before .before .before .before .before .before .before .before .before .before .before .before .before in
-    let is = started (c .before .before .before .before .before .before .before) in
-    (rw (part-is (now (s .args .payload)) (c .before .before .before .before .before .before .before .before .v .given .0 .0)) (payload-laid _ _ _ _ _ _ (now (s .args .rows)) (now (s .args .cols)) (s .pre) _ _ is), s .pre .space)
+add-found-requires : tie.Need-add-found-requires
+add-found-requires c κs =
+    let s = c .before .before .before .before .before .before .before .before .before .before .before .before .before in
+    let is = started (c .before .before .before .before .before) in
+    rw (part-is (now (s .args .payload)) (c .before .before .before .before .before .before .v .given .0 .0)) (find-laid _ _ _ _ _ _ (is .found), payload-ready _ _ _ _ _ _ (now (s .args .rows)) (now (s .args .cols)) (s .pre) _ _ is)
 
 same-length : tie.Need-same-length
 same-length c = search needs
@@ -66,10 +60,9 @@ same-length-2 c = search needs
 
 returns-2 : tie.Need-returns-2
 returns-2 c =
-    let s = c .before .before .before .before .before .before .before .before .before .before .before .before .before .before .before .before .before .before .before .before in
-    let is = started (c .before .before .before .before .before .before .before .before .before .before .before .before) in
-    let x = rw (part-is (now (s .args .payload)) (c .before .before .before .before .before .before .before .before .before .before .before .before .before .v .given .0 .0)) at (c .before .before .before .before .add-hit .ensures) in
-    payload-one _ _ _ _ _ _ _ _ (s .pre) _ _ is _ _ _ _ (rw (c .before .before .before .before .before .before .before .before .before .freed .ensures, c .before .before .before .before .before .before .before .before .before .before .suited-share .ensures)) x
+    let s = c .before .before .before .before .before .before .before .before .before .before .before .before .before .before .before .before .before .before in
+    let x = rw (part-is (now (s .args .payload)) (c .before .before .before .before .before .before .before .before .before .before .before .v .given .0 .0)) at (c .before .before .before .before .add-found .ensures) in
+    payload-one _ _ _ _ _ _ _ _ (s .pre) _ _ (started (c .before .before .before .before .before .before .before .before .before .before)) _ _ _ _ (rw (c .before .before .before .before .before .before .before .before .freed .ensures, c .before .before .before .before .before .before .before .before .before .suited-share .ensures)) x
 
 pub carve-payload-spec : {M : Type 1} → statement M
 carve-payload-spec =
@@ -79,16 +72,14 @@ carve-payload-spec =
     enum-known-v
     enum-told
     returns
-    add-place
-    add-t17
     cast-suited-share
     suited-share-requires
     freed-requires
-    add-add-hit
-    sub-add-hit
-    part-add-hit-start
-    part-add-hit-end
-    add-hit-requires
+    sub-add-found
+    part-add-found-start
+    part-add-found-end
+    add-add-found
+    add-found-requires
     same-length
     same-length-2
     returns-2)

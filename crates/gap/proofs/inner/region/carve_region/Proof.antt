@@ -1,7 +1,7 @@
 -- `gap::inner::region::carve_region` meets its contract: what the loop has carved, with what is left of the run, are the hits of the whole run (`Scanning`).
 -- Assumes nothing.
 use Prim.Native.Nat.{_+_, _-_, _≤_, _<_}
-use mathlib.Core.Path.{_∙_}
+use mathlib.Core.Path.{_≡_, _∙_}
 use native.Mathlib.Omega.{arith}
 use borrow.Author.Needs.{needs}
 use denote.Ref.{now}
@@ -13,7 +13,11 @@ use Rattle.filter.specs.Inner.{IsHigh, RowIs, ThroughIs}
 use Rattle.gap.proofs.Regions.{Scanning, scanning-start, scanning-passed, scanning-through, scanning-found, scanning-full}
 use Rattle.gap.proofs.inner.region.carve_region.Statement.{statement}
 use Rattle.gap.proofs.inner.region.carve_region.Tie as tie
+use Rattle.hit.proofs.Laws.{find-laid}
+use Rattle.hit.specs.Hit.{intraPage}
+use Rattle.sheet.specs.Confidence.{share}
 use Rattle.sheet.specs.Limits.{largestRegion}
+use Rattle.sheet.specs.declared.row.RowId.the-variants.{Absent}
 
 abbrev Inv-loop : tie.InvT-loop
 Inv-loop bytes from hints spot lent n rows₀ cols₀ last o₀ m₀ met₀ rows cols o m met = Scanning bytes from hints spot lent n rows₀ cols₀ rows cols o m × IsHigh bytes met
@@ -81,8 +85,22 @@ same-length-2 c = along-long _ _ _ _ _ _ _ _ _ (c .before .before .before .loop 
 returns : tie.Need-returns Inv-loop μ-loop
 returns c = scanning-through _ _ _ _ _ _ _ _ _ _ _ _ _ _ (c .before .before .before .before .last-of .ensures) (c .before .before .before .loop .inv .0) (through c)
 
-add-row-requires : tie.Need-add-row-requires Inv-loop μ-loop
-add-row-requires c κs = (found (c .before .before) .found, along-ready _ _ _ _ _ _ _ _ _ _ _ _ (c .before .before .before .before .before .before .loop .inv .0 .along) (c .before .before .before .before .before .before .before .before .before .before .before .before .pre))
+cast-suited-share : tie.Need-cast-suited-share Inv-loop μ-loop
+cast-suited-share c = search needs
+
+suited-share-requires : tie.Need-suited-share-requires Inv-loop μ-loop
+suited-share-requires c κs = search needs
+
+intra-page-requires : tie.Need-intra-page-requires Inv-loop μ-loop
+intra-page-requires c κs = search needs
+
+-- where the row comes from
+origin-is : (c : tie.After-intra-page Inv-loop μ-loop) →
+    c .intra-page .result ≡ intraPage Absent (share (c .before .before .before .at .given .0 .1 .0 .matched) (length (now (c .before .before .before .before .before .before .before .before .before .before .before .before .args .hints))))
+origin-is c = c .intra-page .ensures ∙ rw (c .before .suited-share .ensures)
+
+add-found-requires : tie.Need-add-found-requires Inv-loop μ-loop
+add-found-requires c κs = (find-laid _ _ _ _ _ _ (found (c .before .before .before .before) .found), along-ready _ _ _ _ _ _ _ _ _ _ _ _ (c .before .before .before .before .before .before .before .before .loop .inv .0 .along) (c .before .before .before .before .before .before .before .before .before .before .before .before .before .before .pre))
 
 enum-known-next : tie.Need-enum-known-next Inv-loop μ-loop
 enum-known-next c = search needs
@@ -91,29 +109,29 @@ enum-told-2 : tie.Need-enum-told-2 Inv-loop μ-loop
 enum-told-2 c = search needs
 
 same-length-3 : tie.Need-same-length-3 Inv-loop μ-loop
-same-length-3 c = c .before .before .before .before .before .before .add-row .kept .1 .1 .1 .1 .1 .1 .1 .1 .0 ∙ along-long _ _ _ _ _ _ _ _ _ (c .before .before .before .before .before .before .before .before .before .before .before .before .before .loop .inv .0 .along) .0
+same-length-3 c = c .before .before .before .before .before .before .add-found .kept .1 .1 .1 .1 .1 .1 .1 .1 .1 .0 ∙ along-long _ _ _ _ _ _ _ _ _ (c .before .before .before .before .before .before .before .before .before .before .before .before .before .before .before .loop .inv .0 .along) .0
 
 same-length-4 : tie.Need-same-length-4 Inv-loop μ-loop
-same-length-4 c = c .before .before .before .before .before .before .add-row .kept .1 .1 .1 .1 .1 .1 .1 .1 .1 .0 ∙ along-long _ _ _ _ _ _ _ _ _ (c .before .before .before .before .before .before .before .before .before .before .before .before .before .loop .inv .0 .along) .1
+same-length-4 c = c .before .before .before .before .before .before .add-found .kept .1 .1 .1 .1 .1 .1 .1 .1 .1 .1 .0 ∙ along-long _ _ _ _ _ _ _ _ _ (c .before .before .before .before .before .before .before .before .before .before .before .before .before .before .before .loop .inv .0 .along) .1
 
 returns-2 : tie.Need-returns-2 Inv-loop μ-loop
 returns-2 c =
-    let k = c .before .before .before .before .before .before .before .before .before in
+    let k = c .before .before .before .before .before .before .before .before .before .before .before in
     scanning-full _ _ _ _ _ _ _ _ _ _ _ _ (there k) (omega (arith, taken k .0)) _ (found k .found .hits) _ _
-    (rw (c .enum-told2 .given .1) at (c .before .before .before .before .before .before .add-row .ensures))
+    (rw (c .enum-told2 .given .1, origin-is (c .before .before .before .before .before .before .before .before .before)) at (c .before .before .before .before .before .before .add-found .ensures))
 
 add-o : tie.Need-add-o Inv-loop μ-loop
-add-o c = let t = taken (c .before .before .before .before .before .before .before .before .before .before .before) in omega arith
+add-o c = let t = taken (c .before .before .before .before .before .before .before .before .before .before .before .before .before) in omega arith
 
 loop-less : tie.Need-loop-less Inv-loop μ-loop
-loop-less c = let t = taken (c .before .before .before .before .before .before .before .before .before .before .before) in omega arith
+loop-less c = let t = taken (c .before .before .before .before .before .before .before .before .before .before .before .before .before) in omega arith
 
 loop-again : tie.Need-loop-again Inv-loop μ-loop
 loop-again c =
-    let k = c .before .before .before .before .before .before .before .before .before .before .before in
+    let k = c .before .before .before .before .before .before .before .before .before .before .before .before .before in
     let t = taken k in (
       scanning-found _ _ _ _ _ _ _ _ _ _ _ _ (there k) (omega (arith, t .0)) _ (found k .found .hits) _ _ _
-          (rw (c .before .before .next .given .1) at (c .before .before .before .before .before .before .before .before .add-row .ensures)),
+          (rw (c .before .before .next .given .1, origin-is (c .before .before .before .before .before .before .before .before .before .before .before)) at (c .before .before .before .before .before .before .before .before .add-found .ensures)),
       found k .run-is,
     )
 
@@ -131,7 +149,10 @@ carve-region-spec =
     same-length
     same-length-2
     returns
-    add-row-requires
+    cast-suited-share
+    suited-share-requires
+    intra-page-requires
+    add-found-requires
     enum-known-next
     enum-told-2
     same-length-3

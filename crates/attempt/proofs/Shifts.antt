@@ -10,7 +10,7 @@ use lib.Dec.{leb, ltb, eqb}
 use lib.ListN.{length, length-append}
 use lib.Seq.{getD-append-add}
 use borrow.Author.Tests.{le-leb, lt-leb}
-use Rattle.attempt.specs.Attempt.{Types, cut, kinds, isWhole, typesFrom, Bodies, unfit, laid, before, bodiesFrom, Tried, miss, hit, sized, judged, judgedWhole, attemptAt, mostBytes}
+use Rattle.attempt.specs.Attempt.{Types, kinds, isWhole, typesFrom, Bodies, unfit, laid, before, bodiesFrom, Tried, miss, hit, sized, judged, judgedWhole, attemptAt, mostBytes}
 use Rattle.attempt.specs.Hints.{suited}
 use Rattle.attempt.specs.Inner.{bodySize, columnsAt, headerTypes}
 use Rattle.attempt.specs.Moved.{movedOne, moved, backOne, back}

@@ -1,25 +1,24 @@
 -- The types of a header: how reading goes on, what matching and the totals come to, and where reading stops.
 -- Assumes nothing.
-use Prim.Native.Nat.{ℕ, zero, suc, _+_, _-_, _*_, _≤_, _<_, min}
+use Prim.Native.Nat.{ℕ, zero, suc, _+_, _-_, _≤_, _<_, min}
 use mathlib.Core.Path.{_≡_, refl, sym, ap, _∙_}
-use mathlib.Core.Bool.{Bool, true, false, cond}
+use mathlib.Core.Bool.{true}
 use mathlib.Core.List.{List, [], _∷_, _++_}
-use native.Mathlib.Numerals.{add-one}
 use native.Mathlib.Omega.{arith}
-use lib.ListN.{length, drop, getD, length-append, drop-of-length-le}
+use lib.ListN.{length, drop, length-append}
 use lib.Seq.{drop-drop}
 use borrow.Author.Tests.{lt-ltb, le-ltb}
-use Rattle.record.proofs.Laws.{Reach, varint-reach, places-count}
+use Rattle.record.proofs.Laws.{varint-reach, places-count}
 use Rattle.record.proofs.Numbers.{by-order}
 use Rattle.record.specs.Places.{stopOf, varintPlaces}
 use Rattle.record.specs.Varint.{varintAt}
 use Rattle.record.specs.declared.varint.Cursor.{Cursor}
 use Rattle.record.specs.declared.varint.Varint.{Varint}
 use Rattle.record.specs.declared.varint.Varint.the-variants.{Value, Short}
-use Rattle.attempt.specs.Attempt.{Types, ended, cut, kind, kinds, isWhole, typeOn, typesFrom}
+use Rattle.attempt.specs.Attempt.{Types, ended, cut, kind, kinds, isWhole, typesFrom}
 use Rattle.attempt.specs.Hints.{suited}
-use Rattle.attempt.specs.Inner.{suitsAt, tooLong, bodySize, totalFrom, sizes, reach, Walked, WholeIs}
-use Rattle.attempt.specs.Places.{typePlaces, placesOn}
+use Rattle.attempt.specs.Inner.{suitsAt, tooLong, bodySize, totalFrom, reach, Walked, WholeIs}
+use Rattle.attempt.specs.Places.{typePlaces}
 use Rattle.attempt.specs.declared.inner.Walk.the-variants.{Whole, Cut}
 
 -- ---- reading on

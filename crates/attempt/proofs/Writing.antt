@@ -1,15 +1,15 @@
 -- The columns of a row, written one after the other: what is written, with what is left to write, comes to the whole.
 -- Assumes nothing.
 use Prim.Native.Nat.{ℕ, zero, suc, _+_, _*_, _≤_, _<_}
-use mathlib.Core.Path.{_≡_, refl, sym, _∙_}
-use mathlib.Core.List.{List, [], _∷_}
+use mathlib.Core.Path.{_≡_, refl, _∙_}
+use mathlib.Core.List.{List}
 use native.Mathlib.Omega.{arith}
 use lib.ListN.{length}
 use lib.Seq.{sets}
 use Rattle.record.specs.Varint.{varintAt}
 use Rattle.record.specs.declared.varint.Cursor.{Cursor}
 use Rattle.record.specs.declared.varint.Varint.the-variants.{Value, Short}
-use Rattle.attempt.specs.Attempt.{kinds, ended, cut, kind, typesFrom}
+use Rattle.attempt.specs.Attempt.{kinds, typesFrom}
 use Rattle.attempt.specs.Inner.{bodySize, sizes, columnsAt}
 use Rattle.sheet.specs.Sheet.{columnsWords}
 use Rattle.attempt.proofs.Types.{types-step, types-cut, types-end}

@@ -7,6 +7,7 @@ use record::record::Length;
 use record::record::body_length;
 use record::varint::Cursor;
 use record::varint::Varint;
+use sheet::MOST_HEADER;
 use sheet::WORDS_PER_ENTRY;
 use sheet::columns::Column;
 use sheet::hint::ANY;
@@ -55,8 +56,6 @@ pub enum Verdict {
     // The header bytes that were read.
     Miss(usize),
 }
-
-const MOST_HEADER: u64 = 512;
 
 // A row takes at most so many bytes.
 pub const MOST_BYTES: usize = 65_536;

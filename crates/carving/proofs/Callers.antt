@@ -11,7 +11,7 @@ use Rattle.carving.specs.Calls.{widthBy, tooWide, hitsBy, leafHits, numb
 use Rattle.carving.specs.Inner.{Filling}
 use Rattle.carving.specs.declared.inner.Carving.{Carving}
 use Rattle.page.proofs.Laws.{PagedAt}
-use Rattle.page.specs.Page.{startOf, pageOf, headOf, pageChecks}
+use Rattle.page.specs.Page.{startOf, headOf, pageChecks}
 use Rattle.sheet.proofs.Laws.{count-fits, slice-fits}
 use Rattle.sheet.specs.Limits.{countFits, hintsKnown}
 use Rattle.sheet.specs.Refusal.{Check, firstHeld}

@@ -4,7 +4,7 @@ use Prim.Native.Nat.{ℕ}
 use mathlib.Core.Path.{_≡_, refl}
 use mathlib.Core.List.{List, [], _∷_, _++_, map}
 use lib.Ieee.{ofBits, ofInt, div, mul, round, toBits}
-use lib.ListN.{length, replicate}
+use lib.ListN.{replicate}
 use Rattle.attempt.specs.Attempt.{headerFits, typesFrom, bodiesFrom, judged, attemptAt}
 use Rattle.attempt.specs.Hints.{isInteger, isReal, isText, isBlob, suits}
 use Rattle.carving.specs.Calls.{hitsBy, leafHits, sliceAsked, sliceFilling, numberedAsked, numberedFilling}

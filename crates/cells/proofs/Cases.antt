@@ -5,7 +5,7 @@ use Prim.Native.Nat.{ℕ, _+_}
 use mathlib.Core.Path.{_≡_, refl}
 use mathlib.Core.List.{List, [], _∷_, _++_, map}
 use lib.Ieee.{ofBits, ofInt, div, mul, round, toBits, toUnsigned}
-use lib.ListN.{length, replicate}
+use lib.ListN.{replicate}
 use Rattle.attempt.specs.Attempt.{headerFits, typesFrom, bodiesFrom, judged, attemptAt}
 use Rattle.attempt.specs.Hints.{isInteger, isReal, isText, isBlob, suits}
 use Rattle.cells.specs.Cells.{cellAt, cellsFrom, cellsOf, rebuiltFrom, payloadHits}

@@ -8,7 +8,7 @@ use Rattle.attempt.specs.Attempt.{attemptAt}
 use Rattle.attempt.specs.Inner.{foundAt, HitIs}
 use Rattle.attempt.specs.Places.{attemptPlaces}
 use Rattle.attempt.specs.declared.inner.Find.{Find}
-use Rattle.freeblock.specs.Freeblock.{First, nowhere, startAt, firstStart, freeblocks}
+use Rattle.freeblock.specs.Freeblock.{nowhere, startAt, firstStart, freeblocks}
 use Rattle.freeblock.specs.declared.inner.block.Start.{Start}
 use Rattle.freeblock.specs.declared.inner.block.Start.the-variants.{At, Nothing}
 use Rattle.freeblock.specs.declared.inner.chain.Counted.{Counted}

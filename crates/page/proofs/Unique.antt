@@ -1,6 +1,6 @@
 -- A contract fixes its answer: any two results that it allows for the same arguments are equal. `Post` is the function's own postcondition.
 -- Assumes nothing.
-use mathlib.Core.Path.{_≡_, sym, _∙_}
+use mathlib.Core.Path.{sym, _∙_}
 use Rattle.page.proofs.btree.Paged.number.Reads as number
 use Rattle.page.proofs.btree.get_page_data.Reads as get-page-data
 use Rattle.record.proofs.Unique.{Fixes}

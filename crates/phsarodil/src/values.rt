@@ -3,7 +3,6 @@ use record::entry::Entry;
 use record::entry::EntryRead;
 use record::record::Decoded;
 use record::record::Length;
-use record::record::Value;
 use record::record::body_length;
 use record::record::decode_serial_type;
 use record::varint::Read;

@@ -15,7 +15,6 @@ use lib.Seq.{sets, length-sets, set-out, getD-set-same, getD-set-other, getD-dro
 use Rattle.record.proofs.Numbers.{by-test}
 use Rattle.sheet.specs.Filled.{filledBy, laid, listOutcome, FillsList}
 use Rattle.sheet.specs.Limits.{largestRegion}
-use Rattle.sheet.specs.Refusal.{firstHeld}
 use Rattle.sheet.specs.Sheet.{overlay}
 use Rattle.sheet.specs.declared.filled.Filled.{Filled}
 use Rattle.sheet.specs.declared.filled.Filled.the-variants.{Done, Full}

@@ -20,7 +20,6 @@ use Rattle.sheet.specs.Refusal.{firstHeld}
 use Rattle.sheet.specs.declared.filled.Filled.{Filled}
 use Rattle.sheet.specs.declared.filled.Filled.the-variants.{Done, Full, Refused}
 use Rattle.sheet.specs.declared.refusal.Checked.the-variants.{Passed, Refused as Stopped}
-use Rattle.sheet.specs.declared.refusal.Refusal.{Refusal}
 use Rattle.sheet.specs.declared.refusal.Refusal.the-variants.{ColumnCount, TooLarge, NoColumnList}
 use Rattle.record.proofs.Numbers.{by-test}
 use Rattle.sheet.proofs.Laws.{overlay-length, overlay-more}

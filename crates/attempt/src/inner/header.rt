@@ -2,7 +2,6 @@
 use record::inner::skip_varint;
 ghost use mathlib.Core.Path.{_≡_};
 ghost use Prim.Native.Nat.{_+_, _≤_};
-ghost use lib.ListN.{length};
 ghost use Rattle.attempt.specs.Inner.{headerTypes, reach, Headed, Miscounted, Ends};
 
 // Whether types that are whole are seen to be other than so many. As many bytes as columns are most often as many types, which their

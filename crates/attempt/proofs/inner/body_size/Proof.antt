@@ -1,6 +1,6 @@
 -- `attempt::inner::body_size` meets its contract: each way out rewrites the definition by the tests on the way.
 -- Assumes nothing.
-use mathlib.Core.Path.{_≡_, sym, _∙_}
+use mathlib.Core.Path.{sym, _∙_}
 use Rattle.attempt.specs.Inner.{bodySize}
 use borrow.Author.Needs.{needs}
 use Rattle.attempt.proofs.inner.body_size.Statement.{statement}

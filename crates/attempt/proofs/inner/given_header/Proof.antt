@@ -1,7 +1,7 @@
 -- `attempt::inner::given_header` meets its contract: each way out is a law of `proofs/Judging.antt`.
 -- Assumes nothing.
 use Prim.Native.Nat.{_≤_}
-use mathlib.Core.Path.{_≡_, sym, _∙_}
+use mathlib.Core.Path.{sym, _∙_}
 use native.Mathlib.Omega.{arith}
 use denote.Ref.{now}
 use Rattle.attempt.specs.Inner.{headerTypes, WholeIs}

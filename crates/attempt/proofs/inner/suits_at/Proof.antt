@@ -1,8 +1,6 @@
 -- `attempt::inner::suits_at` meets its contract: each way out rewrites the definition by the tests on the way.
 -- Assumes nothing.
-use Prim.Native.Nat.{_<_}
-use mathlib.Core.Path.{_≡_, sym, _∙_}
-use native.Mathlib.Omega.{arith}
+use mathlib.Core.Path.{sym, _∙_}
 use lib.ListN.{drop-of-length-le}
 use lib.Seq.{drop-cons}
 use lib.Dec.{lit≤}

@@ -1,6 +1,6 @@
 -- `attempt::schema_sig::is_compatible` meets its contract: each way out rewrites the definition by the tests on the way.
 -- Assumes nothing.
-use mathlib.Core.Path.{_≡_, sym, _∙_}
+use mathlib.Core.Path.{sym, _∙_}
 use borrow.Author.Tests.{lt-ltb, le-ltb}
 use Rattle.attempt.specs.Hints.{compatible, compatibleNumber, compatibleWord}
 use borrow.Author.Needs.{needs}

@@ -1,6 +1,5 @@
 -- `page::inner::half` meets its contract.
 -- Assumes nothing.
-use native.Mathlib.Omega.{arith}
 use borrow.Author.Needs.{needs}
 use Rattle.page.proofs.Laws.{two-bytes}
 use Rattle.page.proofs.inner.half.Statement.{statement}

@@ -18,12 +18,9 @@ Inv-loop haystack pattern places₀ last table on n₀ i₀ places n i =
 abbrev μ-loop : tie.MeasureT-loop
 μ-loop haystack pattern places₀ last table on n₀ i₀ places n i = length haystack - i
 
--- ---- places, from the last: the window moves on; the loop; the table is made; the call
-abbrev turn : tie.After-table3 Inv-loop μ-loop → tie.At-loop Inv-loop μ-loop
-turn c = c .before .before .before .before .before .before .before
-
-abbrev made : tie.At-loop Inv-loop μ-loop → tie.After-stop-at Inv-loop μ-loop
-made c = c .before .before .before
+-- ---- places, from the last: the window moves on; the table was made; the call
+abbrev made : tie.After-table3 Inv-loop μ-loop → tie.After-stop-at Inv-loop μ-loop
+made c = c .before .before .before .before .before .before .before .before .before .before
 
 abbrev start : tie.After-stop-at Inv-loop μ-loop → tie.Start Inv-loop μ-loop
 start c = c .before .before .before .before .before .before .before
@@ -38,7 +35,7 @@ ready c =
     (c .stop-at .ensures)
 
 -- the list keeps its length
-kept : (c : tie.After-visit Inv-loop μ-loop) → length (c .visit .last .1 .1 .1 .0) ≡ length (start (made (c .before .before .before)) .args .places .now)
+kept : (c : tie.After-visit Inv-loop μ-loop) → length (c .visit .last .1 .1 .1 .0) ≡ length (start (c .before .before .before .before .before .before) .args .places .now)
 kept c = c .visit .kept .1 .1 .1 .0 ∙ seen-length (c .before .before .before .loop .inv .2)
 
 sub-last : tie.Need-sub-last Inv-loop μ-loop
@@ -75,18 +72,18 @@ returns c =
     let v = c .before .before .before in
     let l = v .before .before .before in
     let over = rw (kept v) at (c .if1 .taken) in
-    seen-full (l .loop .inv .2) (v .visit .ensures .0) (v .visit .ensures .1) (start (made l) .pre .0) (omega arith) over
+    seen-full (l .loop .inv .2) (v .visit .ensures .0) (v .visit .ensures .1) (start (l .before .before .before) .pre .0) (omega arith) over
 
 add-next-end : tie.Need-add-next-end Inv-loop μ-loop
-add-next-end c = omega (arith, ready (made (turn c)) .most)
+add-next-end c = omega (arith, ready (made c) .most)
 
 next-end-requires-2 : tie.Need-next-end-requires-2 Inv-loop μ-loop
 next-end-requires-2 c κs =
-    let s = ready (made (turn c)) in
+    let s = ready (made c) in
     s .windows _ (omega arith) (omega (arith, s .most))
 
 loop-less : tie.Need-loop-less Inv-loop μ-loop
-loop-less c = omega (arith, c .next-end2 .ensures .0 .on, ready (made (turn (c .before))) .moves)
+loop-less c = omega (arith, c .next-end2 .ensures .0 .on, ready (made (c .before)) .moves)
 
 loop-again : tie.Need-loop-again Inv-loop μ-loop
 loop-again c =
@@ -94,7 +91,7 @@ loop-again c =
     let l = v .before .before .before in
     let p = c .next-end2 .ensures .0 in
     let fits = rw (kept v) at (c .before .before .if1 .left) in
-    let passes = ready (made l) .passes _ (l .loop .inv .0) (l .loop .inv .3 (omega arith)) in (
+    let passes = ready (l .before .before .before) .passes _ (l .loop .inv .0) (l .loop .inv .3 (omega arith)) in (
       omega (arith, p .on),
       p .inside,
       seen-more (l .loop .inv .2) (v .visit .ensures .0) (v .visit .ensures .1) _ fits (p .none ∙ passes),
@@ -107,7 +104,7 @@ same-length-2 c = seen-length (c .before .loop .inv .2)
 returns-2 : tie.Need-returns-2 Inv-loop μ-loop
 returns-2 c =
     let l = c .before in
-    seen-all (l .loop .inv .2) (ended _ _ _ (start (made l) .pre .0) (l .loop .inv .1) (omega arith))
+    seen-all (l .loop .inv .2) (ended _ _ _ (start (l .before .before .before) .pre .0) (l .loop .inv .1) (omega arith))
 
 pub slide-spec : {M : Type 1} → statement M
 slide-spec =

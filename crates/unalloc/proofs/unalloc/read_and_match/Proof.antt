@@ -59,18 +59,14 @@ is-there-requires c κs = search needs
 returns-3 : tie.Need-returns-3 Inv-loop μ-loop
 returns-3 c =
     let kind = c .before .before .before in
-    let t = turn kind in
     let x = c .before .before .column-at in
-    reading-out _ _ _ _ _ _ _ _ (t .before .loop .inv .1) (t .loop-test .taken) (kind .before .before .before .before .if1 .left) _ _ (read kind) (rw (x .ensures .0) at (sym (c .before .is-there .ensures) ∙ not-true _ (c .if2 .taken)))
+    reading-out _ _ _ _ _ _ _ _ (turn kind .before .loop .inv .1) (turn kind .loop-test .taken) (kind .before .before .before .before .if1 .left) _ _ (read kind) (rw (x .ensures .0) at (sym (c .before .is-there .ensures) ∙ not-true _ (c .if2 .taken)))
 
 matches-at-requires : tie.Need-matches-at-requires Inv-loop μ-loop
 matches-at-requires c κs = turn (c .before .before .before) .loop-test .taken
 
 add-matched : tie.Need-add-matched Inv-loop μ-loop
-add-matched c =
-    let t = turn (c .before .before .before .before) in
-    let w = t .before .loop .inv in
-    omega (arith, w .0, w .1 .few, c .matches-at .ensures .1, t .loop-test .taken, start t .pre .few)
+add-matched c = let t = turn (c .before .before .before .before) in omega (arith, t .before .loop .inv .0, t .before .loop .inv .1 .few, c .matches-at .ensures .1, t .loop-test .taken, start t .pre .few)
 
 behind-requires : tie.Need-behind-requires Inv-loop μ-loop
 behind-requires c κs = omega (arith, c .before .before .before .column-at .ensures .1, start (turn (c .before .before .before .before)) .pre .small)
@@ -84,12 +80,11 @@ loop-less c = search needs
 loop-again : tie.Need-loop-again Inv-loop μ-loop
 loop-again c =
     let kind = c .before .before .before .before .before in
-    let t = turn kind in
     let x = c .before .before .before .before .column-at in
     let m = c .before .matches-at in (
       search needs,
       rw (c .behind .ensures, x .ensures .0)
-          (reading-on _ _ _ _ _ _ _ _ (t .before .loop .inv .1) (t .loop-test .taken) (kind .before .before .before .before .if1 .left) _ _ (read kind) (rw (x .ensures .0) at (sym (c .before .before .before .is-there .ensures) ∙ not-false _ (c .before .before .if2 .left))) _ (m .ensures .0) (m .ensures .1)),
+          (reading-on _ _ _ _ _ _ _ _ (turn kind .before .loop .inv .1) (turn kind .loop-test .taken) (kind .before .before .before .before .if1 .left) _ _ (read kind) (rw (x .ensures .0) at (sym (c .before .before .before .is-there .ensures) ∙ not-false _ (c .before .before .if2 .left))) _ (m .ensures .0) (m .ensures .1)),
     )
 
 returns-4 : tie.Need-returns-4 Inv-loop μ-loop

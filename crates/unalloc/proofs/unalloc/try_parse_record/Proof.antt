@@ -12,13 +12,7 @@ use Rattle.unalloc.proofs.Attempting.{attempt-short, attempt-bad, attem
 use Rattle.unalloc.proofs.unalloc.try_parse_record.Statement.{statement}
 use Rattle.unalloc.proofs.unalloc.try_parse_record.Tie as tie
 
--- ---- places, from the last: the types are read; the header passes its tests; its length is read; the call
-abbrev passed : tie.After-known-told2 → tie.Else3
-passed c = c .before .before .before .before
-
-abbrev known : tie.Else3 → tie.After-known-told
-known c = c .before .before .before
-
+-- ---- the call, from the place where the header's length was read
 abbrev start : tie.After-known-told → tie.Start
 start c = c .before .before .before .before .before .before
 
@@ -60,9 +54,7 @@ add-start : tie.Need-add-start
 add-start c = search needs
 
 read-and-match-requires : tie.Need-read-and-match-requires
-read-and-match-requires c κs =
-    let p = start (known c) .pre in
-    headed _ _ _ _ _ (read (known c)) (c .before .before .if1 .left) (c .if3 .left) (c .before .if2 .left) (p .0 .1) (p .1 .1)
+read-and-match-requires c κs = let p = start (c .before .before .before) .pre in headed _ _ _ _ _ (read (c .before .before .before)) (c .before .before .if1 .left) (c .if3 .left) (c .before .if2 .left) (p .0 .1) (p .1 .1)
 
 enum-known-count : tie.Need-enum-known-count
 enum-known-count c = search needs
@@ -71,25 +63,23 @@ enum-told-2 : tie.Need-enum-told-2
 enum-told-2 c = search needs
 
 returns-5 : tie.Need-returns-5
-returns-5 c = attempt-fails _ _ _ _ _ (read (known (c .before .before .before))) (c .before .before .before .before .before .if1 .left) (c .before .before .before .if3 .left) (c .before .before .before .before .if2 .left) (rw (c .enum-told2 .given .1) at (c .before .before .read-and-match .ensures))
+returns-5 c = attempt-fails _ _ _ _ _ (read (c .before .before .before .before .before .before)) (c .before .before .before .before .before .if1 .left) (c .before .before .before .if3 .left) (c .before .before .before .before .if2 .left) (rw (c .enum-told2 .given .1) at (c .before .before .read-and-match .ensures))
 
 returns-6 : tie.Need-returns-6
-returns-6 c =
-    let h = passed (c .before) in
-    attempt-none _ _ _ _ _ (read (known h)) (h .before .before .if1 .left) (h .if3 .left) (h .before .if2 .left) _ _ (rw (c .before .before .count .given .1) at (c .before .before .before .before .read-and-match .ensures)) (c .if4 .taken)
+returns-6 c = let passed = c .before .before .before .before .before in attempt-none _ _ _ _ _ (read (passed .before .before .before)) (passed .before .before .if1 .left) (passed .if3 .left) (passed .before .if2 .left) _ _ (rw (c .before .before .count .given .1) at (c .before .before .before .before .read-and-match .ensures)) (c .if4 .taken)
 
 learned-requires : tie.Need-learned-requires
 learned-requires c κs =
-    let h = passed (c .before) in
-    let p = start (known h) .pre .1 in
-    let few = few-match _ _ _ _ _ (read (known h)) (h .before .before .if1 .left) (h .if3 .left) (h .before .if2 .left) _ _ (rw (c .before .before .count .given .1) at (c .before .before .before .before .read-and-match .ensures)) in
+    let passed = c .before .before .before .before .before in
+    let p = start (passed .before .before .before) .pre .1 in
+    let few = few-match _ _ _ _ _ (read (passed .before .before .before)) (passed .before .before .if1 .left) (passed .if3 .left) (passed .before .if2 .left) _ _ (rw (c .before .before .count .given .1) at (c .before .before .before .before .read-and-match .ensures)) in
     (omega (arith, few, p .1), p .0)
 
 returns-7 : tie.Need-returns-7
 returns-7 c =
-    let h = passed (c .before .before) in
+    let passed = c .before .before .before .before .before .before in
     rw (c .learned .ensures)
-    (attempt-hit _ _ _ _ _ (read (known h)) (h .before .before .if1 .left) (h .if3 .left) (h .before .if2 .left) _ _ (rw (c .before .before .before .count .given .1) at (c .before .before .before .before .before .read-and-match .ensures)) (omega (arith, c .before .if4 .left)))
+    (attempt-hit _ _ _ _ _ (read (passed .before .before .before)) (passed .before .before .if1 .left) (passed .if3 .left) (passed .before .if2 .left) _ _ (rw (c .before .before .before .count .given .1) at (c .before .before .before .before .before .read-and-match .ensures)) (omega (arith, c .before .if4 .left)))
 
 pub try-parse-record-spec : {M : Type 1} → statement M
 try-parse-record-spec =

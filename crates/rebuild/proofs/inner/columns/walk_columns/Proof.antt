@@ -72,9 +72,8 @@ add-count c = search needs
 
 -- one type more was read
 one-more : (c : tie.After-add-body Inv-loop μ-loop) →
-    let t = turn (c .before .before) in
-    let a = start t .args in
-    let l = t .before .loop in
+    let a = start (turn (c .before .before)) .args in
+    let l = turn (c .before .before) .before .loop in
     Reading (now (a .payload)) (now (a .hints)) (a .v) (c .before .before .before .kind .given .0 .1 .0 .at) (l .count + 1) (l .matched + c .before .suits-at .result) (c .add-body .result)
 one-more c =
     let o = c .before .before in

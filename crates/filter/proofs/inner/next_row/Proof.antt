@@ -15,23 +15,30 @@ Inv-loop bytes hints start last at₀ read₀ step₀ at read step = PassedOverI
 abbrev μ-loop : tie.MeasureT-loop
 μ-loop bytes hints start last at₀ read₀ step₀ at read step = last - at
 
+-- ---- places, from the last: what was seen is passed; the loop; the call
+abbrev turn : tie.After-pass-seen Inv-loop μ-loop → tie.At-loop Inv-loop μ-loop
+turn c = c .before .before .before .before .before
+
+abbrev start : tie.At-loop Inv-loop μ-loop → tie.Start Inv-loop μ-loop
+start c = c .before .before .before .before
+
 -- a step on,
 stepped : (c : tie.After-pass-seen Inv-loop μ-loop) →
-    let a = c .before .before .before .before .before .before .before .before .before .args in
-    OnIs (now (a .bytes)) (now (a .hints)) (c .before .before .before .before .before .loop .at) (a .last) (c .before .before .before .step2 .given .0 .0)
+    let a = start (turn c) .args in
+    OnIs (now (a .bytes)) (now (a .hints)) (turn c .loop .at) (a .last) (c .before .before .before .step2 .given .0 .0)
 stepped c = rw (c .before .before .before .step2 .given .1) at (c .before .before .before .before .before .loop .inv .1)
 
 -- and what is passed over with it, and behind it
 further : (c : tie.After-pass-seen Inv-loop μ-loop) →
-    let a = c .before .before .before .before .before .before .before .before .before .args in
+    let a = start (turn c) .args in
     let passed = c .before .before .before .step2 .given .0 .0 in
-    PassedOverIs (now (a .bytes)) (now (a .hints)) (a .start) (a .last) (passed .to) (c .before .before .before .before .before .loop .read + passed .read)
-further c = passed-on _ _ _ _ _ _ (c .before .before .before .before .before .loop .inv .0) _ _ (stepped c .step .passed)
+    PassedOverIs (now (a .bytes)) (now (a .hints)) (a .start) (a .last) (passed .to) (turn c .loop .read + passed .read)
+further c = passed-on _ _ _ _ _ _ (turn c .loop .inv .0) _ _ (stepped c .step .passed)
 
 beyond : (c : tie.After-pass-seen Inv-loop μ-loop) →
-    let a = c .before .before .before .before .before .before .before .before .before .args in
+    let a = start (turn c) .args in
     let seen = c .pass-seen .result in
-    PassedOverIs (now (a .bytes)) (now (a .hints)) (a .start) (a .last) (seen .to) (c .before .before .before .before .before .loop .read + c .before .before .before .step2 .given .0 .0 .read + seen .read)
+    PassedOverIs (now (a .bytes)) (now (a .hints)) (a .start) (a .last) (seen .to) (turn c .loop .read + c .before .before .before .step2 .given .0 .0 .read + seen .read)
 beyond c = passed-on _ _ _ _ _ _ (further c) _ _ (c .pass-seen .ensures)
 
 one-step-requires : tie.Need-one-step-requires Inv-loop μ-loop
@@ -53,19 +60,19 @@ enum-known-step-2 : tie.Need-enum-known-step-2 Inv-loop μ-loop
 enum-known-step-2 c = search needs
 
 pass-seen-requires : tie.Need-pass-seen-requires Inv-loop μ-loop
-pass-seen-requires c κs = c .before .before .before .before .before .before .before .before .pre .0
+pass-seen-requires c κs = start (c .before .before .before .before) .pre .0
 
 add-read : tie.Need-add-read Inv-loop μ-loop
-add-read c = let p = c .before .before .before .before .before .before .before .before .before .before .pre .0 in omega (arith, passed-few _ _ _ _ _ _ (further (c .before)), p .0, p .1)
+add-read c = let p = start (turn (c .before)) .pre .0 in omega (arith, passed-few _ _ _ _ _ _ (further (c .before)), p .0, p .1)
 
 add-read-2 : tie.Need-add-read-2 Inv-loop μ-loop
-add-read-2 c = let p = c .before .before .before .before .before .before .before .before .before .before .before .pre .0 in omega (arith, passed-few _ _ _ _ _ _ (beyond (c .before .before)), p .0, p .1)
+add-read-2 c = let p = start (turn (c .before .before)) .pre .0 in omega (arith, passed-few _ _ _ _ _ _ (beyond (c .before .before)), p .0, p .1)
 
 returns-2 : tie.Need-returns-2 Inv-loop μ-loop
 returns-2 c = record { to = c .before .before .before .pass-seen .result .to; passed = beyond (c .before .before .before); there = c .if1 .taken }
 
 one-step-requires-2 : tie.Need-one-step-requires-2 Inv-loop μ-loop
-one-step-requires-2 c κs = let p = c .before .before .before .before .before .before .before .before .before .before .before .before .pre in ((omega (arith, p .0 .0), p .0 .1, p .0 .2), stepped (c .before .before .before) .step .run-is)
+one-step-requires-2 c κs = let p = start (turn (c .before .before .before)) .pre in ((omega (arith, p .0 .0), p .0 .1, p .0 .2), stepped (c .before .before .before) .step .run-is)
 
 loop-less : tie.Need-loop-less Inv-loop μ-loop
 loop-less c =

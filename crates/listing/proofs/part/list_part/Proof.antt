@@ -14,12 +14,12 @@ use Rattle.sheet.specs.Columns.{roomOf}
 use Rattle.listing.proofs.part.list_part.Statement.{statement}
 use Rattle.listing.proofs.part.list_part.Tie as tie
 
--- where the function begins, and where the scan has answered
-abbrev start : tie.After-written → tie.Start
-start c = c .before .before .before .before .before .before .before .before .before .before .before
-
+-- where the scan has answered, and where the function begins
 abbrev scanned : tie.After-written → tie.After-scan-region
 scanned c = c .before .before .before .before .before .before
+
+abbrev start : tie.After-written → tie.Start
+start c = scanned c .before .before .before .before .before
 
 long : (c : tie.After-written) → (length (now (start c .args .rows)) ≡ rowSpace) × (length (now (start c .args .cols)) ≡ colSpace)
 long c = (search needs, search needs)

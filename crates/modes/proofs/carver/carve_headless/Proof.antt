@@ -9,6 +9,10 @@ use Rattle.modes.proofs.carver.carve_headless.Tie as tie
 use Rattle.modes.specs.Inner.{TriedIs}
 use Rattle.modes.specs.Modes.{columnsOnlyIn}
 
+-- ---- ColumnsOnly has tried, from the place where its row is carved
+abbrev tried : tie.After-carve-one → tie.After-try-headless
+tried c = c .before .before .before
+
 columns-only-requires : tie.Need-columns-only-requires
 columns-only-requires c κs = search needs
 
@@ -35,15 +39,17 @@ same-length-2 : tie.Need-same-length-2
 same-length-2 c = search needs
 
 returns : tie.Need-returns
-returns c = headless-over _ _ _ _ _ _ _ _ _ (c .before .before .before .before .before .before .before .before .before .try-headless .result) (whole (c .before .before .before .before .before .before .before .before .before)) (rw (c .enum-told .given .1) at (c .before .before .before .before .before .before .carve-one .ensures))
+returns c = let carved = c .before .before .before .before .before .before in headless-over _ _ _ _ _ _ _ _ _ (tried carved .try-headless .result) (whole (tried carved)) (rw (c .enum-told .given .1) at (carved .carve-one .ensures))
 
 try-carve-first-col-missing-requires : tie.Need-try-carve-first-col-missing-requires
 try-carve-first-col-missing-requires c κs = search needs
 
 carve-one-requires-2 : tie.Need-carve-one-requires-2
 carve-one-requires-2 c κs =
-    let q = c .before .before .before .before .before .before .before .before .before .before .carve-one in
-    (ready-on _ _ _ _ _ _ _ _ _ _ (c .before .before .before .before .before .before .before .before .before .before .before .before .before .before .before .before .before .before .pre) (q .kept .1 .1 .1 .1 .1 .1 .0) (q .kept .1 .1 .1 .1 .1 .1 .1 .0) (carved-fits _ _ _ _ _ _ _ _ _ (rw (c .before .before .before .before .m .given .1) at (q .ensures))), tried-fits _ _ _ (c .before .before .try-carve-first-col-missing .result) (c .before .before .try-carve-first-col-missing .ensures))
+    let missing = c .before .before in
+    let carved = missing .before .before .before .before .before .before .before .before in
+    let q = carved .carve-one in
+    (ready-on _ _ _ _ _ _ _ _ _ _ (tried carved .before .before .before .before .before .pre) (q .kept .1 .1 .1 .1 .1 .1 .0) (q .kept .1 .1 .1 .1 .1 .1 .1 .0) (carved-fits _ _ _ _ _ _ _ _ _ (rw (missing .before .before .m .given .1) at (q .ensures))), tried-fits _ _ _ (missing .try-carve-first-col-missing .result) (missing .try-carve-first-col-missing .ensures))
 
 same-length-3 : tie.Need-same-length-3
 same-length-3 c = search needs
@@ -52,7 +58,10 @@ same-length-4 : tie.Need-same-length-4
 same-length-4 c = search needs
 
 returns-2 : tie.Need-returns-2
-returns-2 c = headless-both _ _ _ _ _ _ _ _ _ (c .before .before .before .before .before .before .before .before .before .before .before .before .before .before .before .before .before .before .try-headless .result) (whole (c .before .before .before .before .before .before .before .before .before .before .before .before .before .before .before .before .before .before)) _ (c .before .before .before .before .before .before .before .try-carve-first-col-missing .result) _ _ _ (c .before .before .before .before .before .before .before .try-carve-first-col-missing .ensures) (rw (c .before .before .before .before .before .before .before .before .before .m .given .1) at (c .before .before .before .before .before .before .before .before .before .before .before .before .before .before .before .carve-one .ensures)) (c .before .before .before .before .carve-one2 .ensures)
+returns-2 c =
+    let missing = c .before .before .before .before .before .before .before in
+    let carved = missing .before .before .before .before .before .before .before .before in
+    headless-both _ _ _ _ _ _ _ _ _ (tried carved .try-headless .result) (whole (tried carved)) _ (missing .try-carve-first-col-missing .result) _ _ _ (missing .try-carve-first-col-missing .ensures) (rw (missing .before .before .m .given .1) at (carved .carve-one .ensures)) (c .before .before .before .before .carve-one2 .ensures)
 
 pub carve-headless-spec : {M : Type 1} → statement M
 carve-headless-spec =

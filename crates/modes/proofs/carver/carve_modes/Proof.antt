@@ -35,8 +35,10 @@ returns-2 c = modes-some _ _ _ _ _ _ _ _ _ (rw (c .before .before .n .given .1) 
 
 carve-headless-requires : tie.Need-carve-headless-requires
 carve-headless-requires c κs =
-    let q = c .before .before .before .before .before .before .before .before .before .before .carve-normal in
-    ready-on _ _ _ _ _ _ _ _ _ _ (c .before .before .before .before .before .before .before .before .before .before .before .before .before .before .before .before .pre) (q .kept .1 .1 .1 .1 .0) (q .kept .1 .1 .1 .1 .1 .0) (carved-fits _ _ _ _ _ _ _ _ _ (rw (c .before .before .before .before .n .given .1) at (q .ensures)))
+    let none = c .before .before in
+    let first = none .before .before .before .before .before .before .before .before in
+    let q = first .carve-normal in
+    ready-on _ _ _ _ _ _ _ _ _ _ (first .before .before .before .before .before .before .pre) (q .kept .1 .1 .1 .1 .0) (q .kept .1 .1 .1 .1 .1 .0) (carved-fits _ _ _ _ _ _ _ _ _ (rw (none .before .before .n .given .1) at (q .ensures)))
 
 same-length-5 : tie.Need-same-length-5
 same-length-5 c = search needs
@@ -45,7 +47,10 @@ same-length-6 : tie.Need-same-length-6
 same-length-6 c = search needs
 
 returns-3 : tie.Need-returns-3
-returns-3 c = modes-none _ _ _ _ _ _ _ _ _ (rw (c .before .before .before .before .before .before .before .before .before .n .given .1) at (c .before .before .before .before .before .before .before .before .before .before .before .before .before .before .before .carve-normal .ensures)) _ _ _ (omega (arith, c .before .before .before .before .before .before .before .if1 .left)) (c .before .before .before .before .carve-headless .ensures)
+returns-3 c =
+    let none = c .before .before .before .before .before .before .before in
+    let first = none .before .before .before .before .before .before .before .before in
+    modes-none _ _ _ _ _ _ _ _ _ (rw (none .before .before .n .given .1) at (first .carve-normal .ensures)) _ _ _ (omega (arith, none .if1 .left)) (c .before .before .before .before .carve-headless .ensures)
 
 pub carve-modes-spec : {M : Type 1} → statement M
 carve-modes-spec =

@@ -18,6 +18,13 @@ Inv-loop bytes base columns room rows₀ cols₀ o₀ n₀ rows cols o n = Norma
 abbrev μ-loop : tie.MeasureT-loop
 μ-loop bytes base columns room rows₀ cols₀ o₀ n₀ rows cols o n = length bytes - o
 
+-- ---- places, from the last: the row is written; there is room for it; it was found; the turn of the loop
+abbrev roomy : tie.After-slice-known4 Inv-loop μ-loop → tie.Else1 Inv-loop μ-loop
+roomy c = c .before .before .before .before .before .before .before
+
+abbrev turn : tie.After-known-told Inv-loop μ-loop → tie.At-loop Inv-loop μ-loop
+turn c = c .before .before .before .before .before
+
 loop-holds : tie.Need-loop-holds Inv-loop μ-loop
 loop-holds c = normals-start _ _ _ _ _ _
 
@@ -43,32 +50,33 @@ returns : tie.Need-returns Inv-loop μ-loop
 returns c = normals-stop _ _ _ _ _ _ _ _ _ _ (c .before .before .before .before .loop .inv) (c .before .before .before .loop-test .taken) (rw (c .enum-told .given .1) at (c .before .before .try-carve-normal .ensures))
 
 -- the row that was found
-found : (c : tie.After-known-told Inv-loop μ-loop) → let a = c .before .before .before .before .before .before .before .before .before .args in HitIs (now (a .bytes)) (a .columns) (normalAt (now (a .bytes)) (a .columns) (c .before .before .before .before .before .loop .o)) (c .before .find .given .0 .0)
+found : (c : tie.After-known-told Inv-loop μ-loop) → let a = turn c .before .before .before .before .args in HitIs (now (a .bytes)) (a .columns) (normalAt (now (a .bytes)) (a .columns) (turn c .loop .o)) (c .before .find .given .0 .0)
 found c = rw (c .before .find .given .1) at (c .before .before .before .try-carve-normal .ensures)
 
 same-length-3 : tie.Need-same-length-3 Inv-loop μ-loop
-same-length-3 c = c .before .before .before .before .before .before .loop .inv .carving .long
+same-length-3 c = turn (c .before) .loop .inv .carving .long
 
 same-length-4 : tie.Need-same-length-4 Inv-loop μ-loop
-same-length-4 c = c .before .before .before .before .before .before .loop .inv .carving .wide
+same-length-4 c = turn (c .before) .loop .inv .carving .wide
 
 returns-2 : tie.Need-returns-2 Inv-loop μ-loop
-returns-2 c = normals-over _ _ _ _ _ _ _ _ _ _ (c .before .before .before .before .before .before .loop .inv) (c .before .before .before .before .before .loop-test .taken) _ (found (c .before)) (c .if1 .taken)
+returns-2 c = normals-over _ _ _ _ _ _ _ _ _ _ (turn (c .before) .loop .inv) (c .before .before .before .before .before .loop-test .taken) _ (found (c .before)) (c .if1 .taken)
 
 put-find-requires : tie.Need-put-find-requires Inv-loop μ-loop
-put-find-requires c κs = fitting _ _ _ _ _ _ _ _ (normals-ready _ _ _ _ _ _ _ _ _ _ (c .before .before .before .before .before .before .before .before .loop .inv) (c .before .before .before .before .before .before .before .before .before .before .before .before .pre)) (found (c .before .before .before) .fits) (c .before .before .if1 .left)
+put-find-requires c κs = let row = c .before .before .before in fitting _ _ _ _ _ _ _ _ (normals-ready _ _ _ _ _ _ _ _ _ _ (turn row .loop .inv) (turn row .before .before .before .before .pre)) (found row .fits) (c .before .before .if1 .left)
 
 add-n : tie.Need-add-n Inv-loop μ-loop
-add-n c = omega (arith, c .before .before .before .before .before .before .before .if1 .left)
+add-n c = omega (arith, roomy c .if1 .left)
 
 loop-less : tie.Need-loop-less Inv-loop μ-loop
-loop-less c = let m = normal-ends _ _ _ _ (found (c .before .before .before .before .before .before .before .before) .is) in omega (arith, c .before .before .before .before .put-find .ensures .0, m .0, m .1)
+loop-less c = let m = normal-ends _ _ _ _ (found (roomy c .before) .is) in omega (arith, c .before .before .before .before .put-find .ensures .0, m .0, m .1)
 
 loop-again : tie.Need-loop-again Inv-loop μ-loop
 loop-again c =
+    let row = roomy c .before in
     let q = c .before .before .before .before .put-find in
     rw (q .ensures .0)
-    (normals-one _ _ _ _ _ _ _ _ _ _ (c .before .before .before .before .before .before .before .before .before .before .before .before .before .loop .inv) (c .before .before .before .before .before .before .before .before .before .before .before .before .loop-test .taken) _ (found (c .before .before .before .before .before .before .before .before)) _ _ (c .before .before .before .before .before .before .before .if1 .left) (q .ensures .1 .0) (q .ensures .1 .1) (q .kept .1 .1 .1 .1 .1 .0) (q .kept .1 .1 .1 .1 .1 .1 .0))
+    (normals-one _ _ _ _ _ _ _ _ _ _ (turn row .loop .inv) (row .before .before .before .before .loop-test .taken) _ (found row) _ _ (roomy c .if1 .left) (q .ensures .1 .0) (q .ensures .1 .1) (q .kept .1 .1 .1 .1 .1 .0) (q .kept .1 .1 .1 .1 .1 .1 .0))
 
 same-length-5 : tie.Need-same-length-5 Inv-loop μ-loop
 same-length-5 c = c .before .loop .inv .carving .long

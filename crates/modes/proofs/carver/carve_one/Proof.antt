@@ -17,15 +17,19 @@ enum-told c = search needs
 returns : tie.Need-returns
 returns c = rw (c .enum-told .given .1) (carves-none _ _ _ _ _ (c .before .before .before .before .before .pre .0 .fits))
 
+-- ---- the call, from the place where a row was found
+abbrev start : tie.After-known-told → tie.Start
+start c = c .before .before .before .before .before .before
+
 -- the row that was found
-fits : (c : tie.After-known-told) → FindFits (now (c .before .before .before .before .before .before .args .bytes)) (c .before .before .before .before .before .before .args .columns) (c .before .tried .given .0 .0)
+fits : (c : tie.After-known-told) → FindFits (now (start c .args .bytes)) (start c .args .columns) (c .before .tried .given .0 .0)
 fits c = rw (c .before .tried .given .1) at (c .before .before .before .before .before .before .pre .1)
 
 returns-2 : tie.Need-returns-2
 returns-2 c = rw (c .before .before .tried .given .1) (carves-over _ _ _ _ _ _ (c .if1 .taken))
 
 put-find-requires : tie.Need-put-find-requires
-put-find-requires c κs = fitting _ _ _ _ _ _ _ _ (c .before .before .before .before .before .before .before .before .before .pre .0) (fits (c .before .before .before)) (c .before .before .if1 .left)
+put-find-requires c κs = fitting _ _ _ _ _ _ _ _ (start (c .before .before .before) .pre .0) (fits (c .before .before .before)) (c .before .before .if1 .left)
 
 add-t11 : tie.Need-add-t11
 add-t11 c = search needs
@@ -38,8 +42,9 @@ same-length-2 c = search needs
 
 returns-3 : tie.Need-returns-3
 returns-3 c =
+    let found = c .before .before .before .before .before .before .before .before in
     let q = c .before .before .before .before .put-find in
-    rw (c .before .before .before .before .before .before .before .before .before .tried .given .1) (carves-one _ _ _ _ _ _ _ _ (c .before .before .before .before .before .before .before .if1 .left) (few-columns _ (c .before .before .before .before .before .before .before .before .before .before .before .before .before .before .args .base) _ _ (fits (c .before .before .before .before .before .before .before .before))) (q .ensures .1 .0) (q .ensures .1 .1))
+    rw (found .before .tried .given .1) (carves-one _ _ _ _ _ _ _ _ (c .before .before .before .before .before .before .before .if1 .left) (few-columns _ (start found .args .base) _ _ (fits found)) (q .ensures .1 .0) (q .ensures .1 .1))
 
 pub carve-one-spec : {M : Type 1} → statement M
 carve-one-spec =

@@ -15,6 +15,10 @@ Inv-loop bytes from count start cols₀ k at₀ end₀ to₀ left₀ cols at end
 abbrev μ-loop : tie.MeasureT-loop
 μ-loop bytes from count start cols₀ k at₀ end₀ to₀ left₀ cols at end to left = left
 
+-- ---- the turn of the loop, from the place where its column is known
+abbrev turn : tie.After-column-at Inv-loop μ-loop → tie.In-loop Inv-loop μ-loop
+turn c = c .before .before .before .before .before
+
 loop-holds : tie.Need-loop-holds Inv-loop μ-loop
 loop-holds c = written-start _ _ _ _ _ _ (c .before .before .pre .0 .0) (c .before .before .pre .1)
 
@@ -37,13 +41,13 @@ column-at-requires : tie.Need-column-at-requires Inv-loop μ-loop
 column-at-requires c κs = c .before .before .before .before .before .loop .inv .inside
 
 put-column-requires : tie.Need-put-column-requires Inv-loop μ-loop
-put-column-requires c κs = let w = c .before .before .before .before .before .before .before .loop .inv in omega (arith, w .room, w .long, c .before .before .before .before .before .before .loop-test .taken)
+put-column-requires c κs = let t = turn (c .before) in omega (arith, t .before .loop .inv .room, t .before .loop .inv .long, t .loop-test .taken)
 
 behind-requires : tie.Need-behind-requires Inv-loop μ-loop
-behind-requires c κs = omega (arith, c .before .before .before .before .column-at .ensures .1, c .before .before .before .before .before .before .before .before .before .before .before .before .before .pre .0 .1)
+behind-requires c κs = omega (arith, c .before .before .before .before .column-at .ensures .1, turn (c .before .before .before .before) .before .before .before .before .pre .0 .1)
 
 add-to : tie.Need-add-to Inv-loop μ-loop
-add-to c = let w = c .before .before .before .before .before .before .before .before .before .before .before .loop .inv in omega (arith, w .room, w .long, c .before .before .before .before .before .before .before .before .before .before .loop-test .taken)
+add-to c = let t = turn (c .before .before .before .before .before) in omega (arith, t .before .loop .inv .room, t .before .loop .inv .long, t .loop-test .taken)
 
 sub-left : tie.Need-sub-left Inv-loop μ-loop
 sub-left c = search needs
@@ -53,11 +57,12 @@ loop-less c = search needs
 
 loop-again : tie.Need-loop-again Inv-loop μ-loop
 loop-again c =
-    let l = c .before .before .before .before .before .before .before .before .before .before .before .loop in
+    let known = c .before .before .before .before .before in
+    let t = turn known in
     let q = c .before .before .before .put-column in
-    let x = c .before .before .before .before .before .column-at in
+    let x = known .column-at in
     rw (c .behind .ensures, x .ensures .0)
-    (written-step _ _ _ _ _ _ _ _ _ _ (l .inv) (l .left - 1) _ _ _ (omega (arith, c .before .before .before .before .before .before .before .before .before .before .loop-test .taken)) (sym (c .before .before .before .before .before .before .before .before .before .serial-type .ensures) ∙ c .before .before .before .before .before .before .before .kind .given .1)
+    (written-step _ _ _ _ _ _ _ _ _ _ (t .before .loop .inv) (t .before .loop .left - 1) _ _ _ (omega (arith, t .loop-test .taken)) (sym (known .before .before .before .before .serial-type .ensures) ∙ known .before .before .kind .given .1)
     (rw (x .ensures .0) at (q .ensures)) (q .kept .0))
 
 same-length-2 : tie.Need-same-length-2 Inv-loop μ-loop

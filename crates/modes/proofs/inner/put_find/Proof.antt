@@ -52,9 +52,11 @@ add-t28 c = search needs
 
 sub-t17 : tie.Need-sub-t17
 sub-t17 c =
-    let a = c .before .before .before .before .before .before .before .before .before .before .before .before .before .before .before .before .before .before .args in
-    let p = c .before .before .before .before .before .before .before .before .before .before .before .before .before .before .before .before .before .before .pre .fits in
-    omega (arith, c .before .before .before .before .before .before .before .before .put-bodies .ensures .0, end-inside (length (now (a .bytes))) (a .find .start) (kindsAt (a .find .count) (now (a .bytes)) (a .find .from)) (p .inside) .0, p .order)
+    let written = c .before .before .before .before .before .before .before .before in
+    let start = written .before .before .before .before .before .before .before .before .before .before in
+    let a = start .args in
+    let p = start .pre .fits in
+    omega (arith, written .put-bodies .ensures .0, end-inside (length (now (a .bytes))) (a .find .start) (kindsAt (a .find .count) (now (a .bytes)) (a .find .from)) (p .inside) .0, p .order)
 
 put-row-requires : tie.Need-put-row-requires
 put-row-requires c κs = search needs
@@ -67,15 +69,18 @@ same-length-2 c = search needs
 
 returns : tie.Need-returns
 returns c =
-    let a = c .before .before .before .before .before .before .before .before .before .before .before .before .before .before .before .before .before .before .before .before .before .before .args in
-    let p = c .before .before .before .before .before .before .before .before .before .before .before .before .before .before .before .before .before .before .before .before .before .before .pre .fits in
+    let filled = c .before .before .before .before .before .before .before in
+    let written = filled .before .before .before .before .before in
+    let start = written .before .before .before .before .before .before .before .before .before .before in
+    let a = start .args in
+    let p = start .pre .fits in
     let ts = kindsAt (a .find .count) (now (a .bytes)) (a .find .from) in
-    let b = c .before .before .before .before .before .before .before .before .before .before .before .before .put-bodies .ensures in (
+    let b = written .put-bodies .ensures in (
       b .0,
       (
         c .before .before .put-row .ensures ∙ rw (b .0),
-        c .before .before .before .before .before .before .before .put-unused .ensures
-            ∙ rw (b .1, c .before .before .before .before .before .before .before .before .before .before .before .before .before .before .before .before .put-lost .ensures)
+        filled .put-unused .ensures
+            ∙ rw (b .1, written .before .before .before .before .put-lost .ensures)
             (group-is (now (a .cols)) (a .n * (wordsPerEntry * a .width)) (a .width) (a .find .style .lost) (a .find .count) (columnsFrom (length (now (a .bytes))) (a .find .start) ts) (columns-count (length (now (a .bytes))) (a .find .start) ts ∙ p .counts)),
       ),
     )

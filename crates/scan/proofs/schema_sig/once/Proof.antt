@@ -32,23 +32,27 @@ returns-2 c =
     let m = rw (c .enum-told .given .1) at (c .before .before .attempt .ensures) in
     once-missed _ _ _ _ _ _ (m .misses)
 
+-- ---- the call, from the place where a row was found
+abbrev start : tie.After-known-told → tie.Start
+start c = c .before .before .before .before .before .before .before .before .before
+
 -- what an attempt that found a row says
 found : (c : tie.After-known-told) →
-    let a = c .before .before .before .before .before .before .before .before .before .args in
+    let a = start c .args in
     HitIs (now (a .bytes)) (now (a .hints)) (a .o) (attemptAt (now (a .bytes)) (now (a .hints)) (a .o)) (attemptPlaces (now (a .bytes)) (a .o)) (c .before .find .given .0 .0)
 found c = rw (c .before .find .given .1) at (c .before .before .before .attempt .ensures)
 
 returns-3 : tie.Need-returns-3
 returns-3 c =
-    let p = c .before .before .before .before .before .before .before .before .before .before .pre in
+    let p = start (c .before) .pre in
     once-full _ _ _ _ _ _ _ (found (c .before) .hits) (sym (p .1) ∙ c .if2 .taken)
 
 put-found-requires : tie.Need-put-found-requires
 put-found-requires c κs =
     let k = c .before .before .before in
-    let p = c .before .before .before .before .before .before .before .before .before .before .before .before .pre in
+    let p = start k .pre in
     let h = found k in
-    let n : 0 < c .before .before .before .before .before .before .before .before .before .before .before .before .args .room = omega (arith, c .before .before .if2 .left) in (
+    let n : 0 < start k .args .room = omega (arith, c .before .before .if2 .left) in (
       (p .0 .few, p .0 .near, p .0 .small),
       (
         h .headed,
@@ -74,8 +78,8 @@ same-length-2 c = search needs
 returns-4 : tie.Need-returns-4
 returns-4 c =
     let k = c .before .before .before .before .before .before .before .before in
-    let a = k .before .before .before .before .before .before .before .before .before .args in
-    let p = k .before .before .before .before .before .before .before .before .before .pre in
+    let a = start k .args in
+    let p = start k .pre in
     let h = found k in
     let q = c .before .before .before .before .put-found in
     let n : 0 < a .room = omega (arith, c .before .before .before .before .before .before .before .if2 .left) in

@@ -26,22 +26,29 @@ Inv-loop bytes hints base start room rows₀ cols₀ last o₀ n₀ read₀ met�
 abbrev μ-loop : tie.MeasureT-loop
 μ-loop bytes hints base start room rows₀ cols₀ last o₀ n₀ read₀ met₀ rows cols o n read met = length bytes - o
 
+-- ---- places, from the last: a row is written; there is room for it; the loop; the call
+abbrev roomy : tie.After-slice-known4 Inv-loop μ-loop → tie.Else1 Inv-loop μ-loop
+roomy c = c .before .before .before .before .before .before .before
+
+abbrev start : tie.At-loop Inv-loop μ-loop → tie.Start Inv-loop μ-loop
+start c = c .before .before .before .before .before .before
+
 -- all is passed over
 through : (c : tie.After-known-told Inv-loop μ-loop) →
-    let a = c .before .before .before .before .before .before .before .before .before .before .args in
+    let a = start (c .before .before .before .before) .args in
     ThroughIs (now (a .bytes)) (now (a .hints)) (c .before .before .before .before .loop .o) (c .before .before .before .before .before .last-of .result) (c .before .r .given .0 .0)
 through c = rw (c .before .r .given .1) at (c .before .before .before .next-row .ensures)
 
 -- or a row comes
 found : (c : tie.After-known-told2 Inv-loop μ-loop) →
-    let a = c .before .before .before .before .before .before .before .before .before .before .args in
+    let a = start (c .before .before .before .before) .args in
     let x = c .before .at .given .0 in
     RowIs (now (a .bytes)) (now (a .hints)) (c .before .before .before .before .loop .o) (c .before .before .before .before .before .last-of .result) (x .0) (x .1 .0) (x .1 .1 .0) (x .1 .1 .1 .0)
 found c = rw (c .before .at .given .1) at (c .before .before .before .next-row .ensures)
 
 -- it lies in the region, takes at least two bytes, and few header bytes were read
 taken : (c : tie.After-known-told2 Inv-loop μ-loop) →
-    let a = c .before .before .before .before .before .before .before .before .before .before .args in
+    let a = start (c .before .before .before .before) .args in
     let l = c .before .before .before .before .loop in
     let x = c .before .at .given .0 in
     (x .0 < length (now (a .bytes)) - 2) × (l .o ≤ x .0) × (2 ≤ x .1 .0 .consumed) × (x .0 + x .1 .0 .consumed ≤ length (now (a .bytes)))
@@ -53,14 +60,14 @@ taken c =
       omega (arith, f .misses .to-is),
       hit-takes _ _ _ _ (h .hits) .0,
       h .inside,
-      c .before .before .before .before .before .before .before .before .before .before .pre .0 .small,
+      start (c .before .before .before .before) .pre .0 .small,
       h .few,
       omega (arith, c .before .before .before .before .loop .inv .1, f .misses .to-is, f .misses .few),
     )
 
 -- the run up to it
 there : (c : tie.After-known-told2 Inv-loop μ-loop) →
-    let a = c .before .before .before .before .before .before .before .before .before .before .args in
+    let a = start (c .before .before .before .before) .args in
     let l = c .before .before .before .before .loop in
     let x = c .before .at .given .0 in
     On (now (a .bytes)) (now (a .hints)) (a .base) (a .start) (a .room) (now (a .rows)) (now (a .cols)) (l .rows) (l .cols) (x .0) (l .n) (l .read + x .1 .1 .0)
@@ -73,7 +80,7 @@ loop-holds : tie.Need-loop-holds Inv-loop μ-loop
 loop-holds c = (search needs, search needs, search needs, on-start _ _ _ _ _ _ _, no-run _)
 
 next-row-requires : tie.Need-next-row-requires Inv-loop μ-loop
-next-row-requires c κs = let p = c .before .before .before .before .before .before .pre .0 in ((omega (arith, c .before .last-of .ensures), p .small, p .few), c .loop .inv .4)
+next-row-requires c κs = let p = start c .pre .0 in ((omega (arith, c .before .last-of .ensures), p .small, p .few), c .loop .inv .4)
 
 enum-known-r : tie.Need-enum-known-r Inv-loop μ-loop
 enum-known-r c = search needs
@@ -82,7 +89,7 @@ add-t21 : tie.Need-add-t21 Inv-loop μ-loop
 add-t21 c =
     let t = through c in
     let l = c .before .before .before .before .loop in
-    let p = c .before .before .before .before .before .before .before .before .before .before .pre .0 in
+    let p = start (c .before .before .before .before) .pre .0 in
     by-order (l .o) (c .before .before .before .before .before .last-of .result)
     (λ lt. omega (arith, l .inv .1, t .passed .misses .few, t .passed .misses .to-is, t .passed .near lt, c .before .before .before .before .before .last-of .ensures, p .small))
     (λ ge. omega (arith, l .inv .2, t .passed .early ge .1, p .small))
@@ -96,7 +103,7 @@ same-length-2 c = on-long _ _ _ _ _ _ _ _ _ _ _ _ (c .before .before .before .be
 returns : tie.Need-returns Inv-loop μ-loop
 returns c =
     let l = c .before .before .before .before .loop in
-    let p = c .before .before .before .before .before .before .before .before .before .before .pre in
+    let p = start (c .before .before .before .before) .pre in
     let r = room-all _ _ _ _ (rw (p .1) at (l .inv .0)) in
     let t = on-through _ _ _ _ _ _ _ _ _ _ _ _ _ _ (c .before .before .before .before .before .last-of .ensures) (l .inv .3) (through c) in
     on-end _ _ _ _ _ _ _ _ _ _ _ _ (r .0) (r .1) (t .1) (t .2)
@@ -116,7 +123,7 @@ same-length-4 c = on-long _ _ _ _ _ _ _ _ _ _ _ _ (c .before .before .before .be
 returns-2 : tie.Need-returns-2 Inv-loop μ-loop
 returns-2 c =
     let k = c .before in
-    let p = k .before .before .before .before .before .before .before .before .before .before .pre in
+    let p = start (k .before .before .before .before) .pre in
     let r = room-all _ _ _ _ (rw (p .1) at (k .before .before .before .before .loop .inv .0)) in
     on-full _ _ _ _ _ _ _ _ _ _ _ _ (r .0) (r .1) _ (taken k .0) (found k .found .hits) (c .if1 .taken) (there k)
 
@@ -124,7 +131,7 @@ put-found-requires : tie.Need-put-found-requires Inv-loop μ-loop
 put-found-requires c κs =
     let e = c .before .before in
     let k = e .before in
-    let p = k .before .before .before .before .before .before .before .before .before .before .pre in
+    let p = start (k .before .before .before .before) .pre in
     let h = found k .found in
     let long = on-long _ _ _ _ _ _ _ _ _ _ _ _ (k .before .before .before .before .loop .inv .3) in
     let n : k .before .before .before .before .loop .n < _ = e .if1 .left in (
@@ -145,30 +152,31 @@ put-found-requires c κs =
     )
 
 add-n : tie.Need-add-n Inv-loop μ-loop
-add-n c = omega (arith, c .before .before .before .before .before .before .before .if1 .left, c .before .before .before .before .before .before .before .before .before .before .before .before .before .before .before .before .before .before .fits .room)
+add-n c = omega (arith, roomy c .if1 .left, start (roomy c .before .before .before .before .before) .fits .room)
 
 add-read-2 : tie.Need-add-read-2 Inv-loop μ-loop
-add-read-2 c = let t = taken (c .before .before .before .before .before .before .before .before .before) in omega arith
+add-read-2 c = let t = taken (roomy (c .before) .before) in omega arith
 
 add-o : tie.Need-add-o Inv-loop μ-loop
-add-o c = let t = taken (c .before .before .before .before .before .before .before .before .before .before) in omega arith
+add-o c = let t = taken (roomy (c .before .before) .before) in omega arith
 
 loop-less : tie.Need-loop-less Inv-loop μ-loop
-loop-less c = let t = taken (c .before .before .before .before .before .before .before .before .before .before) in omega arith
+loop-less c = let t = taken (roomy (c .before .before) .before) in omega arith
 
 loop-again : tie.Need-loop-again Inv-loop μ-loop
 loop-again c =
-    let k = c .before .before .before .before .before .before .before .before .before .before in
+    let r = roomy (c .before .before) in
+    let k = r .before in
     let x = k .before .at .given .0 in
     let f = found k in
     let h = f .found in
     let t = taken k in
     let q = c .before .before .before .before .before .before .put-found in (
-      omega (arith, c .before .before .before .before .before .before .before .before .before .if1 .left),
+      omega (arith, r .if1 .left),
       omega (arith, t .2, t .5, t .6),
       omega (arith, t .0, t .5, t .6),
-      on-found _ _ _ _ _ _ _ _ _ _ _ _ _ _ _ _ (t .0) (h .hits) (c .before .before .before .before .before .before .before .before .before .if1 .left) (omega (arith, t .2)) (h .counts)
-          (columns-at-length (x .0 + x .1 .0 .head) (kinds (findTypes (now (k .before .before .before .before .before .before .before .before .before .before .args .bytes)) (x .0) (x .1 .0))) ∙ h .columns) (q .ensures .0) (q .ensures .1) (q .kept .1 .1 .1 .1 .1 .1 .0) (q .kept .1 .1 .1 .1 .1 .1 .1 .0) (there k),
+      on-found _ _ _ _ _ _ _ _ _ _ _ _ _ _ _ _ (t .0) (h .hits) (r .if1 .left) (omega (arith, t .2)) (h .counts)
+          (columns-at-length (x .0 + x .1 .0 .head) (kinds (findTypes (now (start (k .before .before .before .before) .args .bytes)) (x .0) (x .1 .0))) ∙ h .columns) (q .ensures .0) (q .ensures .1) (q .kept .1 .1 .1 .1 .1 .1 .0) (q .kept .1 .1 .1 .1 .1 .1 .1 .0) (there k),
       f .run-is,
     )
 

@@ -18,17 +18,24 @@ Inv-loop haystack pattern places₀ last table on n₀ i₀ places n i =
 abbrev μ-loop : tie.MeasureT-loop
 μ-loop haystack pattern places₀ last table on n₀ i₀ places n i = length haystack - i
 
+-- ---- places, from the last: the window moves on; the table was made; the call
+abbrev made : tie.After-table3 Inv-loop μ-loop → tie.After-stop-at Inv-loop μ-loop
+made c = c .before .before .before .before .before .before .before .before .before .before
+
+abbrev start : tie.After-stop-at Inv-loop μ-loop → tie.Start Inv-loop μ-loop
+start c = c .before .before .before .before .before .before .before
+
 -- the table, and how far a window goes on behind a visit
 ready : (c : tie.After-stop-at Inv-loop μ-loop) →
-    let a = c .before .before .before .before .before .before .before .args in
+    let a = start c .args in
     Slides (a .haystack .now) (a .pattern .now) (c .stop-at .last .0) (c .stop-at .result)
 ready c =
-    let a = c .before .before .before .before .before .before .before .args in
-    slides (c .before .before .before .before .before .before .before .pre) (omega (arith, c .before .shared-slice-known3 .given (length (a .pattern .now) - 1))) (c .before .before .before .shifts .ensures)
+    let a = start c .args in
+    slides (start c .pre) (omega (arith, c .before .shared-slice-known3 .given (length (a .pattern .now) - 1))) (c .before .before .before .shifts .ensures)
     (c .stop-at .ensures)
 
 -- the list keeps its length
-kept : (c : tie.After-visit Inv-loop μ-loop) → length (c .visit .last .1 .1 .1 .0) ≡ length (c .before .before .before .before .before .before .before .before .before .before .before .before .before .args .places .now)
+kept : (c : tie.After-visit Inv-loop μ-loop) → length (c .visit .last .1 .1 .1 .0) ≡ length (start (c .before .before .before .before .before .before) .args .places .now)
 kept c = c .visit .kept .1 .1 .1 .0 ∙ seen-length (c .before .before .before .loop .inv .2)
 
 sub-last : tie.Need-sub-last Inv-loop μ-loop
@@ -44,7 +51,7 @@ stop-at-requires : tie.Need-stop-at-requires Inv-loop μ-loop
 stop-at-requires c κs = search needs
 
 next-end-requires : tie.Need-next-end-requires Inv-loop μ-loop
-next-end-requires c κs = let p = c .before .before .before .before .before .before .before .before .pre in ready (c .before) .windows _ (omega arith) (omega arith)
+next-end-requires c κs = let p = start (c .before) .pre in ready (c .before) .windows _ (omega arith) (omega arith)
 
 loop-holds : tie.Need-loop-holds Inv-loop μ-loop
 loop-holds c =
@@ -65,18 +72,18 @@ returns c =
     let v = c .before .before .before in
     let l = v .before .before .before in
     let over = rw (kept v) at (c .if1 .taken) in
-    seen-full (l .loop .inv .2) (v .visit .ensures .0) (v .visit .ensures .1) (l .before .before .before .before .before .before .before .before .before .before .pre .0) (omega arith) over
+    seen-full (l .loop .inv .2) (v .visit .ensures .0) (v .visit .ensures .1) (start (l .before .before .before) .pre .0) (omega arith) over
 
 add-next-end : tie.Need-add-next-end Inv-loop μ-loop
-add-next-end c = omega (arith, ready (c .before .before .before .before .before .before .before .before .before .before) .most)
+add-next-end c = omega (arith, ready (made c) .most)
 
 next-end-requires-2 : tie.Need-next-end-requires-2 Inv-loop μ-loop
 next-end-requires-2 c κs =
-    let s = ready (c .before .before .before .before .before .before .before .before .before .before) in
+    let s = ready (made c) in
     s .windows _ (omega arith) (omega (arith, s .most))
 
 loop-less : tie.Need-loop-less Inv-loop μ-loop
-loop-less c = omega (arith, c .next-end2 .ensures .0 .on, ready (c .before .before .before .before .before .before .before .before .before .before .before) .moves)
+loop-less c = omega (arith, c .next-end2 .ensures .0 .on, ready (made (c .before)) .moves)
 
 loop-again : tie.Need-loop-again Inv-loop μ-loop
 loop-again c =
@@ -97,7 +104,7 @@ same-length-2 c = seen-length (c .before .loop .inv .2)
 returns-2 : tie.Need-returns-2 Inv-loop μ-loop
 returns-2 c =
     let l = c .before in
-    seen-all (l .loop .inv .2) (ended _ _ _ (l .before .before .before .before .before .before .before .before .before .before .pre .0) (l .loop .inv .1) (omega arith))
+    seen-all (l .loop .inv .2) (ended _ _ _ (start (l .before .before .before) .pre .0) (l .loop .inv .1) (omega arith))
 
 pub slide-spec : {M : Type 1} → statement M
 slide-spec =

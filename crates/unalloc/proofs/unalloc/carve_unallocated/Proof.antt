@@ -36,8 +36,9 @@ same-length-2 c = search needs
 
 returns-2 : tie.Need-returns-2
 returns-2 c =
+    let passed = c .before .before .before .before .before .before .before .before in
     let q = c .before .before .before .before .before .carve-rows in
-    rows-filled _ _ (sym (c .before .before .before .before .before .before .before .before .before .before .before .check-counted .ensures) ∙ c .before .before .before .before .before .before .before .before .before .enum-told .given .1) (rw (c .filled .ensures) (carved-filled _ _ _ _ _ _ _ (c .before .before .before .before .before .before .before .before .room .ensures) (q .result) (q .ensures)))
+    rows-filled _ _ (sym (passed .before .before .before .check-counted .ensures) ∙ passed .before .enum-told .given .1) (rw (c .filled .ensures) (carved-filled _ _ _ _ _ _ _ (passed .room .ensures) (q .result) (q .ensures)))
 
 pub carve-unallocated-spec : {M : Type 1} → statement M
 carve-unallocated-spec =

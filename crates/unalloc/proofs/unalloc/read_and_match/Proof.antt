@@ -21,6 +21,13 @@ Inv-loop region types from stop at₀ end₀ count₀ matched₀ at end count ma
 abbrev μ-loop : tie.MeasureT-loop
 μ-loop region types from stop at₀ end₀ count₀ matched₀ at end count matched = length types - count
 
+-- ---- places, from the last: a type was read; the turn of the loop; the call
+abbrev turn : tie.After-known-told Inv-loop μ-loop → tie.In-loop Inv-loop μ-loop
+turn c = c .before .before .before .before .before
+
+abbrev start : tie.In-loop Inv-loop μ-loop → tie.Start Inv-loop μ-loop
+start c = c .before .before .before .before
+
 loop-holds : tie.Need-loop-holds Inv-loop μ-loop
 loop-holds c = (omega arith, reading-start _ _ _ _ (c .before .before .pre .within))
 
@@ -40,28 +47,29 @@ returns-2 : tie.Need-returns-2 Inv-loop μ-loop
 returns-2 c = reading-cut _ _ _ _ _ _ _ _ (c .before .before .before .before .before .loop .inv .1) (c .before .before .before .before .loop-test .taken) (c .before .before .before .if1 .left) (sym (c .before .before .serial-type .ensures) ∙ c .enum-told .given .1)
 
 -- the type that was read
-read : (c : tie.After-known-told Inv-loop μ-loop) → varintAt (now (c .before .before .before .before .before .before .before .before .before .args .region)) (c .before .before .before .before .before .before .loop .at) ≡ Value (c .before .kind .given .0 .0) (c .before .kind .given .0 .1 .0)
+read : (c : tie.After-known-told Inv-loop μ-loop) → varintAt (now (start (turn c) .args .region)) (turn c .before .loop .at) ≡ Value (c .before .kind .given .0 .0) (c .before .kind .given .0 .1 .0)
 read c = sym (c .before .before .before .serial-type .ensures) ∙ c .before .kind .given .1
 
 column-at-requires : tie.Need-column-at-requires Inv-loop μ-loop
-column-at-requires c κs = c .before .before .before .before .before .before .loop .inv .1 .inside
+column-at-requires c κs = turn c .before .loop .inv .1 .inside
 
 is-there-requires : tie.Need-is-there-requires Inv-loop μ-loop
 is-there-requires c κs = search needs
 
 returns-3 : tie.Need-returns-3 Inv-loop μ-loop
 returns-3 c =
+    let kind = c .before .before .before in
     let x = c .before .before .column-at in
-    reading-out _ _ _ _ _ _ _ _ (c .before .before .before .before .before .before .before .before .before .loop .inv .1) (c .before .before .before .before .before .before .before .before .loop-test .taken) (c .before .before .before .before .before .before .before .if1 .left) _ _ (read (c .before .before .before)) (rw (x .ensures .0) at (sym (c .before .is-there .ensures) ∙ not-true _ (c .if2 .taken)))
+    reading-out _ _ _ _ _ _ _ _ (turn kind .before .loop .inv .1) (turn kind .loop-test .taken) (kind .before .before .before .before .if1 .left) _ _ (read kind) (rw (x .ensures .0) at (sym (c .before .is-there .ensures) ∙ not-true _ (c .if2 .taken)))
 
 matches-at-requires : tie.Need-matches-at-requires Inv-loop μ-loop
-matches-at-requires c κs = c .before .before .before .before .before .before .before .before .loop-test .taken
+matches-at-requires c κs = turn (c .before .before .before) .loop-test .taken
 
 add-matched : tie.Need-add-matched Inv-loop μ-loop
-add-matched c = let w = c .before .before .before .before .before .before .before .before .before .before .loop .inv in omega (arith, w .0, w .1 .few, c .matches-at .ensures .1, c .before .before .before .before .before .before .before .before .before .loop-test .taken, c .before .before .before .before .before .before .before .before .before .before .before .before .before .pre .few)
+add-matched c = let t = turn (c .before .before .before .before) in omega (arith, t .before .loop .inv .0, t .before .loop .inv .1 .few, c .matches-at .ensures .1, t .loop-test .taken, start t .pre .few)
 
 behind-requires : tie.Need-behind-requires Inv-loop μ-loop
-behind-requires c κs = omega (arith, c .before .before .before .column-at .ensures .1, c .before .before .before .before .before .before .before .before .before .before .before .before .before .pre .small)
+behind-requires c κs = omega (arith, c .before .before .before .column-at .ensures .1, start (turn (c .before .before .before .before)) .pre .small)
 
 add-count : tie.Need-add-count Inv-loop μ-loop
 add-count c = search needs
@@ -71,11 +79,12 @@ loop-less c = search needs
 
 loop-again : tie.Need-loop-again Inv-loop μ-loop
 loop-again c =
+    let kind = c .before .before .before .before .before in
     let x = c .before .before .before .before .column-at in
     let m = c .before .matches-at in (
       search needs,
       rw (c .behind .ensures, x .ensures .0)
-          (reading-on _ _ _ _ _ _ _ _ (c .before .before .before .before .before .before .before .before .before .before .before .loop .inv .1) (c .before .before .before .before .before .before .before .before .before .before .loop-test .taken) (c .before .before .before .before .before .before .before .before .before .if1 .left) _ _ (read (c .before .before .before .before .before)) (rw (x .ensures .0) at (sym (c .before .before .before .is-there .ensures) ∙ not-false _ (c .before .before .if2 .left))) _ (m .ensures .0) (m .ensures .1)),
+          (reading-on _ _ _ _ _ _ _ _ (turn kind .before .loop .inv .1) (turn kind .loop-test .taken) (kind .before .before .before .before .if1 .left) _ _ (read kind) (rw (x .ensures .0) at (sym (c .before .before .before .is-there .ensures) ∙ not-false _ (c .before .before .if2 .left))) _ (m .ensures .0) (m .ensures .1)),
     )
 
 returns-4 : tie.Need-returns-4 Inv-loop μ-loop

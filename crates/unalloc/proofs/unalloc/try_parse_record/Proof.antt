@@ -12,6 +12,10 @@ use Rattle.unalloc.proofs.Attempting.{attempt-short, attempt-bad, attem
 use Rattle.unalloc.proofs.unalloc.try_parse_record.Statement.{statement}
 use Rattle.unalloc.proofs.unalloc.try_parse_record.Tie as tie
 
+-- ---- the call, from the place where the header's length was read
+abbrev start : tie.After-known-told → tie.Start
+start c = c .before .before .before .before .before .before
+
 header-length-requires : tie.Need-header-length-requires
 header-length-requires c κs = search needs
 
@@ -25,10 +29,10 @@ returns : tie.Need-returns
 returns c = attempt-short _ _ _ (sym (c .before .before .header-length .ensures) ∙ c .enum-told .given .1)
 
 -- the header's length that was read, and where it ends
-read : (c : tie.After-known-told) → varintAt (now (c .before .before .before .before .before .before .args .region)) (c .before .before .before .before .before .before .args .o) ≡ Value (c .before .h .given .0 .0) (c .before .h .given .0 .1 .0)
+read : (c : tie.After-known-told) → varintAt (now (start c .args .region)) (start c .args .o) ≡ Value (c .before .h .given .0 .0) (c .before .h .given .0 .1 .0)
 read c = sym (c .before .before .before .header-length .ensures) ∙ c .before .h .given .1
 
-past : (c : tie.After-known-told) → c .before .before .before .before .before .before .args .o ≤ c .before .h .given .0 .1 .0 .at
+past : (c : tie.After-known-told) → start c .args .o ≤ c .before .h .given .0 .1 .0 .at
 past c = omega (arith, varint-lies _ _ _ _ (read c) .past)
 
 returns-2 : tie.Need-returns-2
@@ -50,7 +54,7 @@ add-start : tie.Need-add-start
 add-start c = search needs
 
 read-and-match-requires : tie.Need-read-and-match-requires
-read-and-match-requires c κs = headed _ _ _ _ _ (read (c .before .before .before)) (c .before .before .if1 .left) (c .if3 .left) (c .before .if2 .left) (c .before .before .before .before .before .before .before .before .before .pre .0 .1) (c .before .before .before .before .before .before .before .before .before .pre .1 .1)
+read-and-match-requires c κs = let p = start (c .before .before .before) .pre in headed _ _ _ _ _ (read (c .before .before .before)) (c .before .before .if1 .left) (c .if3 .left) (c .before .if2 .left) (p .0 .1) (p .1 .1)
 
 enum-known-count : tie.Need-enum-known-count
 enum-known-count c = search needs
@@ -62,17 +66,20 @@ returns-5 : tie.Need-returns-5
 returns-5 c = attempt-fails _ _ _ _ _ (read (c .before .before .before .before .before .before)) (c .before .before .before .before .before .if1 .left) (c .before .before .before .if3 .left) (c .before .before .before .before .if2 .left) (rw (c .enum-told2 .given .1) at (c .before .before .read-and-match .ensures))
 
 returns-6 : tie.Need-returns-6
-returns-6 c = attempt-none _ _ _ _ _ (read (c .before .before .before .before .before .before .before .before)) (c .before .before .before .before .before .before .before .if1 .left) (c .before .before .before .before .before .if3 .left) (c .before .before .before .before .before .before .if2 .left) _ _ (rw (c .before .before .count .given .1) at (c .before .before .before .before .read-and-match .ensures)) (c .if4 .taken)
+returns-6 c = let passed = c .before .before .before .before .before in attempt-none _ _ _ _ _ (read (passed .before .before .before)) (passed .before .before .if1 .left) (passed .if3 .left) (passed .before .if2 .left) _ _ (rw (c .before .before .count .given .1) at (c .before .before .before .before .read-and-match .ensures)) (c .if4 .taken)
 
 learned-requires : tie.Need-learned-requires
 learned-requires c κs =
-    let few = few-match _ _ _ _ _ (read (c .before .before .before .before .before .before .before .before)) (c .before .before .before .before .before .before .before .if1 .left) (c .before .before .before .before .before .if3 .left) (c .before .before .before .before .before .before .if2 .left) _ _ (rw (c .before .before .count .given .1) at (c .before .before .before .before .read-and-match .ensures)) in
-    (omega (arith, few, c .before .before .before .before .before .before .before .before .before .before .before .before .before .before .pre .1 .1), c .before .before .before .before .before .before .before .before .before .before .before .before .before .before .pre .1 .0)
+    let passed = c .before .before .before .before .before in
+    let p = start (passed .before .before .before) .pre .1 in
+    let few = few-match _ _ _ _ _ (read (passed .before .before .before)) (passed .before .before .if1 .left) (passed .if3 .left) (passed .before .if2 .left) _ _ (rw (c .before .before .count .given .1) at (c .before .before .before .before .read-and-match .ensures)) in
+    (omega (arith, few, p .1), p .0)
 
 returns-7 : tie.Need-returns-7
 returns-7 c =
+    let passed = c .before .before .before .before .before .before in
     rw (c .learned .ensures)
-    (attempt-hit _ _ _ _ _ (read (c .before .before .before .before .before .before .before .before .before)) (c .before .before .before .before .before .before .before .before .if1 .left) (c .before .before .before .before .before .before .if3 .left) (c .before .before .before .before .before .before .before .if2 .left) _ _ (rw (c .before .before .before .count .given .1) at (c .before .before .before .before .before .read-and-match .ensures)) (omega (arith, c .before .if4 .left)))
+    (attempt-hit _ _ _ _ _ (read (passed .before .before .before)) (passed .before .before .if1 .left) (passed .if3 .left) (passed .before .if2 .left) _ _ (rw (c .before .before .before .count .given .1) at (c .before .before .before .before .before .read-and-match .ensures)) (omega (arith, c .before .if4 .left)))
 
 pub try-parse-record-spec : {M : Type 1} → statement M
 try-parse-record-spec =

@@ -21,10 +21,16 @@ Inv-loop payload hints v last at₀ count₀ matched₀ total₀ at count matche
 abbrev μ-loop : tie.MeasureT-loop
 μ-loop payload hints v last at₀ count₀ matched₀ total₀ at count matched total = length hints - count
 
+-- ---- places, from the last: a type was read; the turn of the loop; the call
+abbrev turn : tie.After-known-told Inv-loop μ-loop → tie.In-loop Inv-loop μ-loop
+turn c = c .before .before .before .before .before
+
+abbrev start : tie.In-loop Inv-loop μ-loop → tie.Start Inv-loop μ-loop
+start c = c .before .before .before .before
+
 -- the type that was read, and where it ends
 read : (c : tie.After-known-told Inv-loop μ-loop) →
-    let l = c .before .before .before .before .before .before .loop in
-    varintAt (now (c .before .before .before .before .before .before .before .before .before .args .payload)) (l .at) ≡ Value (c .before .kind .given .0 .0) (c .before .kind .given .0 .1 .0)
+    varintAt (now (start (turn c) .args .payload)) (turn c .before .loop .at) ≡ Value (c .before .kind .given .0 .0) (c .before .kind .given .0 .1 .0)
 read c = sym (c .before .before .before .serial-type .ensures) ∙ c .before .kind .given .1
 
 add-last : tie.Need-add-last Inv-loop μ-loop
@@ -55,7 +61,8 @@ suits-at-requires c κs = search needs
 
 add-matched : tie.Need-add-matched Inv-loop μ-loop
 add-matched c =
-    omega (arith, c .suits-at .ensures .1, c .before .before .before .before .before .before .before .loop .inv, c .before .before .before .before .before .before .loop-test .taken, c .before .before .before .before .before .before .before .before .before .before .pre .1 .1)
+    let t = turn (c .before) in
+    omega (arith, c .suits-at .ensures .1, t .before .loop .inv, t .loop-test .taken, start t .pre .1 .1)
 
 add-body-requires : tie.Need-add-body-requires Inv-loop μ-loop
 add-body-requires c κs = search needs
@@ -65,14 +72,14 @@ add-count c = search needs
 
 -- one type more was read
 one-more : (c : tie.After-add-body Inv-loop μ-loop) →
-    let a = c .before .before .before .before .before .before .before .before .before .before .before .args in
-    let l = c .before .before .before .before .before .before .before .before .loop in
+    let a = start (turn (c .before .before)) .args in
+    let l = turn (c .before .before) .before .loop in
     Reading (now (a .payload)) (now (a .hints)) (a .v) (c .before .before .before .kind .given .0 .1 .0 .at) (l .count + 1) (l .matched + c .before .suits-at .result) (c .add-body .result)
 one-more c =
     let o = c .before .before in
-    let l = o .before .before .before .before .before .before .loop in
+    let t = turn o in
     rw (c .before .suits-at .ensures .0, c .add-body .ensures)
-    (reading-step _ _ _ _ _ _ _ (l .inv .4) _ _ (o .before .before .before .before .before .loop-test .taken) (o .before .before .before .before .if1 .left) (read o))
+    (reading-step _ _ _ _ _ _ _ (t .before .loop .inv .4) _ _ (t .loop-test .taken) (o .before .before .before .before .if1 .left) (read o))
 
 sub-if2 : tie.Need-sub-if2 Inv-loop μ-loop
 sub-if2 c = varint-lies _ _ _ _ (read (c .before .before)) .inside
@@ -80,7 +87,7 @@ sub-if2 c = varint-lies _ _ _ _ (read (c .before .before)) .inside
 returns-3 : tie.Need-returns-3 Inv-loop μ-loop
 returns-3 c =
     let o = c .before in
-    let p = o .before .before .before .before .before .before .before .before .before .before .before .pre in
+    let p = start (turn (o .before .before)) .pre in
     reading-long _ _ _ _ _ _ _ (one-more o) (p .0 .0) (p .1 .0) (p .1 .1) (varint-lies _ _ _ _ (read (o .before .before)) .inside) (omega (arith, o .add-body .ensures)) (c .if2 .taken)
 
 loop-less : tie.Need-loop-less Inv-loop μ-loop
@@ -89,7 +96,7 @@ loop-less c = search needs
 loop-again : tie.Need-loop-again Inv-loop μ-loop
 loop-again c =
     let o = c .before in
-    let l = o .before .before .before .before .before .before .before .before .loop in
+    let l = turn (o .before .before) .before .loop in
     let z = varint-lies _ _ _ _ (read (o .before .before)) in (
       omega (arith, z .past, l .inv .0),
       z .inside,

@@ -19,34 +19,34 @@ Inv-loop page head hints spot lent n rows₀ cols₀ left₀ at₀ m₀ rows col
 abbrev μ-loop : tie.MeasureT-loop
 μ-loop page head hints spot lent n rows₀ cols₀ left₀ at₀ m₀ rows cols left at m = left
 
--- ---- places, from the last: a block was carved; the loop's turn; the call
+-- ---- places, from the last: a block was carved; the loop's turn; the header starts in the page; the call
 abbrev turn : tie.After-carve-block Inv-loop μ-loop → tie.In-loop Inv-loop μ-loop
 turn c = c .before .before .before .before
 
-abbrev start : tie.In-loop Inv-loop μ-loop → tie.Start Inv-loop μ-loop
-start c = c .before .before .before .before .before .before .before .before .before
+abbrev start : tie.Else1 Inv-loop μ-loop → tie.Start Inv-loop μ-loop
+start c = c .before .before .before .before .before
 
 returns : tie.Need-returns Inv-loop μ-loop
 returns c = carving-none _ _ _ _ _ _ _ _ (c .if1 .taken) (c .before .before .before .before .before .pre .space .fits)
 
 chain-length-requires : tie.Need-chain-length-requires Inv-loop μ-loop
-chain-length-requires c κs = omega (arith, c .if1 .left, c .before .before .before .before .before .pre .inside)
+chain-length-requires c κs = omega (arith, c .if1 .left, start c .pre .inside)
 
 first-freeblock-requires : tie.Need-first-freeblock-requires Inv-loop μ-loop
-first-freeblock-requires c κs = omega (arith, c .before .if1 .left, c .before .before .before .before .before .before .pre .inside)
+first-freeblock-requires c κs = omega (arith, c .before .if1 .left, start (c .before) .pre .inside)
 
 loop-holds : tie.Need-loop-holds Inv-loop μ-loop
-loop-holds c = carving-start _ _ _ _ _ _ _ _ _ _ (c .before .before .before .before .before .before .before .pre .space .fits) (c .before .chain-length .ensures) (c .first-freeblock .ensures .0)
+loop-holds c = carving-start _ _ _ _ _ _ _ _ _ _ (start (c .before .before) .pre .space .fits) (c .before .chain-length .ensures) (c .first-freeblock .ensures .0)
 
 block-size-requires : tie.Need-block-size-requires Inv-loop μ-loop
 block-size-requires c κs = carving-lies _ _ _ _ _ _ _ _ _ _ _ _ _ (c .before .loop .inv) (c .loop-test .taken) .four
 
 -- the page is as it was, and so are the lists but for what they hold
 ready : (c : tie.In-loop Inv-loop μ-loop) →
-    let a = start c .args in
+    let a = start (c .before .before .before .before) .args in
     let l = c .before .loop in
     Ready (length (now (a .page))) (length (now (a .hints))) (a .spot) (a .lent) (l .m) (length (l .rows)) (length (l .cols))
-ready c = ready-next _ _ _ _ _ _ _ _ _ (c .before .loop .inv .carved) _ _ (start c .pre)
+ready c = ready-next _ _ _ _ _ _ _ _ _ (c .before .loop .inv .carved) _ _ (start (c .before .before .before .before) .pre)
 
 carve-block-requires : tie.Need-carve-block-requires Inv-loop μ-loop
 carve-block-requires c κs =

@@ -30,8 +30,9 @@ returns c = payload-full _ _ _ _ _ _ _ _ _ _ _ (rw (c .enum-told .given .1) at (
 
 carve-rebuilt-requires : tie.Need-carve-rebuilt-requires
 carve-rebuilt-requires c κs =
-    let s = c .before .before .before .before .before .before .before .before .before .before .before .before .before .before .before .before in
-    let x = rw (c .before .before .before .cells .given .1) at (c .before .before .before .before .before .before .before .before .before .carve-cells .ensures) in
+    let carved = c .before .before .before .before .before .before .before .before .before in
+    let s = carved .before .before .before .before .before .before .before in
+    let x = rw (c .before .before .before .cells .given .1) at (carved .carve-cells .ensures) in
     (s .pre .0, (ready-next _ _ _ _ _ _ _ _ _ x _ _ (s .pre .1), cells-stand (s .args .spot) (length (now (s .args .hints))) (s .args .o) (cellsOf (now (s .args .payload)) (now (s .args .hints))) _ _ _ _ _ _ _ _ (s .pre .1 .space .room-most) x))
 
 same-length-3 : tie.Need-same-length-3
@@ -42,7 +43,8 @@ same-length-4 c = search needs
 
 returns-2 : tie.Need-returns-2
 returns-2 c =
-    let x = rw (c .before .before .before .before .before .before .before .before .cells .given .1) at (c .before .before .before .before .before .before .before .before .before .before .before .before .before .before .carve-cells .ensures) in
+    let counted = c .before .before .before .before .before .before .before .before in
+    let x = rw (counted .cells .given .1) at (counted .before .before .before .before .before .before .carve-cells .ensures) in
     payload-both _ _ _ _ _ _ _ _ _ _ _ _ _ _ _ x (c .before .before .before .before .carve-rebuilt .ensures)
 
 pub carve-payload-spec : {M : Type 1} → statement M

@@ -12,8 +12,12 @@ use Rattle.gap.proofs.inner.carve_page.Tie as tie
 use Rattle.hit.proofs.Laws.{ready-next}
 use Rattle.sheet.proofs.Carving.{carves-none}
 
+-- ---- places, from the last: the header starts in the page; the call
+abbrev start : tie.Else1 → tie.Start
+start c = c .before .before .before .before .before
+
 -- the page goes on behind its header
-long : (c : tie.Else2) → c .before .before .before .before .before .before .args .head + 8 ≤ length (now (c .before .before .before .before .before .before .args .page))
+long : (c : tie.Else2) → let a = start (c .before) .args in a .head + 8 ≤ length (now (a .page))
 long c = omega (arith, c .before .if1 .left, c .if2 .left)
 
 returns : tie.Need-returns
@@ -26,9 +30,9 @@ sub-if2 c = search needs
 
 returns-2 : tie.Need-returns-2
 returns-2 c =
-    let a = c .before .before .before .before .before .before .args in
+    let a = start (c .before) .args in
     rw (page-short (a .how) (now (a .page)) (a .head) (now (a .hints)) (a .spot) (omega (arith, c .before .if1 .left, c .if2 .taken)))
-    (carves-none _ _ _ _ _ (c .before .before .before .before .before .before .pre .1 .space .fits))
+    (carves-none _ _ _ _ _ (start (c .before) .pre .1 .space .fits))
 
 carve-gap-requires : tie.Need-carve-gap-requires
 carve-gap-requires c κs = search needs
@@ -50,10 +54,11 @@ returns-3 c = page-full _ _ _ _ _ _ _ _ _ _ _ (long (c .before .before .before .
 
 carve-blocks-requires : tie.Need-carve-blocks-requires
 carve-blocks-requires c κs =
-    let a = c .before .before .before .before .before .before .before .before .before .before .before .before .before .before .before .before .before .before .args in
-    let x = rw (c .before .before .before .m .given .1) at (c .before .before .before .before .before .before .before .before .before .carve-gap .ensures) in
-    let p = c .before .before .before .before .before .before .before .before .before .before .before .before .before .before .before .before .before .before .pre in
-    (long (c .before .before .before .before .before .before .before .before .before .before .before .before), (p .0, ready-next _ _ _ (gapHits (now (a .page)) (a .head) (now (a .hints)) (a .spot)) _ _ _ _ _ x _ _ (p .1)))
+    let carved = c .before .before .before .before .before .before .before .before .before in
+    let s = start (carved .before .before .before .before) in
+    let a = s .args in
+    let x = rw (c .before .before .before .m .given .1) at (carved .carve-gap .ensures) in
+    (long (carved .before .before .before), (s .pre .0, ready-next _ _ _ (gapHits (now (a .page)) (a .head) (now (a .hints)) (a .spot)) _ _ _ _ _ x _ _ (s .pre .1)))
 
 same-length-3 : tie.Need-same-length-3
 same-length-3 c = search needs
@@ -63,8 +68,10 @@ same-length-4 c = search needs
 
 returns-4 : tie.Need-returns-4
 returns-4 c =
-    let x = rw (c .before .before .before .before .before .before .before .before .m .given .1) at (c .before .before .before .before .before .before .before .before .before .before .before .before .before .before .carve-gap .ensures) in
-    page-more _ _ _ _ _ _ _ _ _ _ _ (long (c .before .before .before .before .before .before .before .before .before .before .before .before .before .before .before .before .before)) _ _ _ _ x (c .before .before .before .before .carve-blocks .ensures)
+    let counted = c .before .before .before .before .before .before .before .before in
+    let carved = counted .before .before .before .before .before .before in
+    let x = rw (counted .m .given .1) at (carved .carve-gap .ensures) in
+    page-more _ _ _ _ _ _ _ _ _ _ _ (long (carved .before .before .before)) _ _ _ _ x (c .before .before .before .before .carve-blocks .ensures)
 
 pub carve-page-spec : {M : Type 1} → statement M
 carve-page-spec =

@@ -22,8 +22,9 @@ add-by c = search needs
 
 put-hit-requires : tie.Need-put-hit-requires
 put-hit-requires c κs =
-    let s = c .before .before .before .before .before .before .before .before .before in
-    (s .pre .0, (omega (arith, s .pre .1 .inside), space-fits _ _ _ _ _ (s .pre .1 .space) (c .before .before .before .before .if1 .left)))
+    let room = c .before .before .before .before in
+    let s = room .before .before .before .before .before in
+    (s .pre .0, (omega (arith, s .pre .1 .inside), space-fits _ _ _ _ _ (s .pre .1 .space) (room .if1 .left)))
 
 add-t27 : tie.Need-add-t27
 add-t27 c = search needs
@@ -36,10 +37,11 @@ same-length-2 c = search needs
 
 returns-2 : tie.Need-returns-2
 returns-2 c =
-    let s = c .before .before .before .before .before .before .before .before .before .before .before .before .before .before in
+    let room = c .before .before .before .before .before .before .before .before .before in
+    let s = room .before .before .before .before .before in
     let a = s .args in
     let e = c .before .before .before .before .put-hit .ensures in
-    found-written (now (a .bytes)) (a .o) (a .find) (a .part) (a .origin) (a .columns) (a .spot) (a .lent) _ _ _ _ _ (s .pre .0) (s .pre .1 .space .narrow) (c .before .before .before .before .before .before .before .before .before .if1 .left) (e .0) (e .1)
+    found-written (now (a .bytes)) (a .o) (a .find) (a .part) (a .origin) (a .columns) (a .spot) (a .lent) _ _ _ _ _ (s .pre .0) (s .pre .1 .space .narrow) (room .if1 .left) (e .0) (e .1)
 
 pub add-found-spec : {M : Type 1} → statement M
 add-found-spec =

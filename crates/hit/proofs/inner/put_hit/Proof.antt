@@ -42,11 +42,13 @@ same-length-2 c = search needs
 
 returns : tie.Need-returns
 returns c =
-    let s = c .before .before .before .before .before .before .before .before .before .before .before .before .before .before .before in
+    let columned = c .before .before .before .before .before .before in
+    let rowed = columned .before .before .before .before in
+    let s = rowed .before .before .before .before .before in
     let a = s .args in
     let hit = hitThere (now (a .bytes)) (a .o) (a .find) (a .by) (a .row) in (
-      c .before .before .before .before .before .before .before .before .before .before .put-row .ensures,
-      c .before .before .put-unused .ensures ∙ rw (c .before .before .before .before .before .before .put-columns .ensures) (group-is (now (a .cols)) (a .n * (wordsPerEntry * a .width)) (a .width) (a .columns) hit (there-length (now (a .bytes)) (a .o) (a .find) (a .by) (a .row) (a .columns) (s .pre .0))),
+      rowed .put-row .ensures,
+      c .before .before .put-unused .ensures ∙ rw (columned .put-columns .ensures) (group-is (now (a .cols)) (a .n * (wordsPerEntry * a .width)) (a .width) (a .columns) hit (there-length (now (a .bytes)) (a .o) (a .find) (a .by) (a .row) (a .columns) (s .pre .0))),
     )
 
 pub put-hit-spec : {M : Type 1} → statement M

@@ -13,6 +13,13 @@ use Rattle.record.proofs.Laws.{varint-lies}
 use Rattle.record.specs.Varint.{varintAt}
 use Rattle.record.specs.declared.varint.Varint.the-variants.{Value}
 
+-- ---- places, from the last: the row id was read; the length was read; the call
+abbrev measured : tie.After-known-told2 → tie.After-known-told
+measured c = c .before .before .before .before .before .before
+
+abbrev start : tie.After-known-told → tie.Start
+start c = c .before .before .before .before .before .before
+
 often-short-requires : tie.Need-often-short-requires
 often-short-requires c κs = search needs
 
@@ -27,7 +34,7 @@ returns c = cell-short _ _ _ (sym (c .before .before .often-short .ensures) ∙ 
 
 -- the length that was read
 length-read : (c : tie.After-known-told) →
-    let a = c .before .before .before .before .before .before .args in
+    let a = start c .args in
     varintAt (now (a .payload)) (a .pos) ≡ Value (c .before .len .given .0 .0) (c .before .len .given .0 .1 .0)
 length-read c = sym (c .before .before .before .often-short .ensures) ∙ c .before .len .given .1
 
@@ -57,15 +64,15 @@ returns-4 c = cell-no-id _ _ _ _ _ (length-read (c .before .before .before .befo
 
 -- the row id that was read
 id-read : (c : tie.After-known-told2) →
-    let a = c .before .before .before .before .before .before .before .before .before .before .before .before .args in
-    varintAt (now (a .payload)) (c .before .before .before .before .before .before .before .len .given .0 .1 .0 .at) ≡ Value (c .before .id .given .0 .0) (c .before .id .given .0 .1 .0)
+    let a = start (measured c) .args in
+    varintAt (now (a .payload)) (measured c .before .len .given .0 .1 .0 .at) ≡ Value (c .before .id .given .0 .0) (c .before .id .given .0 .1 .0)
 id-read c = sym (c .before .before .before .often-short2 .ensures) ∙ c .before .id .given .1
 
 sub-if3 : tie.Need-sub-if3
 sub-if3 c = varint-lies _ _ _ _ (id-read c) .inside
 
 returns-5 : tie.Need-returns-5
-returns-5 c = let i = c .before in cell-long _ _ _ _ _ (length-read (i .before .before .before .before .before .before)) (above (i .before .before .before .before .before)) _ _ (id-read i) (c .if3 .taken)
+returns-5 c = let i = c .before in cell-long _ _ _ _ _ (length-read (measured i)) (above (i .before .before .before .before .before)) _ _ (id-read i) (c .if3 .taken)
 
 add-end : tie.Need-add-end
 add-end c = search needs
@@ -91,13 +98,13 @@ enum-told-3 c = search needs
 returns-6 : tie.Need-returns-6
 returns-6 c =
     let i = c .before .before .before .before .before in
-    cell-miss _ _ _ _ _ (length-read (i .before .before .before .before .before .before)) (above (i .before .before .before .before .before)) _ _ (id-read i) (c .before .before .before .before .if3 .left)
+    cell-miss _ _ _ _ _ (length-read (measured i)) (above (i .before .before .before .before .before)) _ _ (id-read i) (c .before .before .before .before .if3 .left)
     ((rw (c .enum-told3 .given .1) at (c .before .before .attempt .ensures)) .misses)
 
 returns-7 : tie.Need-returns-7
 returns-7 c =
     let i = c .before .before .before .before .before .before in
-    cell-found _ _ _ _ _ (length-read (i .before .before .before .before .before .before)) (above (i .before .before .before .before .before)) _ _ (id-read i) (c .before .before .before .before .before .if3 .left) _
+    cell-found _ _ _ _ _ (length-read (measured i)) (above (i .before .before .before .before .before)) _ _ (id-read i) (c .before .before .before .before .before .if3 .left) _
     (rw (c .before .find .given .1) at (c .before .before .before .attempt .ensures))
 
 pub cell-at-spec : {M : Type 1} → statement M

@@ -34,7 +34,10 @@ same-length-2 c = search needs
 
 returns : tie.Need-returns
 unfolding blockHits
-returns c = let a = c .before .before .before .before .before .before .before .before .before .before .before .before .args in rw (payload-is (now (a .page)) (a .at) (a .size)) at (c .before .before .before .before .carve-payload .ensures)
+returns c =
+    let carved = c .before .before .before .before in
+    let a = carved .before .before .before .before .before .before .before .before .args in
+    rw (payload-is (now (a .page)) (a .at) (a .size)) at (carved .carve-payload .ensures)
 
 pub carve-block-spec : {M : Type 1} → statement M
 carve-block-spec =

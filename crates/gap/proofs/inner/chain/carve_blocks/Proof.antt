@@ -22,19 +22,26 @@ Inv-loop how page head hints spot lent n rows₀ cols₀ at₀ left₀ m₀ rows
 abbrev μ-loop : tie.MeasureT-loop
 μ-loop how page head hints spot lent n rows₀ cols₀ at₀ left₀ m₀ rows cols at left m = left
 
+-- ---- places, from the last: a block was carved; the loop's turn; the call
+abbrev turn : tie.After-carve-block Inv-loop μ-loop → tie.At-loop Inv-loop μ-loop
+turn c = c .before .before .before .before .before .before
+
+abbrev start : tie.At-loop Inv-loop μ-loop → tie.Start Inv-loop μ-loop
+start c = c .before .before .before .before .before .before
+
 -- a place at which the chain does not end
-on-chain : (c : tie.Else1 Inv-loop μ-loop) → chainEnds (now (c .before .before .before .before .before .before .before .before .before .args .page)) (c .before .before .before .loop .at) ≡ false
+on-chain : (c : tie.Else1 Inv-loop μ-loop) → chainEnds (now (start (c .before .before .before) .args .page)) (c .before .before .before .loop .at) ≡ false
 on-chain c = sym (c .before .chain-ends .ensures) ∙ c .if1 .left
 
 -- so its block comes next
 further : (c : tie.Else1 Inv-loop μ-loop) →
-    let a = c .before .before .before .before .before .before .before .before .before .args in
+    let a = start (c .before .before .before) .args in
     let l = c .before .before .before .loop in
     let hits = hitsOf (now (a .page)) (a .how) (now (a .hints)) (a .spot) in
     Along (a .lent) (a .n) (hits (chain (now (a .page)) (a .head))) (now (a .rows)) (now (a .cols))
     (hits (blockThen (now (a .page)) (l .at) []) ++ hits (chainFrom (l .left - 1) (now (a .page)) (larger (l .at) (blockNext (now (a .page)) (l .at))))) (l .rows) (l .cols) (l .m)
 further c =
-    let a = c .before .before .before .before .before .before .before .before .before .args in
+    let a = start (c .before .before .before) .args in
     let l = c .before .before .before .loop in
     rw (chain-step (now (a .page)) (a .how) (now (a .hints)) (a .spot) (l .left) (l .at) (c .before .before .loop-test .taken) (on-chain c)) at (l .inv .1)
 
@@ -60,12 +67,14 @@ same-length-2 c = along-long _ _ _ _ _ _ _ _ _ (c .before .before .before .loop 
 
 returns : tie.Need-returns Inv-loop μ-loop
 returns c =
-    let a = c .before .before .before .before .before .before .before .before .before .args in
+    let a = start (c .before .before .before) .args in
     let l = c .before .before .before .loop in
     along-end _ _ _ _ _ _ _ _ (rw (chain-end (now (a .page)) (a .how) (now (a .hints)) (a .spot) (l .left) (l .at) (sym (c .before .chain-ends .ensures) ∙ c .if1 .taken)) at (l .inv .1))
 
 carve-block-requires : tie.Need-carve-block-requires Inv-loop μ-loop
-carve-block-requires c κs = (lies _ _ (on-chain (c .before .before)), (c .before .before .before .before .before .before .before .before .before .before .before .pre .1 .0, along-ready _ _ _ _ _ _ _ _ _ _ _ _ (c .before .before .before .before .before .loop .inv .1) (c .before .before .before .before .before .before .before .before .before .before .before .pre .1 .1)))
+carve-block-requires c κs =
+    let p = start (c .before .before .before .before .before) .pre in
+    (lies _ _ (on-chain (c .before .before)), (p .1 .0, along-ready _ _ _ _ _ _ _ _ _ _ _ _ (c .before .before .before .before .before .loop .inv .1) (p .1 .1)))
 
 enum-known-next : tie.Need-enum-known-next Inv-loop μ-loop
 enum-known-next c = search needs
@@ -74,10 +83,10 @@ enum-told : tie.Need-enum-told Inv-loop μ-loop
 enum-told c = search needs
 
 same-length-3 : tie.Need-same-length-3 Inv-loop μ-loop
-same-length-3 c = c .before .before .before .before .before .before .carve-block .kept .1 .1 .1 .1 .1 .1 .1 .0 ∙ along-long _ _ _ _ _ _ _ _ _ (c .before .before .before .before .before .before .before .before .before .before .before .before .loop .inv .1) .0
+same-length-3 c = c .before .before .before .before .before .before .carve-block .kept .1 .1 .1 .1 .1 .1 .1 .0 ∙ along-long _ _ _ _ _ _ _ _ _ (turn (c .before .before .before .before .before .before) .loop .inv .1) .0
 
 same-length-4 : tie.Need-same-length-4 Inv-loop μ-loop
-same-length-4 c = c .before .before .before .before .before .before .carve-block .kept .1 .1 .1 .1 .1 .1 .1 .1 .0 ∙ along-long _ _ _ _ _ _ _ _ _ (c .before .before .before .before .before .before .before .before .before .before .before .before .loop .inv .1) .1
+same-length-4 c = c .before .before .before .before .before .before .carve-block .kept .1 .1 .1 .1 .1 .1 .1 .1 .0 ∙ along-long _ _ _ _ _ _ _ _ _ (turn (c .before .before .before .before .before .before) .loop .inv .1) .1
 
 returns-2 : tie.Need-returns-2 Inv-loop μ-loop
 returns-2 c =
@@ -94,12 +103,13 @@ loop-less c = search needs
 
 loop-again : tie.Need-loop-again Inv-loop μ-loop
 loop-again c =
-    let a = c .before .before .before .before .before .before .before .before .before .before .before .before .before .before .before .before .before .before .before .before .args in
+    let carved = c .before .before .before .before .before .before .before .before in
+    let a = start (turn carved) .args in
     let e = c .next-place .ensures in (
       e .1,
       rw (e .0)
-          (along-on _ _ _ _ _ _ _ _ (hitsOf (now (a .page)) (a .how) (now (a .hints)) (a .spot) (blockThen (now (a .page)) (c .before .before .before .before .before .before .before .before .before .before .before .before .before .before .loop .at) [])) _ (further (c .before .before .before .before .before .before .before .before .before .before .before)) _ _ _
-          (rw (c .before .before .next .given .1) at (c .before .before .before .before .before .before .before .before .carve-block .ensures))),
+          (along-on _ _ _ _ _ _ _ _ (hitsOf (now (a .page)) (a .how) (now (a .hints)) (a .spot) (blockThen (now (a .page)) (turn carved .loop .at) [])) _ (further (carved .before .before .before)) _ _ _
+          (rw (c .before .before .next .given .1) at (carved .carve-block .ensures))),
     )
 
 same-length-5 : tie.Need-same-length-5 Inv-loop μ-loop
@@ -110,7 +120,7 @@ same-length-6 c = along-long _ _ _ _ _ _ _ _ _ (c .before .loop .inv .1) .1
 
 returns-3 : tie.Need-returns-3 Inv-loop μ-loop
 returns-3 c =
-    let a = c .before .before .before .before .before .before .before .args in
+    let a = start (c .before) .args in
     let l = c .before .loop in
     along-end _ _ _ _ _ _ _ _ (rw (chain-out (now (a .page)) (a .how) (now (a .hints)) (a .spot) (l .left) (l .at) (omega arith)) at (l .inv .1))
 

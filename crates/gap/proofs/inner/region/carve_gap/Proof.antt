@@ -8,6 +8,10 @@ use Rattle.gap.proofs.inner.region.carve_gap.Statement.{statement}
 use Rattle.gap.proofs.inner.region.carve_gap.Tie as tie
 use Rattle.sheet.proofs.Carving.{carves-none}
 
+-- ---- places, from the last: the gap's ends are known; the call
+abbrev start : tie.After-gap-to → tie.Start
+start c = c .before .before .before .before .before .before
+
 gap-from-requires : tie.Need-gap-from-requires
 gap-from-requires c κs = search needs
 
@@ -16,15 +20,15 @@ gap-to-requires c κs = search needs
 
 returns : tie.Need-returns
 returns c =
-    let a = c .before .before .before .before .before .before .before .args in
+    let a = start (c .before) .args in
     rw (gap-none (now (a .page)) (a .head) (now (a .hints)) (a .spot) _ _ (c .before .before .gap-from .ensures) (c .before .gap-to .ensures) (c .if1 .taken))
-    (carves-none _ _ _ _ _ (c .before .before .before .before .before .before .before .pre .1 .space .fits))
+    (carves-none _ _ _ _ _ (start (c .before) .pre .1 .space .fits))
 
 returns-2 : tie.Need-returns-2
 returns-2 c =
-    let a = c .before .before .before .before .before .before .before .before .args in
+    let a = start (c .before .before) .args in
     rw (gap-past (now (a .page)) (a .head) (now (a .hints)) (a .spot) _ _ (c .before .before .before .gap-from .ensures) (c .before .before .gap-to .ensures) (c .before .if1 .left) (c .if2 .taken))
-    (carves-none _ _ _ _ _ (c .before .before .before .before .before .before .before .before .pre .1 .space .fits))
+    (carves-none _ _ _ _ _ (start (c .before .before) .pre .1 .space .fits))
 
 sub-all-zero : tie.Need-sub-all-zero
 sub-all-zero c = search needs
@@ -40,11 +44,11 @@ all-zero-requires c κs = search needs
 
 returns-3 : tie.Need-returns-3
 returns-3 c =
-    let a = c .before .before .before .before .before .before .before .before .before .before .before .args in
-    let t = c .before .before .before in
-    rw (gap-zero (now (a .page)) (a .head) (now (a .hints)) (a .spot) _ _ (t .before .before .before .gap-from .ensures) (t .before .before .gap-to .ensures) (t .before .if1 .left) (t .if2 .left)
+    let inside = c .before .before .before in
+    let a = start (inside .before .before) .args in
+    rw (gap-zero (now (a .page)) (a .head) (now (a .hints)) (a .spot) _ _ (inside .before .before .before .gap-from .ensures) (inside .before .before .gap-to .ensures) (inside .before .if1 .left) (inside .if2 .left)
     (sym (c .before .all-zero .ensures) ∙ c .if3 .taken))
-    (carves-none _ _ _ _ _ (c .before .before .before .before .before .before .before .before .before .before .before .pre .1 .space .fits))
+    (carves-none _ _ _ _ _ (start (inside .before .before) .pre .1 .space .fits))
 
 sub-carve-region : tie.Need-sub-carve-region
 sub-carve-region c = search needs
@@ -66,10 +70,11 @@ same-length-2 c = search needs
 
 returns-4 : tie.Need-returns-4
 returns-4 c =
-    let a = c .before .before .before .before .before .before .before .before .before .before .before .before .before .before .before .before .before .before .before .args in
-    let t = c .before .before .before .before .before .before .before .before .before .before .before in
-    rw (gap-some (now (a .page)) (a .head) (now (a .hints)) (a .spot) _ _ (t .before .before .before .gap-from .ensures) (t .before .before .gap-to .ensures) (t .before .if1 .left) (t .if2 .left)
-    (sym (c .before .before .before .before .before .before .before .before .before .all-zero .ensures) ∙ c .before .before .before .before .before .before .before .before .if3 .left))
+    let some = c .before .before .before .before .before .before .before .before in
+    let inside = some .before .before .before in
+    let a = start (inside .before .before) .args in
+    rw (gap-some (now (a .page)) (a .head) (now (a .hints)) (a .spot) _ _ (inside .before .before .before .gap-from .ensures) (inside .before .before .gap-to .ensures) (inside .before .if1 .left) (inside .if2 .left)
+    (sym (some .before .all-zero .ensures) ∙ some .if3 .left))
     (c .before .before .before .before .carve-region .ensures)
 
 pub carve-gap-spec : {M : Type 1} → statement M

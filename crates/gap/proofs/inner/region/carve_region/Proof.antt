@@ -25,6 +25,13 @@ Inv-loop bytes from hints spot lent n rows₀ cols₀ last o₀ m₀ met₀ rows
 abbrev μ-loop : tie.MeasureT-loop
 μ-loop bytes from hints spot lent n rows₀ cols₀ last o₀ m₀ met₀ rows cols o m met = length bytes - o
 
+-- ---- places, from the last: the row was added; it came; the call
+abbrev came : tie.After-add-found Inv-loop μ-loop → tie.After-known-told Inv-loop μ-loop
+came c = c .before .before .before .before .before
+
+abbrev start : tie.After-known-told Inv-loop μ-loop → tie.Start Inv-loop μ-loop
+start c = c .before .before .before .before .before .before .before .before .before .before
+
 -- all is passed over
 through : (c : tie.After-enum-told Inv-loop μ-loop) →
     let a = c .before .before .before .before .before .before .before .before .before .args in
@@ -33,14 +40,14 @@ through c = rw (c .enum-told .given .1) at (c .before .before .next-row .ensures
 
 -- or a row comes,
 found : (c : tie.After-known-told Inv-loop μ-loop) →
-    let a = c .before .before .before .before .before .before .before .before .before .before .args in
+    let a = start c .args in
     let x = c .before .at .given .0 in
     RowIs (now (a .bytes)) (now (a .hints)) (c .before .before .before .before .loop .o) (c .before .before .before .before .before .last-of .result) (x .0) (x .1 .0) (x .1 .1 .0) (x .1 .1 .1 .0)
 found c = rw (c .before .at .given .1) at (c .before .before .before .next-row .ensures)
 
 -- which lies in the region,
 taken : (c : tie.After-known-told Inv-loop μ-loop) →
-    let a = c .before .before .before .before .before .before .before .before .before .before .args in
+    let a = start c .args in
     let x = c .before .at .given .0 in
     (x .0 + 2 < length (now (a .bytes))) × (c .before .before .before .before .loop .o ≤ x .0) × (2 ≤ x .1 .0 .consumed) × (x .0 + x .1 .0 .consumed ≤ length (now (a .bytes)))
     × (length (now (a .bytes)) ≤ largestRegion)
@@ -51,12 +58,12 @@ taken c =
       omega (arith, f .misses .to-is),
       takes .0,
       takes .1,
-      omega (arith, c .before .before .before .before .before .before .before .before .before .before .pre .inside),
+      omega (arith, start c .pre .inside),
     )
 
 -- and all before it is passed over
 there : (c : tie.After-known-told Inv-loop μ-loop) →
-    let a = c .before .before .before .before .before .before .before .before .before .before .args in
+    let a = start c .args in
     let l = c .before .before .before .before .loop in
     Scanning (now (a .bytes)) (a .from) (now (a .hints)) (a .spot) (a .lent) (a .n) (now (a .rows)) (now (a .cols)) (l .rows) (l .cols) (c .before .at .given .0 .0) (l .m)
 there c = scanning-passed _ _ _ _ _ _ _ _ _ _ _ _ _ _ (c .before .before .before .before .before .last-of .ensures) (c .before .before .before .before .loop .inv .0) _ (omega (arith, found c .below)) (found c .misses)
@@ -96,11 +103,11 @@ intra-page-requires c κs = search needs
 
 -- where the row comes from
 origin-is : (c : tie.After-intra-page Inv-loop μ-loop) →
-    c .intra-page .result ≡ intraPage Absent (share (c .before .before .before .at .given .0 .1 .0 .matched) (length (now (c .before .before .before .before .before .before .before .before .before .before .before .before .args .hints))))
+    c .intra-page .result ≡ intraPage Absent (share (c .before .before .before .at .given .0 .1 .0 .matched) (length (now (start (c .before .before) .args .hints))))
 origin-is c = c .intra-page .ensures ∙ rw (c .before .suited-share .ensures)
 
 add-found-requires : tie.Need-add-found-requires Inv-loop μ-loop
-add-found-requires c κs = (find-laid _ _ _ _ _ _ (found (c .before .before .before .before) .found), along-ready _ _ _ _ _ _ _ _ _ _ _ _ (c .before .before .before .before .before .before .before .before .loop .inv .0 .along) (c .before .before .before .before .before .before .before .before .before .before .before .before .before .before .pre))
+add-found-requires c κs = let row = c .before .before .before .before in (find-laid _ _ _ _ _ _ (found row .found), along-ready _ _ _ _ _ _ _ _ _ _ _ _ (row .before .before .before .before .loop .inv .0 .along) (start row .pre))
 
 enum-known-next : tie.Need-enum-known-next Inv-loop μ-loop
 enum-known-next c = search needs
@@ -109,29 +116,31 @@ enum-told-2 : tie.Need-enum-told-2 Inv-loop μ-loop
 enum-told-2 c = search needs
 
 same-length-3 : tie.Need-same-length-3 Inv-loop μ-loop
-same-length-3 c = c .before .before .before .before .before .before .add-found .kept .1 .1 .1 .1 .1 .1 .1 .1 .1 .0 ∙ along-long _ _ _ _ _ _ _ _ _ (c .before .before .before .before .before .before .before .before .before .before .before .before .before .before .before .loop .inv .0 .along) .0
+same-length-3 c = c .before .before .before .before .before .before .add-found .kept .1 .1 .1 .1 .1 .1 .1 .1 .1 .0 ∙ along-long _ _ _ _ _ _ _ _ _ (came (c .before .before .before .before .before .before) .before .before .before .before .loop .inv .0 .along) .0
 
 same-length-4 : tie.Need-same-length-4 Inv-loop μ-loop
-same-length-4 c = c .before .before .before .before .before .before .add-found .kept .1 .1 .1 .1 .1 .1 .1 .1 .1 .1 .0 ∙ along-long _ _ _ _ _ _ _ _ _ (c .before .before .before .before .before .before .before .before .before .before .before .before .before .before .before .loop .inv .0 .along) .1
+same-length-4 c = c .before .before .before .before .before .before .add-found .kept .1 .1 .1 .1 .1 .1 .1 .1 .1 .1 .0 ∙ along-long _ _ _ _ _ _ _ _ _ (came (c .before .before .before .before .before .before) .before .before .before .before .loop .inv .0 .along) .1
 
 returns-2 : tie.Need-returns-2 Inv-loop μ-loop
 returns-2 c =
-    let k = c .before .before .before .before .before .before .before .before .before .before .before in
+    let added = c .before .before .before .before .before .before in
+    let k = came added in
     scanning-full _ _ _ _ _ _ _ _ _ _ _ _ (there k) (omega (arith, taken k .0)) _ (found k .found .hits) _ _
-    (rw (c .enum-told2 .given .1, origin-is (c .before .before .before .before .before .before .before .before .before)) at (c .before .before .before .before .before .before .add-found .ensures))
+    (rw (c .enum-told2 .given .1, origin-is (added .before .before .before)) at (added .add-found .ensures))
 
 add-o : tie.Need-add-o Inv-loop μ-loop
-add-o c = let t = taken (c .before .before .before .before .before .before .before .before .before .before .before .before .before) in omega arith
+add-o c = let t = taken (came (c .before .before .before .before .before .before .before .before)) in omega arith
 
 loop-less : tie.Need-loop-less Inv-loop μ-loop
-loop-less c = let t = taken (c .before .before .before .before .before .before .before .before .before .before .before .before .before) in omega arith
+loop-less c = let t = taken (came (c .before .before .before .before .before .before .before .before)) in omega arith
 
 loop-again : tie.Need-loop-again Inv-loop μ-loop
 loop-again c =
-    let k = c .before .before .before .before .before .before .before .before .before .before .before .before .before in
+    let added = c .before .before .before .before .before .before .before .before in
+    let k = came added in
     let t = taken k in (
       scanning-found _ _ _ _ _ _ _ _ _ _ _ _ (there k) (omega (arith, t .0)) _ (found k .found .hits) _ _ _
-          (rw (c .before .before .next .given .1, origin-is (c .before .before .before .before .before .before .before .before .before .before .before)) at (c .before .before .before .before .before .before .before .before .add-found .ensures)),
+          (rw (c .before .before .next .given .1, origin-is (added .before .before .before)) at (added .add-found .ensures)),
       found k .run-is,
     )
 

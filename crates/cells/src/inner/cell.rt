@@ -97,6 +97,14 @@ fn carve_place(
     else {
         return Turn::On { next: pos + 1, n };
     };
+    // By its fields: passed on whole, it would be copied at each place, found or not.
+    let find = Find {
+        head: find.head,
+        from: find.from,
+        consumed: find.consumed,
+        matched: find.matched,
+        read: find.read,
+    };
     let columns = hints.len();
     let confidence = suited_share(find.matched, columns as u16);
     let origin = intra_page(RowId::Present(id), confidence);

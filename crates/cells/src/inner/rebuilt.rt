@@ -1,5 +1,6 @@
 // Records whose header's length is lost: each start of a payload is tried.
 use crate::inner::turn::Turn;
+use attempt::inner::Find;
 use hit::inner::Lent;
 use hit::inner::Spot;
 use hit::inner::add_found;
@@ -54,6 +55,14 @@ fn carve_start(
     }
     let Rebuilt::Found(find) = rebuild(how, payload, hints, v) else {
         return Turn::On { next: k, n };
+    };
+    // By its fields: passed on whole, it would be copied at each start, found or not.
+    let find = Find {
+        head: find.head,
+        from: find.from,
+        consumed: find.consumed,
+        matched: find.matched,
+        read: find.read,
     };
     let columns = hints.len();
     let confidence = rebuilt(suited_share(find.matched, columns as u16));

@@ -69,6 +69,14 @@ fn carve_payload(
     let Start::At { v, find } = first_start(payload, hints) else {
         return Carved::On(n);
     };
+    // By its fields: passed on whole, it would be copied at each start, found or not.
+    let find = Find {
+        head: find.head,
+        from: find.from,
+        consumed: find.consumed,
+        matched: find.matched,
+        read: find.read,
+    };
     let columns = hints.len();
     let origin = Origin {
         id: RowId::Absent,

@@ -1,7 +1,6 @@
 -- `freeblock::inner::carve_page` meets its contract: what the loop has carved are the blocks so far (`Carving`).
 -- Assumes nothing.
-use Prim.Native.Nat.{ℕ, _≤_}
-use mathlib.Core.Path.{_≡_, sym, _∙_}
+use mathlib.Core.Path.{_∙_}
 use native.Mathlib.Omega.{arith}
 use borrow.Author.Needs.{needs}
 use denote.Ref.{now}

@@ -27,8 +27,8 @@ enum-known-start c = search needs
 enum-told : tie.Need-enum-told
 enum-told c = search needs
 
-add-t19 : tie.Need-add-t19
-add-t19 c = search needs
+add-t20 : tie.Need-add-t20
+add-t20 c = search needs
 
 returns : tie.Need-returns
 returns c = place-none _ _ _ _ _ _ _ _ _ (c .before .before .before .before .before .before .before .pre .1) (rw (c .enum-told .given .1) at (c .before .before .cell-at .ensures))
@@ -114,7 +114,7 @@ carve-place-spec =
     cell-at-requires
     enum-known-start
     enum-told
-    add-t19
+    add-t20
     returns
     cast-suited-share
     suited-share-requires

@@ -5,7 +5,6 @@ use mathlib.Core.Path.{_≡_, sym, _∙_}
 use native.Mathlib.Omega.{arith}
 use borrow.Author.Needs.{needs}
 use denote.Ref.{now}
-use lib.ListN.{length}
 use Rattle.cells.proofs.Looking.{cell-short, cell-empty, cell-far, cell-no-id, cell-long, cell-miss, cell-found}
 use Rattle.cells.proofs.inner.cell.cell_at.Statement.{statement}
 use Rattle.cells.proofs.inner.cell.cell_at.Tie as tie

@@ -42,8 +42,8 @@ is-cell-requires c κs =
 passed : (c : tie.Then1) → let a = start (c .before) .args in isCell (now (a .rows)) (a .k) (a .cells) (a .spot .base + (a .o + a .v)) ≡ true
 passed c = sym (c .before .is-cell .ensures) ∙ c .if1 .taken
 
-add-t24 : tie.Need-add-t24
-add-t24 c = omega (arith, cell-below _ _ _ _ (passed c))
+add-t25 : tie.Need-add-t25
+add-t25 c = omega (arith, cell-below _ _ _ _ (passed c))
 
 same-length : tie.Need-same-length
 same-length c = search needs
@@ -141,7 +141,7 @@ carve-start-spec =
     add-place
     add-is-cell
     is-cell-requires
-    add-t24
+    add-t25
     same-length
     returns
     rebuild-requires

@@ -1,10 +1,9 @@
 -- `freeblock::inner::block::carve_block` meets its contract: it carves the payload, which stands behind the block's first four bytes.
 -- Assumes nothing.
-use native.Mathlib.Omega.{arith}
 use borrow.Author.Needs.{needs}
 use denote.Ref.{now}
 use Rattle.freeblock.specs.Freeblock.{blockHits}
-use Rattle.freeblock.proofs.Blocks.{payload-is, payload-length}
+use Rattle.freeblock.proofs.Blocks.{payload-is}
 use Rattle.freeblock.proofs.inner.block.carve_block.Statement.{statement}
 use Rattle.freeblock.proofs.inner.block.carve_block.Tie as tie
 

@@ -1,6 +1,6 @@
 -- `freeblock::inner::block::first_start` meets its contract. The loop's invariant: the starts from v on decide (`Looks`).
 -- Assumes nothing.
-use Prim.Native.Nat.{ℕ, _-_, _≤_, _<_, min}
+use Prim.Native.Nat.{_-_, _≤_}
 use mathlib.Core.Path.{_≡_}
 use native.Mathlib.Nat.{min-le-right}
 use native.Mathlib.Omega.{arith}

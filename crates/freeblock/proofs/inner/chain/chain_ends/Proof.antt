@@ -1,7 +1,5 @@
 -- `freeblock::inner::chain::chain_ends` meets its contract: each way out is a law of `proofs/Chaining.antt`.
 -- Assumes nothing.
-use Prim.Native.Nat.{ℕ}
-use mathlib.Core.Path.{sym, _∙_}
 use borrow.Author.Needs.{needs}
 use Rattle.freeblock.proofs.Chaining.{ends-low, ends-past, ends-tiny, ends-size}
 use Rattle.freeblock.proofs.inner.chain.chain_ends.Statement.{statement}

@@ -1,8 +1,7 @@
 -- `freeblock::inner::chain::plain_length` meets its contract. The loop's invariant: n blocks come before this place (`Reached`).
 -- Assumes nothing.
-use Prim.Native.Nat.{ℕ, _+_, _-_, _≤_, _<_}
+use Prim.Native.Nat.{_-_, _≤_, _<_}
 use mathlib.Core.Path.{sym, _∙_}
-use native.Mathlib.Omega.{arith}
 use borrow.Author.Needs.{needs}
 use lib.ListN.{length}
 use Rattle.freeblock.proofs.Chaining.{Reached, reached-start, reached-more, reached-end, lies}

@@ -9,6 +9,7 @@ use lib.ListN.{length, take, getD}
 use Rattle.cases.specs.Layout.{wordAt}
 use Rattle.cases.specs.declared.lists.Cells.{Cells}
 use Rattle.cases.specs.declared.lists.Cells.the-variants as Cells
+use Rattle.sheet.specs.Limits.{wordsPerRow, wordsPerEntry}
 
 abbrev pub freshWord : ℕ → ℕ
 freshWord i = (0x5EED000000000000 + i) % 2 ^ 64
@@ -26,8 +27,8 @@ freshIn Cells.Entries i cell = eqb cell (freshWord i)
 
 -- whether a row or an entry starts there
 abbrev pub startsIn : Cells → ℕ → Bool
-startsIn Cells.Rows i = eqb (i % 8) 0
-startsIn Cells.Entries i = eqb (i % 4) 0
+startsIn Cells.Rows i = eqb (i % wordsPerRow) 0
+startsIn Cells.Entries i = eqb (i % wordsPerEntry) 0
 startsIn Cells.Bytes i = false
 startsIn Cells.Words i = false
 startsIn Cells.Out i = false

@@ -16,7 +16,7 @@ use Rattle.sheet.specs.Limits.{wordsPerRow, wordsPerEntry}
 use Rattle.sheet.specs.Row.{rowWords}
 use Rattle.sheet.specs.Sheet.{overlay, rowsWords}
 use Rattle.sheet.specs.Hits.{Hit, rowsOf, groupWords, groupsWords}
-use Rattle.sheet.specs.Inner.{Puts, Told, on, over, short, carvedTo, Carves}
+use Rattle.sheet.specs.Inner.{Puts, Told, on, over, overflow, carvedTo, Carves}
 
 -- ---- words of hits
 rows-append : (a b : List Hit) → rowsWords (rowsOf (a ++ b)) ≡ rowsWords (rowsOf a) ++ rowsWords (rowsOf b)
@@ -70,27 +70,27 @@ module _ (width room n : ℕ) (rows cols : List ℕ) where
       }
 
 -- ---- some hits, and then others
--- what is told of k hits behind n rows: all of them found room, and the stack was full or not; or one found none
+-- what is told of k hits behind n rows: all of them found room, and the stack overflowed or not; or one found none
 abbrev ToldOf : ℕ → ℕ → ℕ → Bool → Told → Type 0
-ToldOf room n k full (on m) = (n + k ≤ room) × (m ≡ n + k) × (full ≡ false)
-ToldOf room n k full (short m) = (n + k ≤ room) × (m ≡ n + k) × (full ≡ true)
-ToldOf room n k full over = room < n + k
+ToldOf room n k stopped (on m) = (n + k ≤ room) × (m ≡ n + k) × (stopped ≡ false)
+ToldOf room n k stopped (overflow m) = (n + k ≤ room) × (m ≡ n + k) × (stopped ≡ true)
+ToldOf room n k stopped over = room < n + k
 
-told : (room n k : ℕ) (full : Bool) (t : Told) → t ≡ carvedTo room n k full → ToldOf room n k full t
-told room n k full t e = rw e (by-order room (n + k) (λ lt. simp (lt-leb (n + k) room lt) lt) (λ le. simp (le-leb (n + k) room le) (go full le)))
+told : (room n k : ℕ) (stopped : Bool) (t : Told) → t ≡ carvedTo room n k stopped → ToldOf room n k stopped t
+told room n k stopped t e = rw e (by-order room (n + k) (λ lt. simp (lt-leb (n + k) room lt) lt) (λ le. simp (le-leb (n + k) room le) (go stopped le)))
   where
-    go : (full : Bool) → n + k ≤ room → ToldOf room n k full (cond full (short (n + k)) (on (n + k)))
+    go : (stopped : Bool) → n + k ≤ room → ToldOf room n k stopped (cond stopped (overflow (n + k)) (on (n + k)))
     go true le = (le, refl, refl)
     go false le = (le, refl, refl)
 
-pub told-on : (room n k m : ℕ) (full : Bool) → on m ≡ carvedTo room n k full → (n + k ≤ room) × (m ≡ n + k) × (full ≡ false)
-told-on room n k m full = told room n k full (on m)
+pub told-on : (room n k m : ℕ) (stopped : Bool) → on m ≡ carvedTo room n k stopped → (n + k ≤ room) × (m ≡ n + k) × (stopped ≡ false)
+told-on room n k m stopped = told room n k stopped (on m)
 
-pub told-short : (room n k m : ℕ) (full : Bool) → short m ≡ carvedTo room n k full → (n + k ≤ room) × (m ≡ n + k) × (full ≡ true)
-told-short room n k m full = told room n k full (short m)
+pub told-overflow : (room n k m : ℕ) (stopped : Bool) → overflow m ≡ carvedTo room n k stopped → (n + k ≤ room) × (m ≡ n + k) × (stopped ≡ true)
+told-overflow room n k m stopped = told room n k stopped (overflow m)
 
-pub told-over : (room n k : ℕ) (full : Bool) → over ≡ carvedTo room n k full → room < n + k
-told-over room n k full = told room n k full over
+pub told-over : (room n k : ℕ) (stopped : Bool) → over ≡ carvedTo room n k stopped → room < n + k
+told-over room n k stopped = told room n k stopped over
 
 module _ (width room n : ℕ) (a b : List Hit) (rows cols rows′ cols′ : List ℕ) where
   puts-more : (rows″ cols″ : List ℕ) (m : ℕ) → n + length a ≤ room → m ≡ n + length a
@@ -112,9 +112,9 @@ module _ (width room n : ℕ) (a b : List Hit) (rows cols rows′ cols′ : List
         wide = rw (both, groups-append width a c, length-append, length-append, ga, q .wide) (sym (add-mul (length a) (length c) w));
       }
 
-  pub carves-more : (m : ℕ) (full : Bool) (r : Told) (rows″ cols″ : List ℕ) → Carves width room n a false rows cols (on m) rows′ cols′
-      → Carves width room m b full rows′ cols′ r rows″ cols″ → Carves width room n (a ++ b) full rows cols r rows″ cols″
-  carves-more m full r rows″ cols″ x y =
+  pub carves-more : (m : ℕ) (stopped : Bool) (r : Told) (rows″ cols″ : List ℕ) → Carves width room n a false rows cols (on m) rows′ cols′
+      → Carves width room m b stopped rows′ cols′ r rows″ cols″ → Carves width room n (a ++ b) stopped rows cols r rows″ cols″
+  carves-more m stopped r rows″ cols″ x y =
       let t = told-on room n (length a) m false (x .answer) in
       let sum : m + length b ≡ n + length (a ++ b) = simp length-append (omega (arith, t .1)) in
       record {
@@ -123,9 +123,9 @@ module _ (width room n : ℕ) (a b : List Hit) (rows cols rows′ cols′ : List
       }
 
   -- what found no room leaves no room for more
-  pub carves-stop : (full full′ : Bool) → Carves width room n a full rows cols over rows′ cols′ → Carves width room n (a ++ b) full′ rows cols over rows′ cols′
-  carves-stop full full′ x =
-      let lt = told-over room n (length a) full (x .answer) in
+  pub carves-stop : (stopped stopped′ : Bool) → Carves width room n a stopped rows cols over rows′ cols′ → Carves width room n (a ++ b) stopped′ rows cols over rows′ cols′
+  carves-stop stopped stopped′ x =
+      let lt = told-over room n (length a) stopped (x .answer) in
       let same : take (room - n) (a ++ b) ≡ take (room - n) a = take-append-le (room - n) a b (omega arith) in
       let long : room < n + length (a ++ b) = simp length-append (omega arith) in
       record {
@@ -134,9 +134,9 @@ module _ (width room n : ℕ) (a b : List Hit) (rows cols rows′ cols′ : List
       }
 
 -- the hits may be said another way
-pub carves-as : (width room n : ℕ) (a b : List Hit) (full full′ : Bool) (rows cols : List ℕ) (r : Told) (rows′ cols′ : List ℕ) → a ≡ b → full ≡ full′
-    → Carves width room n a full rows cols r rows′ cols′ → Carves width room n b full′ rows cols r rows′ cols′
-carves-as width room n a b full full′ rows cols r rows′ cols′ e f x = rw (e, f) at x
+pub carves-as : (width room n : ℕ) (a b : List Hit) (stopped stopped′ : Bool) (rows cols : List ℕ) (r : Told) (rows′ cols′ : List ℕ) → a ≡ b → stopped ≡ stopped′
+    → Carves width room n a stopped rows cols r rows′ cols′ → Carves width room n b stopped′ rows cols r rows′ cols′
+carves-as width room n a b stopped stopped′ rows cols r rows′ cols′ e f x = rw (e, f) at x
 
 -- ---- all hits, from the first row on
 room-fits : (rows cols width room : ℕ) → room ≡ roomOf rows cols width → (room * wordsPerRow ≤ rows) × (room * (wordsPerEntry * width) ≤ cols)

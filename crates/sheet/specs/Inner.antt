@@ -26,22 +26,22 @@ pub record Puts (width room n : ℕ) (hs : List Hit) (rows cols rows′ cols′ 
   -- each group is as wide as it should be
   pub wide : length (groupsWords width (take (room - n) hs)) ≡ length (take (room - n) hs) * (wordsPerEntry * width)
 
--- what carving came to: so many rows; a row found no room; a page found the stack full, with so many rows
+-- what carving came to: so many rows; a row found no room; the stack overflowed, with so many rows
 pub data Told : Type 0 where
   on : ℕ → Told
   over : Told
-  short : ℕ → Told
+  overflow : ℕ → Told
 
 abbrev pub carvedAs : Carved → Told
 carvedAs (More n) = on n
 carvedAs NoMore = over
 
--- where k hits come, and the stack was full or not
+-- where k hits come, and the stack overflowed behind them or not
 abbrev pub carvedTo : ℕ → ℕ → ℕ → Bool → Told
-carvedTo room n k full = cond (leb (n + k) room) (cond full (short (n + k)) (on (n + k))) over
+carvedTo room n k stopped = cond (leb (n + k) room) (cond stopped (overflow (n + k)) (on (n + k))) over
 
-pub record Carves (width room n : ℕ) (hs : List Hit) (full : Bool) (rows cols : List ℕ) (r : Told) (rows′ cols′ : List ℕ) : Type 0 where
-  pub answer : r ≡ carvedTo room n (length hs) full
+pub record Carves (width room n : ℕ) (hs : List Hit) (stopped : Bool) (rows cols : List ℕ) (r : Told) (rows′ cols′ : List ℕ) : Type 0 where
+  pub answer : r ≡ carvedTo room n (length hs) stopped
   pub puts : Puts width room n hs rows cols rows′ cols′
 
 -- ---- a call whose checks have passed

@@ -14,7 +14,7 @@ use Rattle.sheet.proofs.Carving.{puts-all}
 use Rattle.sheet.proofs.Filling.{rows-refused, rows-filled}
 use Rattle.sheet.specs.Filled.{filledBy}
 use Rattle.sheet.specs.Hits.{Hit, rowRoom, rowOutcome}
-use Rattle.sheet.specs.Inner.{Told, on, short, carvedTo, Carves}
+use Rattle.sheet.specs.Inner.{Told, on, overflow, carvedTo, Carves}
 use Rattle.sheet.specs.declared.refusal.Checked.the-variants.{Passed, Refused as Held}
 use Rattle.sheet.specs.declared.refusal.Refusal.{Refusal}
 use Rattle.tables.specs.Calls.{Asked, tabledChecked, tabledHits, tabledOverflow, tabledWalking, tabledFilling, tabledAnswer, tabledNumber, tabledWritten, tabledRows, tabledCols, tabledCleared, OnTables, onTables, TablesPromises}
@@ -32,7 +32,7 @@ walked-is room k stopped =
     (λ lt. rw zero-add (simp (lt-leb k room lt, lt-ltb room k lt)))
     (λ le. rw zero-add (simp (le-leb k room le, le-ltb room k le) (by stopped)))
   where
-    by : (b : Bool) → walkedAs room (cond b (short k) (on k)) ≡ cond b (Short k) (Done k)
+    by : (b : Bool) → walkedAs room (cond b (overflow k) (on k)) ≡ cond b (Short k) (Done k)
     by true = refl
     by false = refl
 

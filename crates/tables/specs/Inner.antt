@@ -9,7 +9,7 @@ use Rattle.carving.specs.declared.inner.Carving.{Carving}
 use Rattle.hit.specs.Inner.{Space}
 use Rattle.hit.specs.declared.inner.Lent.{Lent}
 use Rattle.sheet.specs.Hits.{rowsOf, groupsWords, rowRoom}
-use Rattle.sheet.specs.Inner.{Told, on, over, short, Carves}
+use Rattle.sheet.specs.Inner.{Told, on, over, overflow, Carves}
 use Rattle.sheet.specs.Limits.{mostColumns, largestRegion}
 use Rattle.sheet.specs.Sheet.{overlay, rowsWords}
 use Rattle.tables.specs.Calls.{Asked, tabledHits, tabledOverflow, tabledWalking, tabledFilling}
@@ -25,13 +25,13 @@ use Rattle.walk.specs.declared.walk.Walked.the-variants.{Done, Full, Short}
 abbrev pub tableAs : CarvedTable → Told
 tableAs (On n) = on n
 tableAs NoMore = over
-tableAs (Overflow n) = short n
+tableAs (Overflow n) = overflow n
 
 -- the answer of a call that had room for so many rows
 abbrev pub walkedAs : ℕ → Told → Walked
 walkedAs most (on n) = Done n
 walkedAs most over = Full most
-walkedAs most (short n) = Short n
+walkedAs most (overflow n) = Short n
 
 -- ---- one table
 

@@ -12,10 +12,10 @@ use lib.Seq.{drop-cons, drop-drop}
 use Rattle.walk.specs.Carve.{sumOf, Table, tablesOf, Carver, hitsFrom, overflowFrom, tablesHits, tablesOverflow}
 use Rattle.sheet.specs.Hits.{Hit}
 use Rattle.walk.specs.Inner.{tops, rest, LeafIs}
-use Rattle.sheet.specs.Inner.{on, over, short, carvedTo, Carves}
-use Rattle.walk.specs.Walk.{Walk, through, overflowed, walk, onward, overflow, pushAll, hitsOf, overflows}
+use Rattle.sheet.specs.Inner.{on, over, overflow, carvedTo, Carves}
+use Rattle.walk.specs.Walk.{Walk, through, overflowed, walk, onward, overflow as unpushed, pushAll, hitsOf, overflows}
 use Rattle.walk.proofs.Along.{Along, along-start, along-leaf, along-more, along-done, along-overflow, walk-none}
-use Rattle.sheet.proofs.Carving.{carves-none, carves-more, carves-stop, carves-as, told-on, told-short}
+use Rattle.sheet.proofs.Carving.{carves-none, carves-more, carves-stop, carves-as, told-on, told-overflow}
 use Rattle.walk.proofs.Summing.{sum-at}
 
 -- ---- the leaves of one table: `done` was carved behind n₀ rows, and there are n rows now
@@ -31,8 +31,8 @@ leaves-start carve db size depth root count width room n rows cols flags stack t
     record { done = []; along = along-start carve db size depth root count flags stack top e clear long fits flagged; carved = carves-none width room n rows cols h }
 
 -- the root found no room
-pub leaves-none : (carve : ℕ → List Hit) (db : List ℕ) (size depth root width room n : ℕ) (rows cols : List ℕ) → overflow ≡ pushAll depth (root ∷ []) [] → n ≤ room
-    → Carves width room n (hitsOf carve (walk db size depth root)) (overflows (walk db size depth root)) rows cols (short n) rows cols
+pub leaves-none : (carve : ℕ → List Hit) (db : List ℕ) (size depth root width room n : ℕ) (rows cols : List ℕ) → unpushed ≡ pushAll depth (root ∷ []) [] → n ≤ room
+    → Carves width room n (hitsOf carve (walk db size depth root)) (overflows (walk db size depth root)) rows cols (overflow n) rows cols
 leaves-none carve db size depth root width room n rows cols e h =
     let w = walk-none db size depth root e in
     let s : n + 0 ≡ n = omega arith in
@@ -65,12 +65,12 @@ module _ (carve : ℕ → List Hit) (whole : Walk) (db : List ℕ) (size depth c
       let d = along-done carve whole db size depth count flags stack top (w .done) (w .along) e in
       carves-as width room n₀ (w .done) (hitsOf carve whole) false (overflows whole) rows₀ cols₀ (on n) rows cols (d .0) (sym (d .1)) (w .carved)
 
-  pub leaves-overflow : rest (w .along .fuel) db size flags stack top ≡ overflowed → Carves width room n₀ (hitsOf carve whole) (overflows whole) rows₀ cols₀ (short n) rows cols
+  pub leaves-overflow : rest (w .along .fuel) db size flags stack top ≡ overflowed → Carves width room n₀ (hitsOf carve whole) (overflows whole) rows₀ cols₀ (overflow n) rows cols
   leaves-overflow e =
       let d = along-overflow carve whole db size depth count flags stack top (w .done) (w .along) e in
       let t = told-on room n₀ (length (w .done)) n false (w .carved .answer) in
-      let stopped : short n ≡ carvedTo room n₀ (length (w .done)) true = rw (t .1) (simp (le-leb (n₀ + length (w .done)) room (t .0))) in
-      carves-as width room n₀ (w .done) (hitsOf carve whole) true (overflows whole) rows₀ cols₀ (short n) rows cols (d .0) (sym (d .1))
+      let stopped : overflow n ≡ carvedTo room n₀ (length (w .done)) true = rw (t .1) (simp (le-leb (n₀ + length (w .done)) room (t .0))) in
+      carves-as width room n₀ (w .done) (hitsOf carve whole) true (overflows whole) rows₀ cols₀ (overflow n) rows cols (d .0) (sym (d .1))
       (record { answer = stopped; puts = w .carved .puts })
 
 -- ---- the tables
@@ -137,14 +137,14 @@ module _ (carve : Carver) (db : List ℕ) (size : ℕ) (roots counts hints : Lis
           let tail = cond (overflows own) [] (hitsFrom walkOf carve (suc t) later) in
           rw hits-are at (carves-stop width room 0 (w .done ++ found) tail rows₀ cols₀ rows′ cols′ (overflows own) (tablesOverflow db size roots counts hints depth) c)
 
-      pub tables-overflow : (m : ℕ) → Carves width room n found (overflows own) rows cols (short m) rows′ cols′
-          → Carves width room 0 (tablesHits carve db size roots counts hints depth) (tablesOverflow db size roots counts hints depth) rows₀ cols₀ (short m) rows′ cols′
+      pub tables-overflow : (m : ℕ) → Carves width room n found (overflows own) rows cols (overflow m) rows′ cols′
+          → Carves width room 0 (tablesHits carve db size roots counts hints depth) (tablesOverflow db size roots counts hints depth) rows₀ cols₀ (overflow m) rows′ cols′
       tables-overflow m x =
-          let told = told-short room n (length found) m (overflows own) (x .answer) in
-          let c = carves-more width room 0 (w .done) found rows₀ cols₀ rows cols n true (short m) rows′ cols′ (w .carved) (rw (told .2) at x) in
+          let told = told-overflow room n (length found) m (overflows own) (x .answer) in
+          let c = carves-more width room 0 (w .done) found rows₀ cols₀ rows cols n true (overflow m) rows′ cols′ (w .carved) (rw (told .2) at x) in
           let hits : w .done ++ found ≡ tablesHits carve db size roots counts hints depth = sym (append-nil (w .done ++ found)) ∙ rw (told .2) at hits-are in
           let ends : true ≡ tablesOverflow db size roots counts hints depth = rw (told .2) at ends-are in
-          carves-as width room 0 (w .done ++ found) (tablesHits carve db size roots counts hints depth) true (tablesOverflow db size roots counts hints depth) rows₀ cols₀ (short m) rows′ cols′ hits ends c
+          carves-as width room 0 (w .done ++ found) (tablesHits carve db size roots counts hints depth) true (tablesOverflow db size roots counts hints depth) rows₀ cols₀ (overflow m) rows′ cols′ hits ends c
 
   pub tables-room : n ≤ room
   tables-room = let told = told-on room 0 (length (w .done)) n false (w .carved .answer) in omega (arith, told .0, told .1)

@@ -1,9 +1,10 @@
 -- The lists that a call is lent, as oracle/README.md has them: before it each cell tells its place.
 -- Assumes nothing.
-use Prim.Native.Nat.{ℕ, zero, suc, _+_, _*_, _%_, _^_, min}
-use mathlib.Core.Bool.{Bool, false}
+use Prim.Native.Nat.{ℕ, zero, suc, _+_, _*_, _/_, _%_, _^_, min}
+use mathlib.Core.Bool.{Bool, false, cond}
 use mathlib.Core.List.{List, [], _∷_, _++_}
 use mathlib.Core.Path.{_≡_}
+use lib.Bits.{bitXor}
 use lib.Dec.{eqb}
 use lib.ListN.{length, take, getD}
 use Rattle.cases.specs.Layout.{wordAt}
@@ -24,6 +25,31 @@ freshIn Cells.Bytes i cell = eqb cell (freshByte i)
 freshIn Cells.Words i cell = eqb cell (freshWord i)
 freshIn Cells.Rows i cell = eqb cell (freshWord i)
 freshIn Cells.Entries i cell = eqb cell (freshWord i)
+
+-- 1 where the call changed the cell, and how many of the first n cells it changed, and of all
+abbrev pub touchedIn : Cells → ℕ → ℕ → ℕ
+touchedIn of i cell = cond (freshIn of i cell) 0 1
+
+unfoldable pub changedBelow : Cells → List ℕ → ℕ → ℕ
+changedBelow of list zero = 0
+changedBelow of list (suc n) = changedBelow of list n + touchedIn of n (getD list n 0)
+
+abbrev pub changedIn : Cells → List ℕ → ℕ
+changedIn of list = changedBelow of list (length list)
+
+-- a fold over cells, in words of 64 bits: a step, the first n steps, and all
+unfoldable pub foldStep : ℕ → ℕ → ℕ
+foldStep fold cell =
+    let sum = (fold + cell) % 2 ^ 64 in
+    let spread = (sum + sum * 2 ^ 10 % 2 ^ 64) % 2 ^ 64 in
+    bitXor spread (spread / 2 ^ 6)
+
+unfoldable pub foldBelow : List ℕ → ℕ → ℕ
+foldBelow list zero = 0
+foldBelow list (suc n) = foldStep (foldBelow list n) (getD list n 0)
+
+abbrev pub foldOf : List ℕ → ℕ
+foldOf list = foldBelow list (length list)
 
 -- whether a row or an entry starts there
 abbrev pub startsIn : Cells → ℕ → Bool

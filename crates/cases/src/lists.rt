@@ -6,9 +6,11 @@ use sheet::WORDS_PER_ENTRY;
 use sheet::WORDS_PER_ROW;
 use std::num::wrapping_add_u64;
 ghost use mathlib.Core.Path.{_≡_};
+ghost use Prim.Native.Nat.{_≤_};
 ghost use lib.ListN.{length};
 ghost use Rattle.cases.specs.Layout.{cellsOf};
-ghost use Rattle.cases.specs.Lent.{FilledBy, byteIn, freshByte, freshIn, freshWord, startsIn};
+ghost use Rattle.cases.specs.Lent.{FilledBy, byteIn, freshByte, freshIn, freshWord, startsIn, touchedIn, changedIn};
+ghost use Rattle.cases.specs.Lent.{foldStep, foldOf};
 ghost use Rattle.io.specs.Counts.{Counts};
 
 pub fn word_space() -> [u64; CELLS]
@@ -106,27 +108,42 @@ pub fn starts(of: Cells, i: usize) -> bool
     }
 }
 
+// 1 where the call changed the cell.
+fn touched(of: Cells, i: usize, cell: u64) -> u64
+    ensures { λ r. ⌜ r ≡ touchedIn of i cell ⌝ }
+    ensures small { λ r. ⌜ r ≤ 1 ⌝ }
+{
+    if is_fresh(of, i, cell) {
+        return 0;
+    }
+    1
+}
+
 // How many cells the call changed.
-pub fn changed(of: Cells, list: &[u64]) -> u64 {
-    let mut n = 0;
+pub fn changed(of: Cells, list: &[u64]) -> u64
+    ensures { λ r. ⌜ r ≡ changedIn of (now (list .entry)) ⌝ }
+{
+    let mut n: u64 = 0;
     let mut i = 0;
     while i < list.len() {
-        if !is_fresh(of, i, list[i]) {
-            n = wrapping_add_u64(n, 1);
-        }
+        n = n + touched(of, i, list[i]);
         i = i + 1;
     }
     n
 }
 
 // One step of it for each cell; two lists that differ in one cell have folds that differ.
-fn folded(fold: u64, cell: u64) -> u64 {
+fn folded(fold: u64, cell: u64) -> u64
+    ensures { λ r. ⌜ r ≡ foldStep fold cell ⌝ }
+{
     let sum = wrapping_add_u64(fold, cell);
     let spread = wrapping_add_u64(sum, sum << 10);
     spread ^ (spread >> 6)
 }
 
-pub fn fold(list: &[u64]) -> u64 {
+pub fn fold(list: &[u64]) -> u64
+    ensures { λ r. ⌜ r ≡ foldOf (now (list .entry)) ⌝ }
+{
     let mut fold = 0;
     let mut i = 0;
     while i < list.len() {

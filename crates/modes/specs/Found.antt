@@ -1,4 +1,5 @@
--- Rows that are read with no more to go by than a count of columns: types, their bodies, and the words that they make (rules 12.1 to 12.3).
+-- Rows that are read with no more to go by than a count of columns: types, their bodies, and the words that they make (rules 12.1 to
+-- 12.3).
 -- Assumes nothing.
 use Prim.Native.Nat.{ℕ, zero, suc, _+_, _-_}
 use mathlib.Core.Bool.{cond}

@@ -45,7 +45,8 @@ headedRow o h cut = miss
 headedRow o h (read ts end) = rowOf normal o (o + h) ts
 
 abbrev pub normalWith : List ℕ → ℕ → ℕ → Varint → Tried
-normalWith s columns o (Value h c) = cond (lengthFits (length s) o (c .at - o) h) (headedRow o h (typesFrom columns s (c .at) (o + h))) miss
+normalWith s columns o (Value h c) =
+    cond (lengthFits (length s) o (c .at - o) h) (headedRow o h (typesFrom columns s (c .at) (o + h))) miss
 normalWith s columns o Short = miss
 
 unfoldable pub normalAt : List ℕ → ℕ → ℕ → Tried

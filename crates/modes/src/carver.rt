@@ -196,7 +196,8 @@ fn carve_headless(
     cols: &mut [u64],
 ) -> Carved
     requires { ⌜ Ready (length (now bytes)) base columns room n (length (now rows)) (length (now cols)) ⌝ }
-    ensures { λ r. ⌜ Carves columns room n (foundHits (length (now (bytes .entry))) base (headlessFound (now (bytes .entry)) columns)) false
+    ensures { λ r. ⌜ Carves columns room n
+        (foundHits (length (now (bytes .entry))) base (headlessFound (now (bytes .entry)) columns)) false
         (now (rows .entry)) (now (cols .entry)) (carvedAs r) (now (rows .exit)) (now (cols .exit)) ⌝ }
 {
     let whole = try_headless(bytes, columns_only(), 0, columns);

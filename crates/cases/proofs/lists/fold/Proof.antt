@@ -1,19 +1,23 @@
--- `cases::lists::fold` is safe and ends: each turn passes a cell.
+-- `cases::lists::fold` meets its contract and ends: each turn folds a cell.
 -- Assumes nothing.
-use Prim.Native.Nat.{_-_}
+use Prim.Native.Nat.{_-_, _≤_}
+use mathlib.Core.Path.{_≡_, sym, _∙_}
+use native.Mathlib.Omega.{arith}
 use lib.ListN.{length}
 use borrow.Author.Needs.{needs}
+use Rattle.cases.specs.Lent.{foldBelow}
+use Rattle.cases.proofs.Cellwise.{fold-start, fold-on}
 use Rattle.cases.proofs.lists.fold.Statement.{statement}
 use Rattle.cases.proofs.lists.fold.Tie as tie
 
 abbrev Inv-loop : tie.InvT-loop
-Inv-loop list fold₀ i₀ fold i = Unit
+Inv-loop list fold₀ i₀ fold i = (i ≤ length list) × (fold ≡ foldBelow list i)
 
 abbrev μ-loop : tie.MeasureT-loop
 μ-loop list fold₀ i₀ fold i = length list - i
 
 loop-holds : tie.Need-loop-holds Inv-loop μ-loop
-loop-holds c = search needs
+loop-holds c = (omega arith, fold-start _)
 
 mul-folded : tie.Need-mul-folded Inv-loop μ-loop
 mul-folded c = search needs
@@ -31,10 +35,15 @@ loop-less : tie.Need-loop-less Inv-loop μ-loop
 loop-less c = search needs
 
 loop-again : tie.Need-loop-again Inv-loop μ-loop
-loop-again c = search needs
+loop-again c =
+    let l = c .before .before .before .loop in
+    (omega arith, c .folded .ensures ∙ rw (l .inv .1) (sym (fold-on _ _)))
 
 returns : tie.Need-returns Inv-loop μ-loop
-returns c = search needs
+returns c =
+    let l = c .before .loop in
+    let all : l .i ≡ length (c .before .before .before .args .list .now) = omega (arith, l .inv .0, c .loop-test .left) in
+    l .inv .1 ∙ rw all
 
 pub fold-spec : {M : Type 1} → statement M
 fold-spec =

@@ -12,9 +12,9 @@ use phsarodil::values::phs_view_entry;
 use streams::Output;
 
 pub(crate) fn read_varint(said: Output, case: &[u8]) -> Output {
-    let mut out = [0; 3];
+    let mut out = [0; 4];
     let answer = phs_read_varint(slice(case, 0), number(case, 0) as usize, &mut out);
-    answered(said, answer, &[out[0], out[1], out[2]])
+    answered(said, answer, &[out[0], out[1], out[2], out[3]])
 }
 
 pub(crate) fn body_length(said: Output, case: &[u8]) -> Output {

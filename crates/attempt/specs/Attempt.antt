@@ -5,6 +5,7 @@ use mathlib.Core.Bool.{Bool, true, false, cond, _&&_}
 use mathlib.Core.List.{List, [], _∷_}
 use lib.ListN.{length}
 use lib.Dec.{ltb, leb, eqb}
+use Rattle.record.specs.Places.{headerPadded}
 use Rattle.record.specs.Value.{bodyLength}
 use Rattle.record.specs.Varint.{varintAt}
 use Rattle.record.specs.declared.record.Length.{Length}
@@ -68,32 +69,36 @@ unfoldable pub bodiesFrom : ℕ → ℕ → List ℕ → Bodies
 bodiesFrom len at [] = laid [] at
 bodiesFrom len at (t ∷ ts) = bodyOn len at t (λ next. bodiesFrom len next ts) (bodyLength t)
 
--- what an attempt finds: the bytes that the row takes, how many of its types suit their hints, and its columns
+-- what an attempt finds: the bytes that the row takes, how many of its types suit their hints, its columns, and whether a number of its
+-- header is padded
 pub record Found : Type 0 where
   pub consumed : ℕ
   pub matched : ℕ
   pub columns : List Column
+  pub padded : Bool
 
 pub data Tried : Type 0 where
   miss : Tried
   hit : Found → Tried
 
 -- Rule 4.6: a row takes at most 65,536 bytes, from its offset to the end of its last body
-abbrev pub sized : ℕ → ℕ → Bodies → Tried
-sized o n unfit = miss
-sized o n (laid cs end) = cond (leb (end - o) mostBytes) (hit (record { consumed = end - o; matched = n; columns = cs })) miss
+abbrev pub sized : ℕ → ℕ → Bool → Bodies → Tried
+sized o n p unfit = miss
+sized o n p (laid cs end) =
+    cond (leb (end - o) mostBytes) (hit (record { consumed = end - o; matched = n; columns = cs; padded = p })) miss
 
 -- Rule 4.4: as many types as hints, and at least one that suits; then the bodies, which start at the header's end
-unfoldable pub judged : ℕ → List ℕ → ℕ → ℕ → List ℕ → Tried
-judged len hints o h ts =
-    cond (eqb (length ts) (length hints) && ltb 0 (suited hints ts)) (sized o (suited hints ts) (bodiesFrom len (o + h) ts)) miss
+unfoldable pub judged : ℕ → List ℕ → ℕ → ℕ → Bool → List ℕ → Tried
+judged len hints o h p ts =
+    cond (eqb (length ts) (length hints) && ltb 0 (suited hints ts)) (sized o (suited hints ts) p (bodiesFrom len (o + h) ts)) miss
 
 -- a header whose types run off the slice is no row
-abbrev pub judgedWhole : ℕ → List ℕ → ℕ → ℕ → Types → Tried
-judgedWhole len hints o h ts = cond (isWhole ts) (judged len hints o h (kinds ts)) miss
+abbrev pub judgedWhole : ℕ → List ℕ → ℕ → ℕ → Bool → Types → Tried
+judgedWhole len hints o h p ts = cond (isWhole ts) (judged len hints o h p (kinds ts)) miss
 
 abbrev pub attemptWith : List ℕ → List ℕ → ℕ → Varint → Tried
-attemptWith s hints o (Value h c) = cond (headerFits (length s) o h) (judgedWhole (length s) hints o h (typesFrom h s (c .at) (o + h))) miss
+attemptWith s hints o (Value h c) =
+    cond (headerFits (length s) o h) (judgedWhole (length s) hints o h (headerPadded h s c (o + h)) (typesFrom h s (c .at) (o + h))) miss
 attemptWith s hints o Short = miss
 
 unfoldable pub attemptAt : List ℕ → List ℕ → ℕ → Tried

@@ -8,16 +8,17 @@ use lib.ListN.{length, drop}
 use Rattle.attempt.specs.Attempt.{Types, ended, cut, kind, kinds, isWhole, typesFrom, Found, Tried, miss, hit}
 use Rattle.attempt.specs.Attempt.{judgedWhole}
 use Rattle.attempt.specs.Hints.{suited}
-use Rattle.attempt.specs.Places.{mostPlaces, typePlaces}
+use Rattle.attempt.specs.Places.{mostPlaces}
 use Rattle.attempt.specs.declared.inner.Find.{Find}
 use Rattle.attempt.specs.declared.inner.Verdict.{Verdict}
 use Rattle.attempt.specs.declared.inner.Verdict.the-variants.{Hit, Miss}
 use Rattle.attempt.specs.declared.inner.Walk.{Walk}
 use Rattle.attempt.specs.declared.inner.Walk.the-variants.{Whole, Cut}
-use Rattle.record.specs.Places.{placesFrom}
+use Rattle.record.specs.Places.{placesFrom, typePlaces, headerPadded}
 use Rattle.record.specs.Value.{bodyLength}
 use Rattle.record.specs.declared.record.Length.{Length}
 use Rattle.record.specs.declared.record.Length.the-variants.{Bytes, Reserved}
+use Rattle.record.specs.declared.varint.Cursor.{Cursor}
 use Rattle.sheet.specs.declared.columns.Column.{Column}
 use Rattle.sheet.specs.declared.columns.Column.the-variants.{Body}
 use Rattle.sheet.specs.Limits.{mostHeader}
@@ -81,23 +82,31 @@ abbrev pub Miscounted : Types → ℕ → Bool → Type 0
 Miscounted ts n true = isWhole ts ≡ true → length (kinds ts) ≡ n → ⊥
 Miscounted ts n false = Unit
 
-pub record WholeIs (s hints : List ℕ) (ts : Types) (count matched total end : ℕ) : Type 0 where
+-- p is the definition's mark of them
+pub record WholeIs (s hints : List ℕ) (ts : Types) (p : Bool) (count matched total end : ℕ) (padded : Bool) : Type 0 where
   pub is-whole : isWhole ts ≡ true
   pub counts : length (kinds ts) ≡ count
   pub matches : suited hints (kinds ts) ≡ matched
   pub totals : totalFrom 0 (kinds ts) ≡ total
   pub ends : reach s ts ≡ end
+  pub marks : p ≡ padded
 
-abbrev pub Walked : List ℕ → List ℕ → Types → Walk → Type 0
-Walked s hints ts (Whole count matched total end) = WholeIs s hints ts count matched total end
-Walked s hints ts Cut = isWhole ts ≡ false
+abbrev pub Walked : List ℕ → List ℕ → Types → Bool → Walk → Type 0
+Walked s hints ts p (Whole count matched total end padded) = WholeIs s hints ts p count matched total end padded
+Walked s hints ts p Cut = isWhole ts ≡ false
 
 -- the types of a row that was found, and the row
 abbrev pub findTypes : List ℕ → ℕ → Find → Types
 findTypes s o x = headerTypes s o (x .head) (x .from)
 
 abbrev pub foundAt : List ℕ → ℕ → Find → Found
-foundAt s o x = record { consumed = x .consumed; matched = x .matched; columns = columnsAt (o + x .head) (kinds (findTypes s o x)) }
+foundAt s o x =
+    record {
+      consumed = x .consumed;
+      matched = x .matched;
+      columns = columnsAt (o + x .head) (kinds (findTypes s o x));
+      padded = x .padded;
+    }
 
 -- what an attempt gives: t is what it finds, p its header places
 pub record MissIs (t : Tried) (p : List ℕ) (read : ℕ) : Type 0 where
@@ -118,7 +127,10 @@ abbrev pub Tells : List ℕ → List ℕ → ℕ → Tried → List ℕ → Verd
 Tells s hints o t p (Miss read) = MissIs t p read
 Tells s hints o t p (Hit x) = HitIs s hints o t p x
 
--- a header's types make what `judgedWhole` says; its places are those of its own number and of the types
-abbrev pub Judged : List ℕ → List ℕ → ℕ → ℕ → ℕ → Verdict → Type 0
-Judged s hints o h from v =
-    Tells s hints o (judgedWhole (length s) hints o h (headerTypes s o h from)) (placesFrom o (from - o) ++ typePlaces h s from (o + h)) v
+-- types from c on, with their header's mark, make what `judgedWhole` says; its places are those of its own number and of the types
+abbrev pub judgedHeader : List ℕ → List ℕ → ℕ → ℕ → Cursor → Tried
+judgedHeader s hints o h c = judgedWhole (length s) hints o h (headerPadded h s c (o + h)) (headerTypes s o h (c .at))
+
+abbrev pub Judged : List ℕ → List ℕ → ℕ → ℕ → Cursor → Verdict → Type 0
+Judged s hints o h c v =
+    Tells s hints o (judgedHeader s hints o h c) (placesFrom o (c .at - o) ++ typePlaces h s (c .at) (o + h)) v

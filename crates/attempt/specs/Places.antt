@@ -1,11 +1,10 @@
 -- Header places (rule 4.7): the bytes of a region that an attempt looks at to decide, as positions.
 -- Assumes nothing.
-use Prim.Native.Nat.{ℕ, zero, suc, _+_}
+use Prim.Native.Nat.{ℕ, _+_}
 use mathlib.Core.Bool.{cond}
 use mathlib.Core.List.{List, [], _++_}
-use lib.Dec.{ltb}
 use lib.ListN.{length}
-use Rattle.record.specs.Places.{varintPlaces}
+use Rattle.record.specs.Places.{varintPlaces, typePlaces}
 use Rattle.record.specs.Varint.{varintAt}
 use Rattle.record.specs.declared.varint.Varint.{Varint}
 use Rattle.record.specs.declared.varint.Varint.the-variants.{Value, Short}
@@ -14,15 +13,6 @@ use Rattle.attempt.specs.Attempt.{headerFits}
 -- the most bytes that an attempt reads: a header of 512, and eight behind it where its last type runs past the end
 abbrev pub mostPlaces : ℕ
 mostPlaces = 520
-
--- those of the types from `at` on
-abbrev pub placesOn : Varint → (ℕ → List ℕ) → List ℕ
-placesOn (Value t c) rest = rest (c .at)
-placesOn Short rest = []
-
-unfoldable pub typePlaces : ℕ → List ℕ → ℕ → ℕ → List ℕ
-typePlaces zero s at stop = []
-typePlaces (suc f) s at stop = cond (ltb at stop) (varintPlaces s at ++ placesOn (varintAt s at) (λ next. typePlaces f s next stop)) []
 
 -- those of the types, if the header's length passed
 abbrev pub placesBehind : List ℕ → ℕ → Varint → List ℕ

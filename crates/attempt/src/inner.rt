@@ -26,29 +26,33 @@ ghost use Rattle.attempt.specs.Hints.{isInteger, isReal, isText, isBlob,
 ghost use Rattle.attempt.specs.Inner.{suitsAt, tooLong, bodySize, sizes, columnsAt, headerTypes, Headed, WholeIs, Walked};
 ghost use Rattle.attempt.specs.Inner.{Judged, Tells};
 ghost use Rattle.attempt.specs.Places.{attemptPlaces};
+ghost use Rattle.record.specs.Places.{headerPadded};
 ghost use Rattle.sheet.specs.Limits.{wordsPerEntry, largestRegion};
 ghost use Rattle.sheet.specs.Sheet.{columnsWords};
 
-// What the types of a header come to: how many there are, how many suit, the length of all bodies, and where reading stopped.
+// What the types of a header come to: how many there are, how many suit, the length of all bodies, where reading stopped, and whether a
+// number of the header is padded.
 enum Walk {
     Whole {
         count: usize,
         matched: u16,
         total: usize,
         end: usize,
+        padded: bool,
     },
     // A type runs off the slice.
     Cut,
 }
 
-// A row that an attempt found: its header's length, where its types start, the bytes that it takes, how many of its types suit, and the
-// header bytes that were read.
+// A row that an attempt found: its header's length, where its types start, the bytes that it takes, how many of its types suit, the
+// header bytes that were read, and whether a number of its header is padded.
 pub struct Find {
     pub head: usize,
     pub from: usize,
     pub consumed: usize,
     pub matched: u16,
     pub read: usize,
+    pub padded: bool,
 }
 
 pub enum Verdict {
@@ -146,23 +150,26 @@ pub fn add_body(total: usize, kind: u64) -> usize
 }
 
 // Reads the types that stand behind `from` in the header of `head` bytes at o.
-fn walk_types(bytes: &[u8], hints: &[u8], o: usize, head: usize, from: usize) -> Walk
-    requires { ⌜ Headed (now bytes) o head from ⌝ }
-    ensures { λ r. ⌜ Walked (now (bytes .entry)) (now (hints .entry)) (headerTypes (now (bytes .entry)) o head from) r ⌝ }
+fn walk_types(bytes: &[u8], hints: &[u8], o: usize, head: usize, from: Cursor) -> Walk
+    requires { ⌜ Headed (now bytes) o head (from .at) ⌝ }
+    ensures { λ r. ⌜ Walked (now (bytes .entry)) (now (hints .entry)) (headerTypes (now (bytes .entry)) o head (from .at))
+        (headerPadded head (now (bytes .entry)) from (o + head)) r ⌝ }
 {
     let stop = o + head;
-    let mut at = from;
+    let mut at = from.at;
+    let mut padded = from.padded;
     let mut count: usize = 0;
     let mut matched: u16 = 0;
     let mut total: usize = 0;
     while at < stop {
-        let c = Cursor { at };
+        let c = Cursor { at, padded: false };
         let Varint::Value(kind, next) = c.serial_type(bytes) else {
             return Walk::Cut;
         };
         matched = matched + suits_at(hints, count, kind);
         total = add_body(total, kind);
         count = count + 1;
+        padded = padded | next.padded;
         at = next.at;
     }
     Walk::Whole {
@@ -170,6 +177,7 @@ fn walk_types(bytes: &[u8], hints: &[u8], o: usize, head: usize, from: usize) ->
         matched,
         total,
         end: at,
+        padded,
     }
 }
 
@@ -179,13 +187,15 @@ pub fn judge(
     hints: &[u8],
     o: usize,
     head: usize,
-    from: usize,
+    from: Cursor,
     matched: u16,
     total: usize,
     end: usize,
+    padded: bool,
 ) -> Verdict
-    requires { ⌜ Headed (now bytes) o head from ⌝ }
-    requires { ⌜ WholeIs (now bytes) (now hints) (headerTypes (now bytes) o head from) (length (now hints)) matched total end ⌝ }
+    requires { ⌜ Headed (now bytes) o head (from .at) ⌝ }
+    requires { ⌜ WholeIs (now bytes) (now hints) (headerTypes (now bytes) o head (from .at)) (headerPadded head (now bytes) from (o + head))
+        (length (now hints)) matched total end padded ⌝ }
     ensures { λ r. ⌜ Judged (now (bytes .entry)) (now (hints .entry)) o head from r ⌝ }
 {
     let read = end - o;
@@ -201,27 +211,30 @@ pub fn judge(
     }
     Verdict::Hit(Find {
         head,
-        from,
+        from: from.at,
         consumed,
         matched,
         read,
+        padded,
     })
 }
 
 // Whether the types that stand behind `from` in the header of `head` bytes at o make a row; its own number need not stand there.
-pub fn given_header(bytes: &[u8], hints: &[u8], o: usize, head: usize, from: usize) -> Verdict
-    requires { ⌜ Headed (now bytes) o head from ⌝ }
+pub fn given_header(bytes: &[u8], hints: &[u8], o: usize, head: usize, from: Cursor) -> Verdict
+    requires { ⌜ Headed (now bytes) o head (from .at) ⌝ }
     ensures { λ r. ⌜ Judged (now (bytes .entry)) (now (hints .entry)) o head from r ⌝ }
 {
     // Most headers that fail have too few types or too many, which is seen before one is decoded.
-    if miscounted(hints.len(), bytes, o, head, from) {
-        return Verdict::Miss(types_end(bytes, o, head, from) - o);
+    let at = from.at;
+    if miscounted(hints.len(), bytes, o, head, at) {
+        return Verdict::Miss(types_end(bytes, o, head, at) - o);
     }
     let Walk::Whole {
         count,
         matched,
         total,
         end,
+        padded,
     } = walk_types(bytes, hints, o, head, from)
     else {
         return Verdict::Miss(bytes.len() - o);
@@ -229,7 +242,7 @@ pub fn given_header(bytes: &[u8], hints: &[u8], o: usize, head: usize, from: usi
     if count != hints.len() {
         return Verdict::Miss(end - o);
     }
-    judge(bytes, hints, o, head, from, matched, total, end)
+    judge(bytes, hints, o, head, from, matched, total, end, padded)
 }
 
 pub fn attempt(bytes: &[u8], hints: &[u8], o: usize) -> Verdict
@@ -237,12 +250,14 @@ pub fn attempt(bytes: &[u8], hints: &[u8], o: usize) -> Verdict
     ensures { λ r. ⌜ Tells (now (bytes .entry)) (now (hints .entry)) o (attemptAt (now (bytes .entry)) (now (hints .entry)) o)
         (attemptPlaces (now (bytes .entry)) o) r ⌝ }
 {
-    let c = Cursor { at: o };
+    let c = Cursor {
+        at: o,
+        padded: false,
+    };
     let Varint::Value(h, next) = c.header_length(bytes) else {
         return Verdict::Miss(bytes.len() - o);
     };
-    let from = next.at;
-    let own = from - o;
+    let own = next.at - o;
     if h < 2 {
         return Verdict::Miss(own);
     }
@@ -253,7 +268,7 @@ pub fn attempt(bytes: &[u8], hints: &[u8], o: usize) -> Verdict
     if head > bytes.len() - o {
         return Verdict::Miss(own);
     }
-    given_header(bytes, hints, o, head, from)
+    given_header(bytes, hints, o, head, next)
 }
 
 // Writes the columns whose types stand behind `from` in the header of `head` bytes at o; the bodies start at its end. The bytes lie `by`
@@ -279,7 +294,7 @@ pub fn put_columns(
     let mut start = by + stop;
     let mut to = k;
     while at < stop {
-        let c = Cursor { at };
+        let c = Cursor { at, padded: false };
         let Varint::Value(kind, next) = c.serial_type(bytes) else {
             return;
         };

@@ -28,6 +28,7 @@ rowAt spot place origin x =
       confidence = origin .confidence;
       mode = Plain;
       table = spot .table;
+      padded = x .padded;
     }
 
 -- with its columns, which are those of the page's part that begins at `part`

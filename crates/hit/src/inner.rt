@@ -114,6 +114,7 @@ pub fn add_found(
         confidence: origin.confidence,
         mode: Mode::Plain,
         table: spot.table,
+        padded: find.padded,
     };
     let by = spot.start + part;
     put_hit(bytes, o, find, by, columns, row, lent.width, n, rows, cols);

@@ -2,7 +2,7 @@
 -- 12.3).
 -- Assumes nothing.
 use Prim.Native.Nat.{ℕ, zero, suc, _+_, _-_}
-use mathlib.Core.Bool.{cond}
+use mathlib.Core.Bool.{Bool, cond}
 use mathlib.Core.List.{List, [], _∷_, _++_}
 use lib.Dec.{ltb, leb}
 use Rattle.modes.specs.declared.inner.Style.{Style}
@@ -63,12 +63,13 @@ endFrom len at (t ∷ ts) = endFrom len (behind at (columnAt len at t)) ts
 
 -- ---- rows
 
--- what the way of carving says of it, its place, where its bodies start, and its types
+-- what the way of carving says of it, its place, where its bodies start, its types, and whether a number of its header is padded
 pub record Found : Type 0 where
   pub style : Style
   pub at : ℕ
   pub start : ℕ
   pub types : List ℕ
+  pub padded : Bool
 
 pub data Tried : Type 0 where
   miss : Tried
@@ -95,6 +96,7 @@ foundHit len base x =
             confidence = x .style .confidence;
             mode = x .style .mode;
             table = 0;
+            padded = x .padded;
           };
       columns = lostColumns (x .style .lost) ++ columnsFrom len (x .start) (x .types);
     }

@@ -2,6 +2,7 @@
 -- Assumes nothing.
 use Prim.Native.Nat.{ℕ, zero, suc, _+_, _*_, _≤_}
 use mathlib.Core.Path.{_≡_}
+use mathlib.Core.Bool.{Bool}
 use mathlib.Core.List.{List, [], _∷_}
 use lib.ListN.{length}
 use Rattle.modes.specs.Found.{Types, cut, read, Found, Tried, miss, hit, foundHit}
@@ -17,15 +18,16 @@ use Rattle.sheet.specs.Columns.{roomOf}
 use Rattle.sheet.specs.Limits.{wordsPerRow, wordsPerEntry, mostColumns, largestRegion, largestBase}
 use Rattle.sheet.specs.Hits.{Hit as RowHit}
 
--- the types that were read
-pub record WholeIs (w : Types) (count end : ℕ) : Type 0 where
+-- the types that were read, and p, their mark
+pub record WholeIs (w : Types) (p : Bool) (count end : ℕ) (padded : Bool) : Type 0 where
   pub types : List ℕ
   pub is : w ≡ read types end
   pub counts : length types ≡ count
+  pub marks : p ≡ padded
 
-abbrev pub TypesAre : Types → TypesRead → Type 0
-TypesAre w (Whole count end) = WholeIs w count end
-TypesAre w Cut = w ≡ cut
+abbrev pub TypesAre : Types → Bool → TypesRead → Type 0
+TypesAre w p (Whole count end padded) = WholeIs w p count end padded
+TypesAre w p Cut = w ≡ cut
 
 -- so many types that stand one behind the other
 abbrev pub kindOn : Varint → (ℕ → List ℕ) → List ℕ
@@ -38,7 +40,7 @@ kindsAt (suc n) s at = kindOn (varintAt s at) (λ next. kindsAt n s next)
 
 -- the row that a find is
 abbrev pub foundIn : List ℕ → Find → Found
-foundIn s x = record { style = x .style; at = x .at; start = x .start; types = kindsAt (x .count) s (x .from) }
+foundIn s x = record { style = x .style; at = x .at; start = x .start; types = kindsAt (x .count) s (x .from); padded = x .padded }
 
 -- its bodies start in the slice, not before the row, and its columns are no more than there may be
 pub record FindFits (s : List ℕ) (columns : ℕ) (x : Find) : Type 0 where

@@ -8,6 +8,7 @@ use lib.Ieee.{binary32, ofBits}
 use lib.ListN.{length}
 use Rattle.modes.specs.Found.{Types, cut, read, typesFrom, Found, Tried, miss, hit, endOf, foundHits}
 use Rattle.modes.specs.declared.inner.Style.{Style}
+use Rattle.record.specs.Places.{typesPadded, headerPadded}
 use Rattle.record.specs.Varint.{varintAt}
 use Rattle.record.specs.declared.varint.Varint.{Varint}
 use Rattle.record.specs.declared.varint.Varint.the-variants.{Value, Short}
@@ -31,34 +32,36 @@ firstColMissing = record { source = Freelist; confidence = ofBits binary32 0x3e9
 -- ---- one row
 
 -- a row has one type at the least
-abbrev pub rowOf : Style → ℕ → ℕ → List ℕ → Tried
-rowOf style o start [] = miss
-rowOf style o start (t ∷ ts) = hit (record { style = style; at = o; start = start; types = t ∷ ts })
+abbrev pub rowOf : Style → ℕ → ℕ → Bool → List ℕ → Tried
+rowOf style o start p [] = miss
+rowOf style o start p (t ∷ ts) = hit (record { style = style; at = o; start = start; types = t ∷ ts; padded = p })
 
 -- Rule 12.5: a header's length h, read at o in `own` bytes, is no less than those and no more than the bytes from o
 abbrev pub lengthFits : ℕ → ℕ → ℕ → ℕ → Bool
 lengthFits len o own h = leb own h && leb h (len - o)
 
 -- Rule 12.5, Normal: the header's length leads, its types stand behind that, and the bodies start at the header's end
-abbrev pub headedRow : ℕ → ℕ → Types → Tried
-headedRow o h cut = miss
-headedRow o h (read ts end) = rowOf normal o (o + h) ts
+abbrev pub headedRow : ℕ → ℕ → Bool → Types → Tried
+headedRow o h p cut = miss
+headedRow o h p (read ts end) = rowOf normal o (o + h) p ts
 
 abbrev pub normalWith : List ℕ → ℕ → ℕ → Varint → Tried
 normalWith s columns o (Value h c) =
-    cond (lengthFits (length s) o (c .at - o) h) (headedRow o h (typesFrom columns s (c .at) (o + h))) miss
+    cond (lengthFits (length s) o (c .at - o) h)
+    (headedRow o h (headerPadded columns s c (o + h)) (typesFrom columns s (c .at) (o + h)))
+    miss
 normalWith s columns o Short = miss
 
 unfoldable pub normalAt : List ℕ → ℕ → ℕ → Tried
 normalAt s columns o = normalWith s columns o (varintAt s o)
 
 -- Rule 12.6, the other two: types stand from a place on, and the bodies start where the last of them ends; the row is at the slice's start
-abbrev pub headlessRow : Style → Types → Tried
-headlessRow style cut = miss
-headlessRow style (read ts end) = rowOf style 0 end ts
+abbrev pub headlessRow : Style → Bool → Types → Tried
+headlessRow style p cut = miss
+headlessRow style p (read ts end) = rowOf style 0 end p ts
 
 unfoldable pub headlessIn : Style → List ℕ → ℕ → ℕ → Tried
-headlessIn style s from most = headlessRow style (typesFrom most s from (length s))
+headlessIn style s from most = headlessRow style (typesPadded most s from (length s)) (typesFrom most s from (length s))
 
 -- Rule 12.6, ColumnsOnly: from the first byte on
 abbrev pub columnsOnlyIn : List ℕ → ℕ → Tried

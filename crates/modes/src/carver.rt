@@ -69,7 +69,10 @@ fn try_carve_normal(bytes: &[u8], columns: usize, o: usize) -> Tried
     requires { ⌜ (o ≤ length (now bytes)) × (length (now bytes) ≤ largestRegion) ⌝ }
     ensures { λ r. ⌜ TriedIs (now (bytes .entry)) columns (normalAt (now (bytes .entry)) columns o) r ⌝ }
 {
-    let c = Cursor { at: o };
+    let c = Cursor {
+        at: o,
+        padded: false,
+    };
     let Varint::Value(h, next) = c.header_length(bytes) else {
         return Tried::Miss;
     };
@@ -82,7 +85,7 @@ fn try_carve_normal(bytes: &[u8], columns: usize, o: usize) -> Tried
         return Tried::Miss;
     }
     let start = o + head;
-    let TypesRead::Whole { count, .. } = read_types(bytes, from, start, columns) else {
+    let TypesRead::Whole { count, padded, .. } = read_types(bytes, from, start, columns) else {
         return Tried::Miss;
     };
     if count == 0 {
@@ -94,6 +97,7 @@ fn try_carve_normal(bytes: &[u8], columns: usize, o: usize) -> Tried
         from,
         count,
         start,
+        padded: next.padded | padded,
     })
 }
 
@@ -102,7 +106,7 @@ fn try_headless(bytes: &[u8], style: Style, from: usize, most: usize) -> Tried
     requires { ⌜ (from ≤ length (now bytes)) × (length (now bytes) ≤ largestRegion) × (style .lost ≤ 1) ⌝ }
     ensures { λ r. ⌜ TriedIs (now (bytes .entry)) (most + style .lost) (headlessIn style (now (bytes .entry)) from most) r ⌝ }
 {
-    let TypesRead::Whole { count, end } = read_types(bytes, from, bytes.len(), most) else {
+    let TypesRead::Whole { count, end, padded } = read_types(bytes, from, bytes.len(), most) else {
         return Tried::Miss;
     };
     if count == 0 {
@@ -114,6 +118,7 @@ fn try_headless(bytes: &[u8], style: Style, from: usize, most: usize) -> Tried
         from,
         count,
         start: end,
+        padded,
     })
 }
 

@@ -18,6 +18,7 @@ ghost use lib.ListN.{length};
 ghost use lib.Seq.{sets};
 ghost use Rattle.modes.specs.Found.{typesFrom, columnAt, behind as behindOf, columnsFrom, endFrom, lostColumns, endOf, foundHit};
 ghost use Rattle.modes.specs.Inner.{kindsAt, TypesAre, foundIn, Fitting};
+ghost use Rattle.record.specs.Places.{typesPadded};
 ghost use Rattle.sheet.specs.Limits.{wordsPerRow, wordsPerEntry, largestRegion};
 ghost use Rattle.sheet.specs.Row.{rowWords};
 ghost use Rattle.sheet.specs.Sheet.{columnsWords};
@@ -32,13 +33,15 @@ pub struct Style {
     pub lost: usize,
 }
 
-// A row that was found: its place, where its types start and how many there are, and where its bodies start.
+// A row that was found: its place, where its types start and how many there are, where its bodies start, and whether a number of its
+// header is padded.
 pub struct Find {
     pub style: Style,
     pub at: usize,
     pub from: usize,
     pub count: usize,
     pub start: usize,
+    pub padded: bool,
 }
 
 pub enum Tried {
@@ -47,30 +50,44 @@ pub enum Tried {
 }
 
 pub enum TypesRead {
-    // How many there are, and where reading them ended.
-    Whole { count: usize, end: usize },
+    // How many there are, where reading them ended, and whether one is padded.
+    Whole {
+        count: usize,
+        end: usize,
+        padded: bool,
+    },
     // A type runs off the slice.
     Cut,
 }
 
 // Reads types from a place on, while the place is below `stop`.
 pub fn read_types(bytes: &[u8], from: usize, stop: usize, most: usize) -> TypesRead
-    ensures { λ r. ⌜ TypesAre (typesFrom most (now (bytes .entry)) from stop) r ⌝ }
+    ensures { λ r. ⌜ TypesAre (typesFrom most (now (bytes .entry)) from stop) (typesPadded most (now (bytes .entry)) from stop) r ⌝ }
 {
     let mut at = from;
+    let mut padded = false;
     let mut count: usize = 0;
     while count < most {
         if at >= stop {
-            return TypesRead::Whole { count, end: at };
+            return TypesRead::Whole {
+                count,
+                end: at,
+                padded,
+            };
         }
-        let c = Cursor { at };
+        let c = Cursor { at, padded: false };
         let Varint::Value(_, next) = c.serial_type(bytes) else {
             return TypesRead::Cut;
         };
         count = count + 1;
+        padded = padded | next.padded;
         at = next.at;
     }
-    TypesRead::Whole { count, end: at }
+    TypesRead::Whole {
+        count,
+        end: at,
+        padded,
+    }
 }
 
 // The column of a type whose body would stand at a place of a slice of `len` bytes.
@@ -125,7 +142,7 @@ fn put_bodies(
     let mut to = k;
     let mut left = count;
     while left > 0 {
-        let c = Cursor { at };
+        let c = Cursor { at, padded: false };
         let Varint::Value(kind, next) = c.serial_type(bytes) else {
             return end;
         };
@@ -185,6 +202,7 @@ pub fn put_find(
         confidence: style.confidence,
         mode,
         table: 0,
+        padded: find.padded,
     };
     put_row(rows, n, row);
     end

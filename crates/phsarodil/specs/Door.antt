@@ -19,10 +19,10 @@ use Rattle.page.specs.declared.btree.Paged.{Paged}
 use Rattle.page.specs.declared.btree.Paged.the-variants.{At, Refused}
 use Rattle.tagged.specs.Tagged.{tagOf, bitsOf}
 
--- phs_read_varint: found, value, bytes taken
+-- phs_read_varint: found, value, bytes taken, padded
 abbrev pub varintWords : Read → List ℕ
-varintWords (Number v n) = 1 ∷ v ∷ n ∷ []
-varintWords Short = 0 ∷ 0 ∷ 0 ∷ []
+varintWords (Number v n padded) = 1 ∷ v ∷ n ∷ cond padded 1 0 ∷ []
+varintWords Short = 0 ∷ 0 ∷ 0 ∷ 0 ∷ []
 
 -- phs_body_length: known, length
 abbrev pub lengthWords : Length → List ℕ

@@ -4,4 +4,4 @@
 use Prim.Native.Nat.{ℕ}
 
 abbrev pub doorVersion : ℕ
-doorVersion = 2
+doorVersion = 3

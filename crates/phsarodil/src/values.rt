@@ -17,15 +17,15 @@ ghost use Rattle.record.specs.Value.{bodyLength, decodeAt};
 ghost use Rattle.record.specs.Varint.{readVarint};
 
 #[no_mangle]
-pub extern "C" fn phs_read_varint(bytes: &[u8], offset: usize, out: &mut [u64; 3]) -> u64
+pub extern "C" fn phs_read_varint(bytes: &[u8], offset: usize, out: &mut [u64; 4]) -> u64
     ensures number { λ r. ⌜ r ≡ 0 ⌝ }
     ensures out { λ _. ⌜ now (out .exit) ≡ varintWords (readVarint (now (bytes .entry)) offset) ⌝ }
 {
-    let Read::Number(value, n) = read_varint(bytes, offset) else {
-        *out = [0, 0, 0];
+    let Read::Number(value, n, padded) = read_varint(bytes, offset) else {
+        *out = [0, 0, 0, 0];
         return 0;
     };
-    *out = [1, value, n as u64];
+    *out = [1, value, n as u64, padded as u64];
     0
 }
 

@@ -101,7 +101,7 @@ fn say_columns(out: Output, bytes: &[u8], from: usize, header: usize) -> Output
     let mut at = from;
     let mut body = header;
     while at < header {
-        let c = Cursor { at };
+        let c = Cursor { at, padded: false };
         let Varint::Value(kind, next) = c.serial_type(bytes) else {
             return out.say(b"cut off\n");
         };
@@ -114,7 +114,10 @@ fn say_columns(out: Output, bytes: &[u8], from: usize, header: usize) -> Output
 }
 
 fn say_record(out: Output, bytes: &[u8]) -> Output {
-    let c = Cursor { at: 0 };
+    let c = Cursor {
+        at: 0,
+        padded: false,
+    };
     let Varint::Value(header, next) = c.header_length(bytes) else {
         return out.say(b"no header\n");
     };

@@ -8,7 +8,7 @@ use lib.Dec.{leb}
 use lib.ListN.{length, drop}
 use Rattle.attempt.specs.Attempt.{Types, ended, cut, kind, typesFrom, Tried, miss, hit, attemptAt}
 use Rattle.attempt.specs.Moved.{back}
-use Rattle.attempt.specs.Places.{typePlaces}
+use Rattle.record.specs.Places.{typePlaces}
 use Rattle.rebuild.specs.declared.rebuilding.Rebuilding.{Rebuilding}
 use Rattle.rebuild.specs.declared.rebuilding.Rebuilding.the-variants.{OneByte, Exact}
 use Rattle.sheet.specs.Limits.{mostColumns}
@@ -67,7 +67,7 @@ guessed Exact d columns v = takenFrom v (exactTypes d columns v)
 -- what was found behind k made-up bytes, said of the bytes without them
 abbrev pub without : ℕ → Tried → Tried
 without k miss = miss
-without k (hit x) = hit (record { consumed = x .consumed - k; matched = x .matched; columns = back k (x .columns) })
+without k (hit x) = hit (record { consumed = x .consumed - k; matched = x .matched; columns = back k (x .columns); padded = x .padded })
 
 -- Rules 11.6 and 11.9: an attempt on the header's length, which is made up, before the bytes from v on
 abbrev pub rebuiltWith : List ℕ → List ℕ → ℕ → Guess → Tried

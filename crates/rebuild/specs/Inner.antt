@@ -1,8 +1,8 @@
 -- What the code carries between its own functions; nothing that a caller has to believe.
 -- Assumes nothing.
-use Prim.Native.Nat.{ℕ, _+_, _<_, _≤_}
+use Prim.Native.Nat.{ℕ, suc, _+_, _<_, _≤_}
 use mathlib.Core.Path.{_≡_}
-use mathlib.Core.Bool.{cond}
+use mathlib.Core.Bool.{Bool, cond}
 use mathlib.Core.List.{List}
 use lib.Dec.{leb}
 use lib.ListN.{length}
@@ -12,6 +12,7 @@ use Rattle.attempt.specs.declared.inner.Find.{Find}
 use Rattle.attempt.specs.declared.inner.Verdict.{Verdict}
 use Rattle.attempt.specs.declared.inner.Verdict.the-variants.{Hit, Miss}
 use Rattle.rebuild.specs.Header.{mostTypeBytes, exactTypes, rebuilt}
+use Rattle.record.specs.Places.{typesPadded}
 use Rattle.rebuild.specs.declared.inner.columns.Columns.{Columns}
 use Rattle.rebuild.specs.declared.inner.columns.Columns.the-variants.{Take, Nothing as NoColumns}
 use Rattle.rebuild.specs.declared.inner.Rebuilt.{Rebuilt}
@@ -19,19 +20,25 @@ use Rattle.rebuild.specs.declared.inner.Rebuilt.the-variants.{Found as R
 use Rattle.rebuild.specs.declared.rebuilding.Rebuilding.{Rebuilding}
 use Rattle.rebuild.specs.declared.rebuilding.Rebuilding.the-variants.{Exact}
 
--- as many types as hints from v on, of no more than 510 bytes: how many suit, the length of their bodies, and where they end
-pub record Taken (d hints : List ℕ) (v matched total end : ℕ) : Type 0 where
-  pub whole : WholeIs d hints (exactTypes d (length hints) v) (length hints) matched total end
+-- whether one of them is padded
+abbrev pub exactPadded : List ℕ → ℕ → ℕ → Bool
+exactPadded d columns v = typesPadded columns d v (v + suc mostTypeBytes)
+
+-- as many types as hints from v on, of no more than 510 bytes: how many suit, the length of their bodies, where they end, and whether one
+-- is padded
+pub record Taken (d hints : List ℕ) (v matched total end : ℕ) (padded : Bool) : Type 0 where
+  pub whole : WholeIs d hints (exactTypes d (length hints) v) (exactPadded d (length hints) v) (length hints) matched total end padded
   pub past : v < end
   pub near : end ≤ v + mostTypeBytes
 
 abbrev pub ColumnsIs : List ℕ → List ℕ → ℕ → Columns → Type 0
-ColumnsIs d hints v (Take matched total end) = Taken d hints v matched total end
+ColumnsIs d hints v (Take matched total end padded) = Taken d hints v matched total end padded
 ColumnsIs d hints v NoColumns = rebuilt Exact d hints v ≡ miss
 
 -- a row that was found at v, said of the bytes from v on
 abbrev pub foundFrom : List ℕ → ℕ → Find → Found
-foundFrom d v x = record { consumed = x .consumed; matched = x .matched; columns = columnsAt (x .head) (kinds (findTypes d v x)) }
+foundFrom d v x =
+    record { consumed = x .consumed; matched = x .matched; columns = columnsAt (x .head) (kinds (findTypes d v x)); padded = x .padded }
 
 -- with its made-up bytes it takes no more than a row may
 abbrev pub shortBy : ℕ → Verdict → Rebuilt

@@ -10,6 +10,7 @@ use attempt::inner::MOST_BYTES;
 use attempt::inner::Verdict;
 use attempt::inner::given_header;
 use attempt::inner::judge;
+use record::varint::Cursor;
 ghost use mathlib.Core.Path.{_≡_};
 ghost use Prim.Native.Nat.{_≤_};
 ghost use lib.ListN.{length};
@@ -55,7 +56,14 @@ fn one_byte(payload: &[u8], hints: &[u8], v: usize) -> Rebuilt
     if types > payload.len() - v {
         return Rebuilt::Nothing;
     }
-    short_by(own_bytes(types), given_header(payload, hints, v, types, v))
+    let from = Cursor {
+        at: v,
+        padded: false,
+    };
+    short_by(
+        own_bytes(types),
+        given_header(payload, hints, v, types, from),
+    )
 }
 
 fn exact(payload: &[u8], hints: &[u8], v: usize) -> Rebuilt
@@ -67,14 +75,19 @@ fn exact(payload: &[u8], hints: &[u8], v: usize) -> Rebuilt
         matched,
         total,
         end,
+        padded,
     } = walk_columns(payload, hints, v)
     else {
         return Rebuilt::Nothing;
     };
     let types = end - v;
+    let from = Cursor {
+        at: v,
+        padded: false,
+    };
     short_by(
         own_bytes(types),
-        judge(payload, hints, v, types, v, matched, total, end),
+        judge(payload, hints, v, types, from, matched, total, end, padded),
     )
 }
 

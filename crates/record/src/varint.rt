@@ -1,11 +1,13 @@
 // Varints, read at a cursor that goes in by value and comes back behind what it read.
 use crate::inner::wide;
 ghost use mathlib.Core.Path.{_≡_};
-ghost use Rattle.record.specs.Varint.{varintAt, readVarint};
+ghost use Rattle.record.specs.Varint.{widthOf, varintAt, readVarint};
 
-// A place in a slice that stands beside it.
+// A place in a slice that stands beside it, and whether the number that was read before it is padded: longer than its shortest form. Where
+// none was read, it is not.
 pub struct Cursor {
     pub at: usize,
+    pub padded: bool,
 }
 
 pub enum Varint {
@@ -16,9 +18,25 @@ pub enum Varint {
 }
 
 pub enum Read {
-    // The value, and how many bytes it takes.
-    Number(u64, usize),
+    // The value, how many bytes it takes, and whether it is padded.
+    Number(u64, usize, bool),
     Nothing,
+}
+
+// From here on a number takes nine bytes, the last of which has eight bits.
+const NINE_BYTES_FROM: u64 = 1 << 56;
+
+// The bytes of a number's shortest form, by its highest set bit. 0 has none, and takes one byte.
+fn width_of(v: u64) -> u64
+    ensures { λ r. ⌜ r ≡ widthOf v ⌝ }
+{
+    if v >= NINE_BYTES_FROM {
+        return 9;
+    }
+    if v == 0 {
+        return 1;
+    }
+    1 + (63 - u64::leading_zeros(v) as u64) / 7
 }
 
 impl Cursor {
@@ -35,7 +53,14 @@ impl Cursor {
             let b = wide(bytes[at]);
             at = at + 1;
             if b < 128 {
-                return Varint::Value(v * 128 + b, Cursor { at });
+                let value = v * 128 + b;
+                return Varint::Value(
+                    value,
+                    Cursor {
+                        at,
+                        padded: width_of(value) < n + 1,
+                    },
+                );
             }
             v = v * 128 + b % 128;
             n = n + 1;
@@ -43,7 +68,14 @@ impl Cursor {
         if bytes.len() <= at {
             return Varint::Short;
         }
-        Varint::Value(v * 256 + wide(bytes[at]), Cursor { at: at + 1 })
+        let value = v * 256 + wide(bytes[at]);
+        Varint::Value(
+            value,
+            Cursor {
+                at: at + 1,
+                padded: width_of(value) < 9,
+            },
+        )
     }
 
     // The same, at once where it is one byte.
@@ -54,7 +86,13 @@ impl Cursor {
         if at < bytes.len() {
             let first = wide(bytes[at]);
             if first < 128 {
-                return Varint::Value(first, Cursor { at: at + 1 });
+                return Varint::Value(
+                    first,
+                    Cursor {
+                        at: at + 1,
+                        padded: false,
+                    },
+                );
             }
         }
         self.varint(bytes)
@@ -78,9 +116,12 @@ impl Cursor {
 pub fn read_varint(bytes: &[u8], offset: usize) -> Read
     ensures { λ r. ⌜ r ≡ readVarint (now (bytes .entry)) offset ⌝ }
 {
-    let c = Cursor { at: offset };
+    let c = Cursor {
+        at: offset,
+        padded: false,
+    };
     match c.varint(bytes) {
-        Varint::Value(v, next) => Read::Number(v, next.at - offset),
+        Varint::Value(v, next) => Read::Number(v, next.at - offset, next.padded),
         Varint::Short => Read::Nothing,
     }
 }

@@ -54,6 +54,7 @@ rowOf base columns o x =
       confidence = share (x .matched) columns;
       mode = Plain;
       table = 0;
+      padded = x .padded;
     }
 
 abbrev pub rowsOf : ℕ → ℕ → Run → List Row

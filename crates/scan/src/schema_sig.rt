@@ -123,6 +123,7 @@ fn put_found(
         confidence: suited_share(find.matched, columns as u16),
         mode: Mode::Plain,
         table: 0,
+        padded: find.padded,
     };
     put_row(rows, n, row);
     put_columns(

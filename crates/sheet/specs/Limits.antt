@@ -11,7 +11,7 @@ mostColumns = 510
 
 -- the words of a row
 abbrev pub wordsPerRow : ℕ
-wordsPerRow = 8
+wordsPerRow = 9
 
 -- the words of a column entry
 abbrev pub wordsPerEntry : ℕ

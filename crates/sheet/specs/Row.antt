@@ -1,6 +1,7 @@
--- The eight words of a row.
+-- The nine words of a row.
 -- Assumes nothing.
 use Prim.Native.Nat.{ℕ, _+_, _*_}
+use mathlib.Core.Bool.{cond}
 use mathlib.Core.List.{List, [], _∷_}
 use lib.Ieee.{binary32, toBits}
 use Rattle.sheet.specs.declared.row.Mode.{Mode}
@@ -42,7 +43,8 @@ modeCode Normal = 1
 modeCode ColumnsOnly = 2
 modeCode FirstColMissing = 3
 
--- Rule 5.1: offset, bytes consumed, row id present, row id, source, percent, confidence bits, mode plus 4 times the table's index
+-- Rule 5.1: offset, bytes consumed, row id present, row id, source, percent, confidence bits, mode plus 4 times the table's index, and
+-- whether a number of its header is padded: 1 or 0
 unfoldable pub rowWords : Row → List ℕ
 rowWords r =
     r .offset
@@ -53,4 +55,5 @@ rowWords r =
     ∷ sourcePercent (r .source)
     ∷ toBits binary32 (r .confidence)
     ∷ (modeCode (r .mode) + 4 * r .table)
+    ∷ cond (r .padded) 1 0
     ∷ []

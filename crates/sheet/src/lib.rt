@@ -13,7 +13,7 @@ pub mod slice;
 // The numbers that the paper fixes.
 pub const MOST_COLUMNS: usize = 510;
 
-pub const WORDS_PER_ROW: usize = 8;
+pub const WORDS_PER_ROW: usize = 9;
 
 pub const WORDS_PER_ENTRY: usize = 4;
 // In bytes.

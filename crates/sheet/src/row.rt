@@ -1,4 +1,4 @@
-// A row that was found, and the eight words that say it in a lent list.
+// A row that was found, and the nine words that say it in a lent list.
 use crate::WORDS_PER_ROW;
 ghost use mathlib.Core.Path.{_≡_};
 ghost use Prim.Native.Nat.{_+_, _*_, _≤_};
@@ -37,6 +37,8 @@ pub struct Row {
     pub mode: Mode,
     // A u16, so that four times it fits a word.
     pub table: u16,
+    // Whether a number of its header is padded, which SQLite's are not.
+    pub padded: bool,
 }
 
 fn presence_of(id: RowId) -> u64
@@ -125,5 +127,6 @@ pub fn words(row: Row) -> [u64; WORDS_PER_ROW]
         percent,
         confidence,
         mode_word(mode, row.table),
+        row.padded as u64,
     ]
 }

@@ -2,7 +2,7 @@
 -- Assumes nothing.
 use Prim.Native.Nat.{ℕ, _≤_}
 use mathlib.Core.Path.{_≡_}
-use mathlib.Core.Bool.{true, false, cond}
+use mathlib.Core.Bool.{Bool, true, false, cond}
 use mathlib.Core.List.{List}
 use lib.ListN.{length, getD}
 use Rattle.modes.specs.Found.{Types, cut, read, columnsFrom}
@@ -22,8 +22,8 @@ pub record Headed (s ls : List ℕ) (from stop : ℕ) : Type 0 where
   pub inside : from ≤ length s
   pub within : stop ≤ length s
 
--- types of which each has its body, and so many match
-pub record AllIs (s ls : List ℕ) (stop : ℕ) (w : Types) (count n : ℕ) : Type 0 where
+-- types of which each has its body, so many match, and p is the mark
+pub record AllIs (s ls : List ℕ) (stop : ℕ) (w : Types) (p : Bool) (count n : ℕ) (padded : Bool) : Type 0 where
   pub types : List ℕ
   pub end : ℕ
   pub is : w ≡ read types end
@@ -31,12 +31,13 @@ pub record AllIs (s ls : List ℕ) (stop : ℕ) (w : Types) (count n : ℕ) : Ty
   pub matches-are : matched ls types ≡ n
   pub there : allThere (columnsFrom (length s) stop types) ≡ true
   pub few : n ≤ count
+  pub marks : p ≡ padded
 
 -- types that run off, or one of which has no body
 abbrev pub FailsIs : List ℕ → ℕ → Types → Type 0
 FailsIs s stop cut = Unit
 FailsIs s stop (read ts end) = allThere (columnsFrom (length s) stop ts) ≡ false
 
-abbrev pub ReadingIs : List ℕ → List ℕ → ℕ → Types → Reading → Type 0
-ReadingIs s ls stop w (Whole count n) = AllIs s ls stop w count n
-ReadingIs s ls stop w Fails = FailsIs s stop w
+abbrev pub ReadingIs : List ℕ → List ℕ → ℕ → Types → Bool → Reading → Type 0
+ReadingIs s ls stop w p (Whole count n padded) = AllIs s ls stop w p count n padded
+ReadingIs s ls stop w p Fails = FailsIs s stop w

@@ -8,6 +8,7 @@ use lib.ListN.{length}
 use Rattle.modes.specs.Found.{Types, cut, read, typesFrom, columnsFrom, Found, Tried, miss, hit, endOf, foundHits}
 use Rattle.modes.specs.Modes.{lengthFits}
 use Rattle.modes.specs.declared.inner.Style.{Style}
+use Rattle.record.specs.Places.{headerPadded}
 use Rattle.record.specs.Varint.{varintAt}
 use Rattle.record.specs.declared.varint.Varint.{Varint}
 use Rattle.record.specs.declared.varint.Varint.the-variants.{Value, Short}
@@ -68,20 +69,22 @@ allThere (c ∷ cs) = isThere c && allThere cs
 
 -- Rule 14.3: of types in a header of h bytes at o, one matches, so there is one at the least, and every body fits; the bodies start at
 -- the header's end
-unfoldable pub judged : List ℕ → List ℕ → ℕ → ℕ → List ℕ → Tried
-judged s ls o h ts =
+unfoldable pub judged : List ℕ → List ℕ → ℕ → ℕ → Bool → List ℕ → Tried
+judged s ls o h p ts =
     cond (ltb 0 (matched ls ts) && allThere (columnsFrom (length s) (o + h) ts))
-    (hit (record { style = learnedStyle (matched ls ts) (length ls); at = o; start = o + h; types = ts }))
+    (hit (record { style = learnedStyle (matched ls ts) (length ls); at = o; start = o + h; types = ts; padded = p }))
     miss
 
-abbrev pub judgedTypes : List ℕ → List ℕ → ℕ → ℕ → Types → Tried
-judgedTypes s ls o h cut = miss
-judgedTypes s ls o h (read ts end) = judged s ls o h ts
+abbrev pub judgedTypes : List ℕ → List ℕ → ℕ → ℕ → Bool → Types → Tried
+judgedTypes s ls o h p cut = miss
+judgedTypes s ls o h p (read ts end) = judged s ls o h p ts
 
 -- Rule 14.3: the types stand behind the header's length, up to the header's end, and no more are read than were learned
 abbrev pub attemptWith : List ℕ → List ℕ → ℕ → Varint → Tried
 attemptWith s ls o (Value h c) =
-    cond (headerFits (length s) o (c .at - o) h) (judgedTypes s ls o h (typesFrom (length ls) s (c .at) (o + h))) miss
+    cond (headerFits (length s) o (c .at - o) h)
+    (judgedTypes s ls o h (headerPadded (length ls) s c (o + h)) (typesFrom (length ls) s (c .at) (o + h)))
+    miss
 attemptWith s ls o Short = miss
 
 unfoldable pub attemptAt : List ℕ → List ℕ → ℕ → Tried

@@ -24,6 +24,7 @@ ghost use Prim.Native.Nat.{_≤_, _<_};
 ghost use lib.ListN.{length};
 ghost use Rattle.modes.specs.Found.{typesFrom, foundHits};
 ghost use Rattle.modes.specs.Inner.{TriedIs, Ready};
+ghost use Rattle.record.specs.Places.{typesPadded};
 ghost use Rattle.sheet.specs.Hits.{FillsRows, rowOutcome};
 ghost use Rattle.sheet.specs.Inner.{carvedAs, Carves};
 ghost use Rattle.sheet.specs.Limits.{mostColumns, largestRegion};
@@ -31,9 +32,13 @@ ghost use Rattle.unalloc.specs.Inner.{matchesAt, Headed, ReadingIs};
 ghost use Rattle.unalloc.specs.Learned.{isInteger, isText, isBlob, matches, learnedStyle, isThere, attemptAt, rowsFound};
 ghost use Rattle.unalloc.specs.Learned.{learnedFilling};
 
-// What the types of a header come to: how many there are, and how many match.
+// What the types of a header come to: how many there are, how many match, and whether one is padded.
 enum Reading {
-    Whole { count: usize, matched: usize },
+    Whole {
+        count: usize,
+        matched: usize,
+        padded: bool,
+    },
     // A type runs off the region, or a body does not fit.
     Fails,
 }
@@ -104,17 +109,23 @@ fn is_there(column: Column) -> bool
 fn read_and_match(region: &[u8], types: &[u64], from: usize, stop: usize) -> Reading
     requires { ⌜ Headed (now region) (now types) from stop ⌝ }
     ensures { λ r. ⌜ ReadingIs (now (region .entry)) (now (types .entry)) stop
-        (typesFrom (length (now (types .entry))) (now (region .entry)) from stop) r ⌝ }
+        (typesFrom (length (now (types .entry))) (now (region .entry)) from stop)
+        (typesPadded (length (now (types .entry))) (now (region .entry)) from stop) r ⌝ }
 {
     let mut at = from;
+    let mut padded = false;
     let mut end = stop;
     let mut count: usize = 0;
     let mut matched: usize = 0;
     while count < types.len() {
         if at >= stop {
-            return Reading::Whole { count, matched };
+            return Reading::Whole {
+                count,
+                matched,
+                padded,
+            };
         }
-        let c = Cursor { at };
+        let c = Cursor { at, padded: false };
         let Varint::Value(kind, next) = c.serial_type(region) else {
             return Reading::Fails;
         };
@@ -125,9 +136,14 @@ fn read_and_match(region: &[u8], types: &[u64], from: usize, stop: usize) -> Rea
         matched = matched + matches_at(types, count, kind);
         end = behind(end, column);
         count = count + 1;
+        padded = padded | next.padded;
         at = next.at;
     }
-    Reading::Whole { count, matched }
+    Reading::Whole {
+        count,
+        matched,
+        padded,
+    }
 }
 
 // What is said of a row of which so many types match.
@@ -150,7 +166,10 @@ fn try_parse_record(region: &[u8], types: &[u64], o: usize) -> Tried
     ensures { λ r. ⌜ TriedIs (now (region .entry)) (length (now (types .entry)))
         (attemptAt (now (region .entry)) (now (types .entry)) o) r ⌝ }
 {
-    let c = Cursor { at: o };
+    let c = Cursor {
+        at: o,
+        padded: false,
+    };
     let Varint::Value(h, next) = c.header_length(region) else {
         return Tried::Miss;
     };
@@ -166,7 +185,12 @@ fn try_parse_record(region: &[u8], types: &[u64], o: usize) -> Tried
         return Tried::Miss;
     }
     let start = o + head;
-    let Reading::Whole { count, matched } = read_and_match(region, types, from, start) else {
+    let Reading::Whole {
+        count,
+        matched,
+        padded,
+    } = read_and_match(region, types, from, start)
+    else {
         return Tried::Miss;
     };
     if matched == 0 {
@@ -178,6 +202,7 @@ fn try_parse_record(region: &[u8], types: &[u64], o: usize) -> Tried
         from,
         count,
         start,
+        padded: next.padded | padded,
     })
 }
 

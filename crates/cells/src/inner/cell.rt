@@ -37,7 +37,10 @@ fn cell_at(payload: &[u8], hints: &[u8], pos: usize) -> Cell
     requires { ⌜ length (now payload) ≤ largestRegion ⌝ }
     ensures { λ r. ⌜ CellIs (now (payload .entry)) (now (hints .entry)) pos r ⌝ }
 {
-    let c = Cursor { at: pos };
+    let c = Cursor {
+        at: pos,
+        padded: false,
+    };
     let Varint::Value(len, next) = c.often_short(payload) else {
         return Cell::Nothing;
     };
@@ -104,6 +107,7 @@ fn carve_place(
         consumed: find.consumed,
         matched: find.matched,
         read: find.read,
+        padded: find.padded,
     };
     let columns = hints.len();
     let confidence = suited_share(find.matched, columns as u16);

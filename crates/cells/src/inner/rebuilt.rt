@@ -63,6 +63,7 @@ fn carve_start(
         consumed: find.consumed,
         matched: find.matched,
         read: find.read,
+        padded: find.padded,
     };
     let columns = hints.len();
     let confidence = rebuilt(suited_share(find.matched, columns as u16));

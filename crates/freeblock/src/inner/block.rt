@@ -76,6 +76,7 @@ fn carve_payload(
         consumed: find.consumed,
         matched: find.matched,
         read: find.read,
+        padded: find.padded,
     };
     let columns = hints.len();
     let origin = Origin {

@@ -12,11 +12,12 @@ ghost use Rattle.sheet.specs.Limits.{largestRegion, mostColumns};
 const MOST_TYPE_BYTES: usize = 510;
 
 pub enum Columns {
-    // How many types suit, the length of all bodies, and where the last type ends.
+    // How many types suit, the length of all bodies, where the last type ends, and whether one is padded.
     Take {
         matched: u16,
         total: usize,
         end: usize,
+        padded: bool,
     },
     // A type or a body runs off the payload, or the types take too many bytes.
     Nothing,
@@ -29,6 +30,7 @@ pub fn walk_columns(payload: &[u8], hints: &[u8], v: usize) -> Columns
 {
     let last = v + MOST_TYPE_BYTES;
     let mut at = v;
+    let mut padded = false;
     let mut count: usize = 0;
     let mut matched: u16 = 0;
     let mut total: usize = 0;
@@ -36,13 +38,14 @@ pub fn walk_columns(payload: &[u8], hints: &[u8], v: usize) -> Columns
         if at > last {
             return Columns::Nothing;
         }
-        let c = Cursor { at };
+        let c = Cursor { at, padded: false };
         let Varint::Value(kind, next) = c.serial_type(payload) else {
             return Columns::Nothing;
         };
         matched = matched + suits_at(hints, count, kind);
         total = add_body(total, kind);
         count = count + 1;
+        padded = padded | next.padded;
         at = next.at;
         // Bodies that pass the payload make no row, whatever types are left.
         if total > payload.len() - at {
@@ -56,5 +59,6 @@ pub fn walk_columns(payload: &[u8], hints: &[u8], v: usize) -> Columns
         matched,
         total,
         end: at,
+        padded,
     }
 }

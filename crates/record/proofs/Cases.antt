@@ -4,12 +4,13 @@ use Prim.Native.Nat.{ℕ, _-_, _^_}
 use mathlib.Core.Path.{_≡_, refl}
 use mathlib.Core.Bool.{true, false}
 use mathlib.Core.List.{List, [], _∷_, _++_, map}
+use lib.Count.{leadingZeros}
 use lib.IntN.{pos, negsuc}
 use lib.Ieee.{nan, inf, fin, ofBits}
 use lib.ListN.{replicate}
 use Rattle.record.specs.Entry.{badWithin, readEntry}
 use Rattle.record.specs.Value.{bodyLength, bigEndian, twosComplement, valueOf, bodyFits, decodeAt}
-use Rattle.record.specs.Varint.{varintFrom, varintAt, readVarint}
+use Rattle.record.specs.Varint.{widthOf, varintFrom, varintAt, readVarint}
 use Rattle.record.specs.declared.entry.Entry.{Entry}
 use Rattle.record.specs.declared.entry.EntryRead.{EntryRead}
 use Rattle.record.specs.declared.entry.EntryRead.the-variants.{Of as Good, Refused}
@@ -46,9 +47,9 @@ words a b c d = record { state = a; kind = b; start = c; len = d }
 -- marked P
 unfoldable pub marked : List Case
 marked =
-    varint (0x81 ∷ 0x00 ∷ []) (Number 128 2)
-    ∷ varint (0x80 ∷ 0x02 ∷ []) (Number 2 2)
-    ∷ varint (replicate 9 0xff) (Number (2 ^ 64 - 1) 9)
+    varint (0x81 ∷ 0x00 ∷ []) (Number 128 2 false)
+    ∷ varint (0x80 ∷ 0x02 ∷ []) (Number 2 2 true)
+    ∷ varint (replicate 9 0xff) (Number (2 ^ 64 - 1) 9 false)
     ∷ varint (0x81 ∷ []) None
     ∷ value 1 (0x80 ∷ []) (Of (Int (negsuc 127)) 1)
     ∷ value 3 (0x80 ∷ 0 ∷ 0 ∷ []) (Of (Int (negsuc 8388607)) 3)
@@ -59,8 +60,8 @@ marked =
 -- from the format's section 1.6 on varints and its table of serial types in section 2.1
 unfoldable pub worked : List Case
 worked =
-    varint (0x7f ∷ []) (Number 127 1)
-    ∷ varint (replicate 8 0x80 ++ (0xff ∷ [])) (Number 255 9)
+    varint (0x7f ∷ []) (Number 127 1 false)
+    ∷ varint (replicate 8 0x80 ++ (0xff ∷ [])) (Number 255 9 true)
     ∷ varint (replicate 8 0xff) None
     ∷ value 0 [] (Of Null 0)
     ∷ value 2 (0x7f ∷ 0xff ∷ []) (Of (Int (pos 32767)) 2)
@@ -79,6 +80,41 @@ worked =
     ∷ value 2 (0x80 ∷ []) Nothing
     ∷ []
 
+-- numbers that are padded and that are not: of each width the first and the last in the bytes that they need, written out
+unfoldable pub shortest : List Case
+shortest =
+    varint (0x00 ∷ []) (Number 0 1 false)
+    ∷ varint (0x7f ∷ []) (Number 127 1 false)
+    ∷ varint (0x81 ∷ 0x00 ∷ []) (Number (2 ^ 7) 2 false)
+    ∷ varint (0xff ∷ 0x7f ∷ []) (Number (2 ^ 14 - 1) 2 false)
+    ∷ varint (0x81 ∷ 0x80 ∷ 0x00 ∷ []) (Number (2 ^ 14) 3 false)
+    ∷ varint (replicate 2 0xff ++ (0x7f ∷ [])) (Number (2 ^ 21 - 1) 3 false)
+    ∷ varint (0x81 ∷ replicate 2 0x80 ++ (0x00 ∷ [])) (Number (2 ^ 21) 4 false)
+    ∷ varint (replicate 3 0xff ++ (0x7f ∷ [])) (Number (2 ^ 28 - 1) 4 false)
+    ∷ varint (0x81 ∷ replicate 3 0x80 ++ (0x00 ∷ [])) (Number (2 ^ 28) 5 false)
+    ∷ varint (replicate 4 0xff ++ (0x7f ∷ [])) (Number (2 ^ 35 - 1) 5 false)
+    ∷ varint (0x81 ∷ replicate 4 0x80 ++ (0x00 ∷ [])) (Number (2 ^ 35) 6 false)
+    ∷ varint (replicate 5 0xff ++ (0x7f ∷ [])) (Number (2 ^ 42 - 1) 6 false)
+    ∷ varint (0x81 ∷ replicate 5 0x80 ++ (0x00 ∷ [])) (Number (2 ^ 42) 7 false)
+    ∷ varint (replicate 6 0xff ++ (0x7f ∷ [])) (Number (2 ^ 49 - 1) 7 false)
+    ∷ varint (0x81 ∷ replicate 6 0x80 ++ (0x00 ∷ [])) (Number (2 ^ 49) 8 false)
+    ∷ varint (replicate 7 0xff ++ (0x7f ∷ [])) (Number (2 ^ 56 - 1) 8 false)
+    ∷ varint (0x80 ∷ 0xc0 ∷ replicate 6 0x80 ++ (0x00 ∷ [])) (Number (2 ^ 56) 9 false)
+    ∷ varint (replicate 9 0xff) (Number (2 ^ 64 - 1) 9 false)
+    ∷ []
+
+-- and in one byte more, and in nine
+unfoldable pub longer : List Case
+longer =
+    varint (0x80 ∷ 0x00 ∷ []) (Number 0 2 true)
+    ∷ varint (0x80 ∷ 0x01 ∷ []) (Number 1 2 true)
+    ∷ varint (0x80 ∷ 0x7f ∷ []) (Number 127 2 true)
+    ∷ varint (0x80 ∷ 0x81 ∷ 0x00 ∷ []) (Number (2 ^ 7) 3 true)
+    ∷ varint (0x80 ∷ replicate 2 0xff ++ (0x7f ∷ [])) (Number (2 ^ 21 - 1) 4 true)
+    ∷ varint (replicate 8 0x80 ++ (0x00 ∷ [])) (Number 0 9 true)
+    ∷ varint (0x80 ∷ 0xbf ∷ replicate 7 0xff) (Number (2 ^ 56 - 1) 9 true)
+    ∷ []
+
 -- entries: read where they stand, refused where they reach one byte further
 unfoldable pub entries : List Case
 entries =
@@ -94,8 +130,8 @@ entries =
     ∷ []
 
 unfoldable pub cases : List Case
-cases = marked ++ worked ++ entries
+cases = marked ++ worked ++ shortest ++ longer ++ entries
 
 pub table : map computed cases ≡ map expected cases
-unfolding cases marked worked entries words computed expected readVarint varintAt varintFrom decodeAt bodyFits bodyLength valueOf twosComplement bigEndian ofBits readEntry badWithin
+unfolding cases marked worked shortest longer entries words computed expected readVarint varintAt varintFrom widthOf leadingZeros decodeAt bodyFits bodyLength valueOf twosComplement bigEndian ofBits readEntry badWithin
 table = refl

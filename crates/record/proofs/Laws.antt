@@ -19,7 +19,7 @@ use borrow.Author.Tests.{lt-ltb, le-ltb, eq-eqb, ne-eqb, ltb-true}
 use Rattle.record.specs.Entry.{bodyState, unusedState, unlike, badWithin, badEntry, readEntry, entryRefusal}
 use Rattle.record.specs.Places.{placesFrom, stopOf, varintPlaces, AgreeAt}
 use Rattle.record.specs.Value.{bodyLength, valueOf, decodeAt}
-use Rattle.record.specs.Varint.{varintFrom, varintAt}
+use Rattle.record.specs.Varint.{widthOf, ended, varintFrom, varintAt}
 use Rattle.record.specs.declared.entry.Entry.{Entry}
 use Rattle.record.specs.declared.entry.EntryRead.the-variants.{Of, Refused}
 use Rattle.record.specs.declared.record.Decoded.the-variants.{Of as Got}
@@ -32,6 +32,7 @@ use Rattle.record.specs.declared.varint.Varint.{Varint}
 use Rattle.record.specs.declared.varint.Varint.the-variants.{Value, Short}
 use Rattle.record.proofs.Numbers.{by-order}
 use Rattle.record.proofs.Values.{fits-inside, decoded}
+use Rattle.record.proofs.Widths.{width-some}
 use Rattle.record.proofs.Varints.{at-end, at-ninth, at-last, at-more, grown, over}
 
 -- ---- where a varint lies
@@ -50,8 +51,8 @@ never e = let z : _≡_ {A = ℕ} 0 1 = cc in absurd (omega arith)
 next-at : {v w : ℕ} {a b : Cursor} → Value v a ≡ Value w b → a .at ≡ b .at
 next-at {v} {w} {a} {b} e = let z : a ≡ b = cc in ap (λ (x : Cursor). x .at) z
 
-one-byte : (s : List ℕ) (at k w : ℕ) → at < length s → Reach s at k (Value w (record { at = at + 1 }))
-one-byte s at k w h =
+one-byte : (s : List ℕ) (at k w n : ℕ) → at < length s → Reach s at k (ended w n (at + 1))
+one-byte s at k w n h =
     record {
       inside = omega arith;
       near = omega arith;
@@ -66,8 +67,8 @@ varint-reach s at =
     over s (λ a v k x. Reach s a k x)
     (λ a v k out.
     record { inside = omega arith; near = omega arith; on = λ h. h; past = λ h. h; whole = λ w c e. never e })
-    (λ a v h. one-byte s a 0 _ h)
-    (λ a v k h low. one-byte s a (suc k) _ h)
+    (λ a v h. one-byte s a 0 _ _ h)
+    (λ a v k h low. one-byte s a (suc k) _ _ h)
     (λ a v k h high x z.
     let o = z .on (omega arith) in
     record {
@@ -91,14 +92,16 @@ varint-lies s at v c e =
     let y : stopOf s (varintAt s at) ≡ c .at = ap (stopOf s) e in
     record { past = z .whole v c e; nine = omega (arith, z .near); inside = omega (arith, z .inside) }
 
--- THE LAW: a byte below 128 is a varint of its own
-pub varint-low : (s : List ℕ) (at : ℕ) → at < length s → getD s at 0 < 128 → varintAt s at ≡ Value (getD s at 0) (record { at = at + 1 })
+-- THE LAW: a byte below 128 is a varint of its own, and not padded
+pub varint-low : (s : List ℕ) (at : ℕ) → at < length s → getD s at 0 < 128 → varintAt s at ≡ Value (getD s at 0) (record { at = at + 1; padded = false })
 unfolding varintAt
-varint-low s at h low = at-last s at 0 7 h low ∙ rw (zero-mul, zero-add)
+varint-low s at h low =
+    let z : ltb (widthOf (getD s at 0)) 1 ≡ false = le-ltb (widthOf (getD s at 0)) 1 (width-some (getD s at 0)) in
+    at-last s at 0 7 h low ∙ rw (zero-mul, zero-add, z)
 
 -- THE LAW: and behind one from 128 up it is the second, and last
 pub varint-two : (s : List ℕ) (at : ℕ) → at + 1 < length s → 128 ≤ getD s at 0 → getD s (at + 1) 0 < 128
-    → varintAt s at ≡ Value (getD s at 0 % 128 * 128 + getD s (at + 1) 0) (record { at = at + 1 + 1 })
+    → varintAt s at ≡ ended (getD s at 0 % 128 * 128 + getD s (at + 1) 0) 2 (at + 1 + 1)
 unfolding varintAt
 varint-two s at h high low = at-more s at 0 7 (omega arith) high ∙ (at-last s (at + 1) (grown s at 0) 6 h low ∙ rw (zero-mul, zero-add))
 

@@ -42,19 +42,22 @@ part-within {a} {b} {q} {p} {s} x y =
 
 -- ---- varints
 abbrev pub movedVarint : ℕ → Varint → Varint
-movedVarint by (Value v c) = Value v (record { at = by + c .at })
+movedVarint by (Value v c) = Value v (record { at = by + c .at; padded = c .padded })
 movedVarint by Short = Short
 
--- THE LAW: a varint of the part is one of the slice, if both end at the same place
-pub varint-moved : {by : ℕ} {p s : List ℕ} → PartOf by p s → by + length p ≡ length s → (at : ℕ) → varintAt s (by + at) ≡ movedVarint by (varintAt p at)
-unfolding varintAt
-varint-moved {by} {p} {s} part e at =
+-- THE LAW: a varint of the part is one of the slice, if both end at the same place; and so is the rest of one
+pub rest-moved : {by : ℕ} {p s : List ℕ} → PartOf by p s → by + length p ≡ length s → (at v k : ℕ)
+    → varintFrom s (by + at) v k ≡ movedVarint by (varintFrom p at v k)
+rest-moved {by} {p} {s} part e =
     over p (λ at v k x. varintFrom s (by + at) v k ≡ movedVarint by x)
     (λ at v k out. at-end s (by + at) v k (omega arith))
     (λ at v h. at-ninth s (by + at) v 0 (omega arith) ∙ rw (part .same at h, add-assoc by at 1))
     (λ at v k h low. at-last s (by + at) v k (omega arith) (rw (part .same at h) low) ∙ rw (part .same at h, add-assoc by at 1))
     (λ at v k h high x z. at-more s (by + at) v k (omega arith) (rw (part .same at h) high) ∙ rw (part .same at h, add-assoc by at 1) z)
-    at 0 8
+
+pub varint-moved : {by : ℕ} {p s : List ℕ} → PartOf by p s → by + length p ≡ length s → (at : ℕ) → varintAt s (by + at) ≡ movedVarint by (varintAt p at)
+unfolding varintAt
+varint-moved part e at = rest-moved part e at 0 8
 
 -- ---- values
 pub big-endian-moved : {by : ℕ} {p s : List ℕ} → PartOf by p s → (at n : ℕ) → at + n ≤ length p → bigEndian s (by + at) n ≡ bigEndian p at n

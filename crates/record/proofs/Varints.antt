@@ -5,9 +5,9 @@ use mathlib.Core.Path.{_≡_}
 use mathlib.Core.List.{List}
 use lib.ListN.{length, getD}
 use borrow.Author.Tests.{lt-ltb, le-ltb}
-use Rattle.record.specs.Varint.{varintFrom}
+use Rattle.record.specs.Varint.{varintFrom, ended}
 use Rattle.record.specs.declared.varint.Varint.{Varint}
-use Rattle.record.specs.declared.varint.Varint.the-variants.{Value, Short}
+use Rattle.record.specs.declared.varint.Varint.the-variants.{Short}
 use Rattle.record.proofs.Numbers.{by-order}
 
 pub at-end : (s : List ℕ) (at v k : ℕ) → length s ≤ at → varintFrom s at v k ≡ Short
@@ -20,11 +20,11 @@ abbrev pub grown : List ℕ → ℕ → ℕ → ℕ
 grown s at v = v * 128 + getD s at 0 % 128
 
 module _ (s : List ℕ) (at v k : ℕ) (inside : at < length s) where
-  pub at-ninth : varintFrom s at v 0 ≡ Value (v * 256 + getD s at 0) (record { at = at + 1 })
+  pub at-ninth : varintFrom s at v 0 ≡ ended (v * 256 + getD s at 0) 9 (at + 1)
   unfolding varintFrom
   at-ninth = simp (lt-ltb at (length s) inside)
 
-  pub at-last : getD s at 0 < 128 → varintFrom s at v (suc k) ≡ Value (v * 128 + getD s at 0) (record { at = at + 1 })
+  pub at-last : getD s at 0 < 128 → varintFrom s at v (suc k) ≡ ended (v * 128 + getD s at 0) (8 - k) (at + 1)
   unfolding varintFrom
   at-last h = simp (lt-ltb at (length s) inside, lt-ltb (getD s at 0) 128 h)
 
@@ -35,8 +35,8 @@ module _ (s : List ℕ) (at v k : ℕ) (inside : at < length s) where
 -- what holds at each of the four ways to go on holds of every varint
 module _ (s : List ℕ) (P : ℕ → ℕ → ℕ → Varint → Type 0)
     (end : (at v k : ℕ) → length s ≤ at → P at v k Short)
-    (ninth : (at v : ℕ) → at < length s → P at v 0 (Value (v * 256 + getD s at 0) (record { at = at + 1 })))
-    (last : (at v k : ℕ) → at < length s → getD s at 0 < 128 → P at v (suc k) (Value (v * 128 + getD s at 0) (record { at = at + 1 })))
+    (ninth : (at v : ℕ) → at < length s → P at v 0 (ended (v * 256 + getD s at 0) 9 (at + 1)))
+    (last : (at v k : ℕ) → at < length s → getD s at 0 < 128 → P at v (suc k) (ended (v * 128 + getD s at 0) (8 - k) (at + 1)))
     (more : (at v k : ℕ) → at < length s → 128 ≤ getD s at 0 → (x : Varint) → P (at + 1) (grown s at v) k x → P at v (suc k) x) where
   pub over : (at v k : ℕ) → P at v k (varintFrom s at v k)
   over at v zero =

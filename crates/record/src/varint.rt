@@ -1,7 +1,7 @@
 // Varints, read at a cursor that goes in by value and comes back behind what it read.
 use crate::inner::wide;
 ghost use mathlib.Core.Path.{_≡_};
-ghost use Rattle.record.specs.Varint.{widthOf, varintAt, readVarint};
+ghost use Rattle.record.specs.Varint.{widthOf, ended as endedAs, varintAt, readVarint};
 
 // A place in a slice that stands beside it, and whether the number that was read before it is padded: longer than its shortest form. Where
 // none was read, it is not.
@@ -39,6 +39,19 @@ fn width_of(v: u64) -> u64
     1 + (63 - u64::leading_zeros(v) as u64) / 7
 }
 
+// A number that was read from n bytes, the last of which stands before `at`.
+fn ended(value: u64, n: u64, at: usize) -> Varint
+    ensures { λ r. ⌜ r ≡ endedAs value n at ⌝ }
+{
+    Varint::Value(
+        value,
+        Cursor {
+            at,
+            padded: width_of(value) < n,
+        },
+    )
+}
+
 impl Cursor {
     pub fn varint(self, bytes: &[u8]) -> Varint
         ensures { λ r. ⌜ r ≡ varintAt (now (bytes .entry)) (self .at) ⌝ }
@@ -53,14 +66,7 @@ impl Cursor {
             let b = wide(bytes[at]);
             at = at + 1;
             if b < 128 {
-                let value = v * 128 + b;
-                return Varint::Value(
-                    value,
-                    Cursor {
-                        at,
-                        padded: width_of(value) < n + 1,
-                    },
-                );
+                return ended(v * 128 + b, n + 1, at);
             }
             v = v * 128 + b % 128;
             n = n + 1;
@@ -68,14 +74,7 @@ impl Cursor {
         if bytes.len() <= at {
             return Varint::Short;
         }
-        let value = v * 256 + wide(bytes[at]);
-        Varint::Value(
-            value,
-            Cursor {
-                at: at + 1,
-                padded: width_of(value) < 9,
-            },
-        )
+        ended(v * 256 + wide(bytes[at]), 9, at + 1)
     }
 
     // The same, at once where it is one byte.

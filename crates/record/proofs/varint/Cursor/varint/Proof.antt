@@ -50,17 +50,26 @@ wide-requires c κs = search needs
 add-at : tie.Need-add-at Inv-loop μ-loop
 add-at c = search needs
 
-mul-t11 : tie.Need-mul-t11 Inv-loop μ-loop
-mul-t11 c = omega (arith, small (c .before .before .before .before))
+mul-ended : tie.Need-mul-ended Inv-loop μ-loop
+mul-ended c = omega (arith, small (c .before .before .before .before))
 
-add-t12 : tie.Need-add-t12 Inv-loop μ-loop
-add-t12 c = omega (arith, small (c .before .before .before .before))
+add-ended : tie.Need-add-ended Inv-loop μ-loop
+add-ended c = omega (arith, small (c .before .before .before .before))
+
+add-ended-2 : tie.Need-add-ended-2 Inv-loop μ-loop
+add-ended-2 c = search needs
+
+ended-requires : tie.Need-ended-requires Inv-loop μ-loop
+ended-requires c κs = search needs
 
 returns-2 : tie.Need-returns-2 Inv-loop μ-loop
 returns-2 c =
-    let e = c .before .wide .ensures in
-    let low = rw e at (c .if2 .taken) in
-    rw e (sym (going (c .before .before .before .before) ∙ at-last _ _ _ _ (c .before .before .before .if1 .left) low))
+    let b = c .before in
+    let i = b .before .before .before .before in
+    let e = b .before .wide .ensures in
+    let low = rw e at (b .if2 .taken) in
+    let n : 8 - (8 - (i .before .loop .n + 1)) ≡ i .before .loop .n + 1 = omega arith in
+    c .ended .ensures ∙ rw e (sym (going i ∙ at-last _ _ _ _ (b .before .before .before .if1 .left) low ∙ rw n))
 
 mul-v : tie.Need-mul-v Inv-loop μ-loop
 mul-v c = omega (arith, small (c .before .before .before .before))
@@ -97,8 +106,8 @@ done c = let e : 8 - c .before .loop .n ≡ 0 = omega arith in rw e at (c .befor
 returns-3 : tie.Need-returns-3 Inv-loop μ-loop
 returns-3 c = sym (c .before .before .loop .inv .2 ∙ at-end _ _ _ _ (c .if3 .taken))
 
-mul-t18 : tie.Need-mul-t18 Inv-loop μ-loop
-mul-t18 c = omega (arith, full (c .before))
+mul-ended-2 : tie.Need-mul-ended-2 Inv-loop μ-loop
+mul-ended-2 c = omega (arith, full (c .before))
 
 shared-slice-read-wide-2 : tie.Need-shared-slice-read-wide-2 Inv-loop μ-loop
 shared-slice-read-wide-2 c = search needs
@@ -106,15 +115,20 @@ shared-slice-read-wide-2 c = search needs
 wide-requires-2 : tie.Need-wide-requires-2 Inv-loop μ-loop
 wide-requires-2 c κs = search needs
 
-add-t22 : tie.Need-add-t22 Inv-loop μ-loop
-add-t22 c =
+add-ended-3 : tie.Need-add-ended-3 Inv-loop μ-loop
+add-ended-3 c =
     omega (arith, full (c .before .before .before), c .before .shared-slice-known3 .given (c .before .before .before .before .loop .at))
 
-add-t16 : tie.Need-add-t16 Inv-loop μ-loop
-add-t16 c = search needs
+add-ended-4 : tie.Need-add-ended-4 Inv-loop μ-loop
+add-ended-4 c = search needs
+
+ended-requires-2 : tie.Need-ended-requires-2 Inv-loop μ-loop
+ended-requires-2 c κs = search needs
 
 returns-4 : tie.Need-returns-4 Inv-loop μ-loop
-returns-4 c = rw (c .wide2 .ensures) (sym (done (c .before .before .before) ∙ at-ninth _ _ _ 0 (c .before .before .if3 .left)))
+returns-4 c =
+    let b = c .before in
+    c .ended2 .ensures ∙ rw (b .wide2 .ensures) (sym (done (b .before .before .before) ∙ at-ninth _ _ _ 0 (b .before .before .if3 .left)))
 
 pub varint-spec : {M : Type 1} → statement M
 varint-spec =
@@ -127,8 +141,10 @@ varint-spec =
     shared-slice-read-wide
     wide-requires
     add-at
-    mul-t11
-    add-t12
+    mul-ended
+    add-ended
+    add-ended-2
+    ended-requires
     returns-2
     mul-v
     add-v
@@ -136,9 +152,10 @@ varint-spec =
     loop-less
     loop-again
     returns-3
-    mul-t18
+    mul-ended-2
     shared-slice-read-wide-2
     wide-requires-2
-    add-t22
-    add-t16
+    add-ended-3
+    add-ended-4
+    ended-requires-2
     returns-4)

@@ -1,0 +1,46 @@
+-- Types one behind the other: the places that reading them looks at, and whether one is padded.
+-- Assumes nothing.
+use Prim.Native.Nat.{ℕ, zero, suc, _≤_, _<_}
+use mathlib.Core.Path.{_≡_, refl}
+use mathlib.Core.Bool.{false, _||_}
+use mathlib.Core.List.{List, [], _++_}
+use borrow.Author.Tests.{lt-ltb, le-ltb}
+use Rattle.record.specs.Places.{varintPlaces, typePlaces, typesPadded}
+use Rattle.record.specs.Varint.{varintAt}
+use Rattle.record.specs.declared.varint.Cursor.{Cursor}
+use Rattle.record.specs.declared.varint.Varint.the-variants.{Value, Short}
+
+module _ (f : ℕ) (s : List ℕ) (at stop : ℕ) where
+  pub places-step : (t : ℕ) (c : Cursor) → at < stop → varintAt s at ≡ Value t c → typePlaces (suc f) s at stop ≡ varintPlaces s at ++ typePlaces f s (c .at) stop
+  unfolding typePlaces
+  places-step t c h e = simp (lt-ltb at stop h, e)
+
+  pub places-cut : at < stop → varintAt s at ≡ Short → typePlaces (suc f) s at stop ≡ varintPlaces s at ++ []
+  unfolding typePlaces
+  places-cut h e = simp (lt-ltb at stop h, e)
+
+  pub padded-step : (t : ℕ) (c : Cursor) → at < stop → varintAt s at ≡ Value t c → typesPadded (suc f) s at stop ≡ (c .padded || typesPadded f s (c .at) stop)
+  unfolding typesPadded
+  padded-step t c h e = simp (lt-ltb at stop h, e)
+
+  pub padded-cut : at < stop → varintAt s at ≡ Short → typesPadded (suc f) s at stop ≡ false
+  unfolding typesPadded
+  padded-cut h e = simp (lt-ltb at stop h, e)
+
+pub places-none : (s : List ℕ) (at stop : ℕ) → typePlaces 0 s at stop ≡ []
+unfolding typePlaces
+places-none s at stop = refl
+
+pub padded-none : (s : List ℕ) (at stop : ℕ) → typesPadded 0 s at stop ≡ false
+unfolding typesPadded
+padded-none s at stop = refl
+
+pub places-end : (f : ℕ) (s : List ℕ) (at stop : ℕ) → stop ≤ at → typePlaces f s at stop ≡ []
+unfolding typePlaces
+places-end zero s at stop h = refl
+places-end (suc f) s at stop h = simp (le-ltb at stop h)
+
+pub padded-end : (f : ℕ) (s : List ℕ) (at stop : ℕ) → stop ≤ at → typesPadded f s at stop ≡ false
+unfolding typesPadded
+padded-end zero s at stop h = refl
+padded-end (suc f) s at stop h = simp (le-ltb at stop h)

@@ -2,12 +2,13 @@
 -- Assumes nothing.
 use Prim.Native.Nat.{ℕ, zero, suc, _+_, _-_, _*_, _^_, _<_, _≤_}
 use mathlib.Core.Path.{_≡_, refl, ap}
-use mathlib.Core.Bool.{Bool, true, false}
+use mathlib.Core.Bool.{Bool, true, false, cond}
 use mathlib.Core.Logic.{by-cases}
 use native.Mathlib.Decide.{decLt}
 use native.Mathlib.Nat.{lt-of-lt-of-le, mul-add, mul-one, add-mul, one-mul, mul-le-mul-left, mul-le-mul-right, zero-add}
 use native.Mathlib.Omega.{arith}
 use lib.IntN.{pos, negsuc, _-ℤ_}
+use mir.Val.{boolByte}
 use lib.Pow.{pow-mono, pow-add}
 use borrow.Author.Tests.{lt-ltb, le-ltb}
 use Rattle.record.specs.Value.{twosComplement}
@@ -20,6 +21,11 @@ by-order a b below above = by-cases (decLt a b) below (λ h. above (omega arith)
 pub by-test : {C : Type 0} (b : Bool) → (b ≡ true → C) → (b ≡ false → C) → C
 by-test true f g = f refl
 by-test false f g = g refl
+
+-- a bool as a number
+pub bool-word : (b : Bool) → boolByte b ≡ cond b 1 0
+bool-word true = refl
+bool-word false = refl
 
 -- n groups of w bits are no more than m of them
 pub at-most : (w m : ℕ) {n v : ℕ} → n ≤ m → v < 2 ^ (w * n) → v < 2 ^ (w * m)

@@ -1,6 +1,7 @@
 -- `sheet::row::words` meets its contract: each word is what the definition of that word says.
 -- Assumes nothing.
 use borrow.Author.Needs.{needs}
+use Rattle.record.proofs.Numbers.{bool-word}
 use Rattle.sheet.specs.Row.{rowWords}
 use Rattle.sheet.proofs.row.words.Statement.{statement}
 use Rattle.sheet.proofs.row.words.Tie as tie
@@ -23,16 +24,21 @@ source-code-requires c κs = search needs
 mode-word-requires : tie.Need-mode-word-requires
 mode-word-requires c κs = search needs
 
+cast-t11 : tie.Need-cast-t11
+cast-t11 c = search needs
+
 returns : tie.Need-returns
 unfolding rowWords
 returns c =
+    let b = c .before in
     rw (
-      c .mode-word .ensures,
-      c .before .source-code .ensures,
-      c .before .before .id-bits .ensures,
-      c .before .before .before .presence-of .ensures,
-      c .before .before .before .before .float-bits .ensures,
-      c .before .before .before .before .before .source-percent .ensures,
+      b .mode-word .ensures,
+      b .before .source-code .ensures,
+      b .before .before .id-bits .ensures,
+      b .before .before .before .presence-of .ensures,
+      b .before .before .before .before .float-bits .ensures,
+      b .before .before .before .before .before .source-percent .ensures,
+      bool-word,
     )
 
 pub words-spec : {M : Type 1} → statement M
@@ -45,4 +51,5 @@ words-spec =
     id-bits-requires
     source-code-requires
     mode-word-requires
+    cast-t11
     returns)

@@ -99,22 +99,22 @@ laid-ends len at ts cs end h e =
     at ts cs e h
 
 -- ---- what the types of the header of h bytes at o come to
-module _ (len : ℕ) (hints : List ℕ) (o h : ℕ) (ts : List ℕ) (inside : o + h ≤ len) where
+module _ (len : ℕ) (hints : List ℕ) (o h : ℕ) (p : Bool) (ts : List ℕ) (inside : o + h ≤ len) where
   -- no row of the wrong number of columns, and none that suits nowhere
-  pub miss-count : (length ts ≡ length hints → ⊥) → judged len hints o h ts ≡ miss
+  pub miss-count : (length ts ≡ length hints → ⊥) → judged len hints o h p ts ≡ miss
   unfolding judged
   miss-count ne = simp (ne-eqb (length ts) (length hints) ne)
 
-  pub miss-suited : suited hints ts ≡ 0 → judged len hints o h ts ≡ miss
+  pub miss-suited : suited hints ts ≡ 0 → judged len hints o h p ts ≡ miss
   unfolding judged
   miss-suited z = rw (le-ltb 0 (suited hints ts) (omega arith)) (go (eqb (length ts) (length hints)))
     where
-      go : (b : Bool) → cond (b && false) (sized o (suited hints ts) (bodiesFrom len (o + h) ts)) miss ≡ miss
+      go : (b : Bool) → cond (b && false) (sized o (suited hints ts) p (bodiesFrom len (o + h) ts)) miss ≡ miss
       go true = refl
       go false = refl
 
   -- none that leaves the region or is too long
-  pub miss-total : (h + totalFrom 0 ts ≤ len - o → h + totalFrom 0 ts ≤ mostBytes → ⊥) → judged len hints o h ts ≡ miss
+  pub miss-total : (h + totalFrom 0 ts ≤ len - o → h + totalFrom 0 ts ≤ mostBytes → ⊥) → judged len hints o h p ts ≡ miss
   unfolding judged
   miss-total no′ = rw (sizes-miss (bodiesFrom len (o + h) ts) refl) (same (eqb (length ts) (length hints) && ltb 0 (suited hints ts)))
     where
@@ -122,7 +122,7 @@ module _ (len : ℕ) (hints : List ℕ) (o h : ℕ) (ts : List ℕ) (inside : o 
       same true = refl
       same false = refl
 
-      sizes-miss : (b : Bodies) → bodiesFrom len (o + h) ts ≡ b → sized o (suited hints ts) b ≡ miss
+      sizes-miss : (b : Bodies) → bodiesFrom len (o + h) ts ≡ b → sized o (suited hints ts) p b ≡ miss
       sizes-miss unfit e = refl
       sizes-miss (laid cs end) e =
           let d = laid-ends len (o + h) ts cs end inside e in
@@ -132,7 +132,7 @@ module _ (len : ℕ) (hints : List ℕ) (o h : ℕ) (ts : List ℕ) (inside : o 
           (λ fit. absurd (no′ (omega (arith, d .0, d .1)) (omega (arith, d .0, d .1))))
 
   pub hit-total : length ts ≡ length hints → 0 < suited hints ts → h + totalFrom 0 ts ≤ len - o → h + totalFrom 0 ts ≤ mostBytes
-      → judged len hints o h ts ≡ hit (record { consumed = h + totalFrom 0 ts; matched = suited hints ts; columns = columnsAt (o + h) ts })
+      → judged len hints o h p ts ≡ hit (record { consumed = h + totalFrom 0 ts; matched = suited hints ts; columns = columnsAt (o + h) ts; padded = p })
   unfolding judged
   hit-total l p q r =
       let m = total-min 0 ts (omega arith) in

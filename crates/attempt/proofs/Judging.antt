@@ -10,13 +10,13 @@ use lib.ListN.{length, length-append}
 use borrow.Author.Tests.{le-leb, leb-true}
 use Rattle.record.proofs.Laws.{varint-lies, varint-reach, places-length, places-are, places-count}
 use Rattle.record.proofs.Numbers.{by-order, by-test}
-use Rattle.record.specs.Places.{placesFrom, stopOf, varintPlaces}
+use Rattle.record.specs.Places.{placesFrom, stopOf, varintPlaces, typePlaces}
 use Rattle.record.specs.Varint.{varintAt}
 use Rattle.record.specs.declared.varint.Cursor.{Cursor}
 use Rattle.record.specs.declared.varint.Varint.the-variants.{Value, Short}
 use Rattle.attempt.specs.Attempt.{Types, ended, cut, kind, kinds, isWhole, miss, judged, judgedWhole, headerFits, attemptAt, mostBytes}
-use Rattle.attempt.specs.Inner.{reach, headerTypes, totalFrom, Headed, WholeIs, MissIs, HitIs}
-use Rattle.attempt.specs.Places.{mostPlaces, typePlaces, attemptPlaces}
+use Rattle.attempt.specs.Inner.{reach, headerTypes, totalFrom, Headed, WholeIs, MissIs, HitIs, judgedHeader}
+use Rattle.attempt.specs.Places.{mostPlaces, attemptPlaces}
 use Rattle.attempt.proofs.Bodies.{total-min, miss-count, miss-total, hit-total}
 use Rattle.attempt.proofs.Types.{stops, types-end}
 use Rattle.sheet.specs.Limits.{mostHeader}
@@ -44,42 +44,43 @@ module _ (s hints : List ℕ) (o h from : ℕ) (head : Headed s o h from) where
       (λ before. omega (arith, z .near before, head .high)) in
       (omega (arith, n, places-length o (from - o), z .counts, head .past), far)
 
-  pub judge-cut : isWhole ts ≡ false → MissIs (judgedWhole (length s) hints o h ts) places (length s - o)
-  judge-cut e =
+  pub judge-cut : (p : Bool) → isWhole ts ≡ false → MissIs (judgedWhole (length s) hints o h p ts) places (length s - o)
+  judge-cut p e =
       let r = read-all in
       let c = cut-reach s ts e in
       record { misses = rw e; counts = omega arith; few = omega arith }
 
   -- types that are cut, or other than as many as hints
-  pub judge-never : (isWhole ts ≡ true → length (kinds ts) ≡ length hints → ⊥) → MissIs (judgedWhole (length s) hints o h ts) places (reach s ts - o)
-  judge-never none = let r = read-all in record { misses = by-test (isWhole ts) whole cut-off; counts = omega arith; few = omega arith }
+  pub judge-never : (p : Bool) → (isWhole ts ≡ true → length (kinds ts) ≡ length hints → ⊥) → MissIs (judgedWhole (length s) hints o h p ts) places (reach s ts - o)
+  judge-never p none = let r = read-all in record { misses = by-test (isWhole ts) whole cut-off; counts = omega arith; few = omega arith }
     where
-      whole : isWhole ts ≡ true → judgedWhole (length s) hints o h ts ≡ miss
-      whole e = rw e (miss-count (length s) hints o h (kinds ts) (head .inside) (none e))
+      whole : isWhole ts ≡ true → judgedWhole (length s) hints o h p ts ≡ miss
+      whole e = rw e (miss-count (length s) hints o h p (kinds ts) (head .inside) (none e))
 
-      cut-off : isWhole ts ≡ false → judgedWhole (length s) hints o h ts ≡ miss
+      cut-off : isWhole ts ≡ false → judgedWhole (length s) hints o h p ts ≡ miss
       cut-off e = rw e
 
-  module _ (count matched total end : ℕ) (w : WholeIs s hints ts count matched total end) where
+  module _ (p : Bool) (count matched total end : ℕ) (padded : Bool) (w : WholeIs s hints ts p count matched total end padded) where
     -- what the tests between are for
     pub end-past : (o ≤ end) × (total ≤ 65537)
     end-past =
         let r = read-all in
         (omega (arith, w .ends), omega (arith, w .totals, total-min 0 (kinds ts) (omega arith)))
 
-    pub judge-miss : judged (length s) hints o h (kinds ts) ≡ miss → MissIs (judgedWhole (length s) hints o h ts) places (end - o)
+    pub judge-miss : judged (length s) hints o h p (kinds ts) ≡ miss → MissIs (judgedWhole (length s) hints o h p ts) places (end - o)
     judge-miss e =
         let r = read-all in
         record { misses = rw (w .is-whole) e; counts = omega (arith, w .ends); few = omega (arith, w .ends) }
 
     pub judge-hit : count ≡ length hints → 0 < matched → h + total ≤ length s - o → h + total ≤ mostBytes
-        → HitIs s hints o (judgedWhole (length s) hints o h ts) places (record { head = h; from = from; consumed = h + total; matched = matched; read = end - o })
+        → HitIs s hints o (judgedWhole (length s) hints o h p ts) places
+        (record { head = h; from = from; consumed = h + total; matched = matched; read = end - o; padded = padded })
     judge-hit c m in′ fit =
         let r = read-all in
         let t = total-min 0 (kinds ts) (omega arith) in
-        let e = hit-total (length s) hints o h (kinds ts) (head .inside) (w .counts ∙ c) (omega (arith, w .matches)) (omega (arith, w .totals)) (omega (arith, w .totals)) in
+        let e = hit-total (length s) hints o h p (kinds ts) (head .inside) (w .counts ∙ c) (omega (arith, w .matches)) (omega (arith, w .totals)) (omega (arith, w .totals)) in
         record {
-          hits = rw (w .is-whole) (rw (w .totals, w .matches) at e);
+          hits = rw (w .is-whole) ((rw (w .totals, w .matches) at e) ∙ rw (w .marks));
           counts = omega (arith, w .ends);
           few = omega (arith, w .ends);
           columns = w .counts ∙ c;
@@ -89,9 +90,9 @@ module _ (s hints : List ℕ) (o h from : ℕ) (head : Headed s o h from) where
         }
 
 -- THE LAW: a header whose bodies pass the region makes no row, be its types cut or whole
-pub long-miss : (len : ℕ) (hints : List ℕ) (o h : ℕ) (ts : Types) → o + h ≤ len → len - o < h + totalFrom 0 (kinds ts) → judgedWhole len hints o h ts ≡ miss
-long-miss len hints o h ts in′ over =
-    by-test (isWhole ts) (λ e. rw e (miss-total len hints o h (kinds ts) in′ (λ p q. omega arith))) (λ e. rw e)
+pub long-miss : (len : ℕ) (hints : List ℕ) (o h : ℕ) (p : Bool) (ts : Types) → o + h ≤ len → len - o < h + totalFrom 0 (kinds ts) → judgedWhole len hints o h p ts ≡ miss
+long-miss len hints o h p ts in′ over =
+    by-test (isWhole ts) (λ e. rw e (miss-total len hints o h p (kinds ts) in′ (λ a b. omega arith))) (λ e. rw e)
 
 -- ---- the header's length
 
@@ -125,7 +126,7 @@ module _ (s hints : List ℕ) (o : ℕ) where
         let n = length-append (varintPlaces s o) [] in
         record { misses = rw (e, f); counts = rw (e, f) (omega (arith, n, places-count s o)); few = omega (arith, varint-lies s o h c e .nine) }
 
-    pub attempt-is : headerFits (length s) o h ≡ true → attemptAt s hints o ≡ judgedWhole (length s) hints o h (headerTypes s o h (c .at))
+    pub attempt-is : headerFits (length s) o h ≡ true → attemptAt s hints o ≡ judgedHeader s hints o h c
     unfolding attemptAt
     attempt-is f = simp (e, f)
 

@@ -10,12 +10,12 @@ use lib.ListN.{length, length-append}
 use borrow.Author.Tests.{leb-true, eqb-true, ltb-true}
 use Rattle.attempt.specs.Attempt.{Types, isWhole, kinds, Bodies, unfit, laid, bodiesFrom, Found, miss, hit, sized, judged, judgedWhole, headerFits, attemptWith, attemptAt, typesFrom, mostBytes}
 use Rattle.attempt.specs.Hints.{suited}
-use Rattle.attempt.specs.Inner.{bodySize, columnsAt, headerTypes}
+use Rattle.attempt.specs.Inner.{bodySize, columnsAt, headerTypes, judgedHeader}
 use Rattle.attempt.specs.Places.{mostPlaces, attemptPlaces}
 use Rattle.attempt.proofs.Bodies.{laid-ends}
 use Rattle.attempt.proofs.Judging.{attempt-bad, headed, read-all, places-is, places-short, fits-is}
 use Rattle.record.proofs.Laws.{varint-lies, varint-reach, places-count}
-use Rattle.record.specs.Places.{varintPlaces}
+use Rattle.record.specs.Places.{varintPlaces, headerPadded}
 use Rattle.record.specs.Varint.{varintAt}
 use Rattle.record.specs.declared.varint.Cursor.{Cursor}
 use Rattle.record.specs.declared.varint.Varint.{Varint}
@@ -56,43 +56,52 @@ columns-at-length at (t ∷ ts) = ap suc (columns-at-length (at + bodySize t) ts
 pub never : {C : Type 0} {x : Found} → miss ≡ hit x → C
 never e = let z : _≡_ {A = ℕ} 0 1 = cc in absurd (omega arith)
 
--- the types of its header of h bytes are as many as the hints, and their bodies are its columns
-pub record MadeFrom (len : ℕ) (hints : List ℕ) (o h : ℕ) (ts : List ℕ) (x : Found) : Type 0 where
+-- the types of its header of h bytes, whose mark is p, are as many as the hints, and their bodies are its columns
+pub record MadeFrom (len : ℕ) (hints : List ℕ) (o h : ℕ) (p : Bool) (ts : List ℕ) (x : Found) : Type 0 where
   pub counts : length ts ≡ length hints
   pub matches : suited hints ts ≡ x .matched
   pub some : 0 < x .matched
   pub bodies : bodiesFrom len (o + h) ts ≡ laid (x .columns) (o + x .consumed)
   pub short : x .consumed ≤ mostBytes
+  pub marks : p ≡ x .padded
 
-module _ (len : ℕ) (hints : List ℕ) (o h : ℕ) (x : Found) (inside : o + h ≤ len) where
-  laid-as : (ts : List ℕ) (b : Bodies) → bodiesFrom len (o + h) ts ≡ b → length ts ≡ length hints → 0 < suited hints ts → sized o (suited hints ts) b ≡ hit x
-      → MadeFrom len hints o h ts x
-  laid-as ts unfit d n p e = never e
-  laid-as ts (laid cs end) d n p e = go (leb (end - o) mostBytes) refl e
+module _ (len : ℕ) (hints : List ℕ) (o h : ℕ) (p : Bool) (x : Found) (inside : o + h ≤ len) where
+  laid-as : (ts : List ℕ) (b : Bodies) → bodiesFrom len (o + h) ts ≡ b → length ts ≡ length hints → 0 < suited hints ts → sized o (suited hints ts) p b ≡ hit x
+      → MadeFrom len hints o h p ts x
+  laid-as ts unfit d n some e = never e
+  laid-as ts (laid cs end) d n some e = go (leb (end - o) mostBytes) refl e
     where
-      go : (b : Bool) → leb (end - o) mostBytes ≡ b → cond b (hit (record { consumed = end - o; matched = suited hints ts; columns = cs })) miss ≡ hit x
-          → MadeFrom len hints o h ts x
+      go : (b : Bool) → leb (end - o) mostBytes ≡ b → cond b (hit (record { consumed = end - o; matched = suited hints ts; columns = cs; padded = p })) miss ≡ hit x
+          → MadeFrom len hints o h p ts x
       go false q e = never e
       go true q e =
           let taken : end - o ≡ x .consumed = cc in
           let match : suited hints ts ≡ x .matched = cc in
           let columns : cs ≡ x .columns = cc in
+          let mark : p ≡ x .padded = cc in
           let ends : end ≡ o + x .consumed = omega (arith, laid-ends len (o + h) ts cs end inside d .0) in
-          record { counts = n; matches = match; some = rw (← match) p; bodies = d ∙ rw (columns, ends); short = rw (← taken) (leb-true (end - o) mostBytes q) }
+          record {
+            counts = n;
+            matches = match;
+            some = rw (← match) some;
+            bodies = d ∙ rw (columns, ends);
+            short = rw (← taken) (leb-true (end - o) mostBytes q);
+            marks = mark;
+          }
 
   -- THE LAW: what a header whose types make a row says of it
-  pub made-from : (ts : Types) → judgedWhole len hints o h ts ≡ hit x → MadeFrom len hints o h (kinds ts) x
+  pub made-from : (ts : Types) → judgedWhole len hints o h p ts ≡ hit x → MadeFrom len hints o h p (kinds ts) x
   unfolding judged
   made-from ts e = whole (isWhole ts) e
     where
       go : (a b : Bool) → eqb (length (kinds ts)) (length hints) ≡ a → ltb 0 (suited hints (kinds ts)) ≡ b
-          → cond (a && b) (sized o (suited hints (kinds ts)) (bodiesFrom len (o + h) (kinds ts))) miss ≡ hit x → MadeFrom len hints o h (kinds ts) x
-      go true true p q e =
-          laid-as (kinds ts) (bodiesFrom len (o + h) (kinds ts)) refl (eqb-true (length (kinds ts)) (length hints) p) (ltb-true 0 (suited hints (kinds ts)) q) e
-      go true false p q e = never e
-      go false b p q e = never e
+          → cond (a && b) (sized o (suited hints (kinds ts)) p (bodiesFrom len (o + h) (kinds ts))) miss ≡ hit x → MadeFrom len hints o h p (kinds ts) x
+      go true true m q e =
+          laid-as (kinds ts) (bodiesFrom len (o + h) (kinds ts)) refl (eqb-true (length (kinds ts)) (length hints) m) (ltb-true 0 (suited hints (kinds ts)) q) e
+      go true false m q e = never e
+      go false b m q e = never e
 
-      whole : (b : Bool) → cond b (judged len hints o h (kinds ts)) miss ≡ hit x → MadeFrom len hints o h (kinds ts) x
+      whole : (b : Bool) → cond b (judged len hints o h p (kinds ts)) miss ≡ hit x → MadeFrom len hints o h p (kinds ts) x
       whole true e = go (eqb (length (kinds ts)) (length hints)) (ltb 0 (suited hints (kinds ts))) refl refl e
       whole false e = never e
 
@@ -104,7 +113,7 @@ pub record HitFrom (s hints : List ℕ) (o : ℕ) (x : Found) : Type 0 where
   pub low : 2 ≤ head
   pub high : head ≤ mostHeader
   pub inside : o + head ≤ length s
-  pub made : MadeFrom (length s) hints o head (kinds (headerTypes s o head (next .at))) x
+  pub made : MadeFrom (length s) hints o head (headerPadded head s next (o + head)) (kinds (headerTypes s o head (next .at))) x
 
 module _ (s hints : List ℕ) (o : ℕ) (x : Found) where
   -- THE LAW: what an attempt that found a row says of it
@@ -116,7 +125,7 @@ module _ (s hints : List ℕ) (o : ℕ) (x : Found) where
       with-length Short r e = never e
       with-length (Value h c) r e = go (headerFits (length s) o h) refl e
         where
-          go : (b : Bool) → headerFits (length s) o h ≡ b → cond b (judgedWhole (length s) hints o h (typesFrom h s (c .at) (o + h))) miss ≡ hit x
+          go : (b : Bool) → headerFits (length s) o h ≡ b → cond b (judgedHeader s hints o h c) miss ≡ hit x
               → HitFrom s hints o x
           go false f e = never e
           go true f e =
@@ -130,7 +139,7 @@ module _ (s hints : List ℕ) (o : ℕ) (x : Found) where
                 low = k .0;
                 high = k .1;
                 inside = in′;
-                made = made-from (length s) hints o h x in′ (typesFrom h s (c .at) (o + h)) e;
+                made = made-from (length s) hints o h (headerPadded h s c (o + h)) x in′ (typesFrom h s (c .at) (o + h)) e;
               }
 
   -- THE LAW: a row takes its header's bytes at least, and ends in the region

@@ -2,7 +2,7 @@
 -- Assumes nothing.
 use Prim.Native.Nat.{ℕ, zero, suc, _+_, _-_, _≤_, _<_, min}
 use mathlib.Core.Path.{_≡_, refl, sym, ap, _∙_}
-use mathlib.Core.Bool.{true}
+use mathlib.Core.Bool.{Bool, true, _||_, or-assoc, or-false}
 use mathlib.Core.List.{List, [], _∷_, _++_}
 use native.Mathlib.Omega.{arith}
 use lib.ListN.{length, drop, length-append}
@@ -10,7 +10,8 @@ use lib.Seq.{drop-drop}
 use borrow.Author.Tests.{lt-ltb, le-ltb}
 use Rattle.record.proofs.Laws.{varint-reach, places-count}
 use Rattle.record.proofs.Numbers.{by-order}
-use Rattle.record.specs.Places.{stopOf, varintPlaces}
+use Rattle.record.proofs.Types.{places-step, places-cut, places-none, places-end, padded-step, padded-none, padded-end}
+use Rattle.record.specs.Places.{stopOf, varintPlaces, typePlaces, typesPadded}
 use Rattle.record.specs.Varint.{varintAt}
 use Rattle.record.specs.declared.varint.Cursor.{Cursor}
 use Rattle.record.specs.declared.varint.Varint.{Varint}
@@ -18,7 +19,6 @@ use Rattle.record.specs.declared.varint.Varint.the-variants.{Value, Short}
 use Rattle.attempt.specs.Attempt.{Types, ended, cut, kind, kinds, isWhole, typesFrom}
 use Rattle.attempt.specs.Hints.{suited}
 use Rattle.attempt.specs.Inner.{suitsAt, tooLong, bodySize, totalFrom, reach, Walked, WholeIs}
-use Rattle.attempt.specs.Places.{typePlaces}
 use Rattle.attempt.specs.declared.inner.Walk.the-variants.{Whole, Cut}
 
 -- ---- reading on
@@ -72,16 +72,19 @@ pub record Along (s hints : List ℕ) (w r : Types) (count matched total : ℕ) 
   pub matched-is : suited hints (kinds w) ≡ matched + suited (drop count hints) (kinds r)
   pub total-is : totalFrom 0 (kinds w) ≡ totalFrom total (kinds r)
 
--- with fuel for what is left
-pub Left : (s hints : List ℕ) (w : Types) (at stop count matched total : ℕ) → Type 0
-Left s hints w at stop count matched total = (f : ℕ) × (stop ≤ at + f) × Along s hints w (typesFrom f s at stop) count matched total
+-- with fuel for what is left; p is the whole header's mark, and `mark` that of what has been read
+pub Left : (s hints : List ℕ) (w : Types) (p : Bool) (at stop count matched total : ℕ) (mark : Bool) → Type 0
+Left s hints w p at stop count matched total mark =
+    (f : ℕ) × (stop ≤ at + f) × Along s hints w (typesFrom f s at stop) count matched total × (p ≡ (mark || typesPadded f s at stop))
 
-pub left-start : (f : ℕ) (s hints : List ℕ) (at stop : ℕ) → stop ≤ at + f → Left s hints (typesFrom f s at stop) at stop 0 0 0
+pub left-start : (f : ℕ) (s hints : List ℕ) (at stop : ℕ) (p mark : Bool) → stop ≤ at + f → p ≡ (mark || typesPadded f s at stop)
+    → Left s hints (typesFrom f s at stop) p at stop 0 0 0 mark
 unfolding Left
-left-start f s hints at stop h = (
+left-start f s hints at stop p mark h m = (
   f,
   h,
   record { whole-is = refl; reach-is = refl; count-is = omega arith; matched-is = omega arith; total-is = refl },
+  m,
 )
 
 module _ (s hints : List ℕ) (w : Types) (at stop count matched total : ℕ) where
@@ -99,52 +102,41 @@ module _ (s hints : List ℕ) (w : Types) (at stop count matched total : ℕ) wh
         total-is = b .total-is;
       }
 
+module _ (s hints : List ℕ) (w : Types) (p : Bool) (at stop count matched total : ℕ) (mark : Bool) where
   -- or none is left
-  pub along-end : Along s hints w (ended at) count matched total → WholeIs s hints w count matched total at
+  pub along-end : Along s hints w (ended at) count matched total → p ≡ mark → WholeIs s hints w p count matched total at mark
   unfolding totalFrom
-  along-end b =
+  along-end b m =
       record {
         is-whole = b .whole-is;
         counts = omega (arith, b .count-is);
         matches = omega (arith, b .matched-is);
         totals = b .total-is;
         ends = b .reach-is;
+        marks = m;
       }
 
-  pub left-step : (t : ℕ) (c : Cursor) → at < stop → at < c .at → varintAt s at ≡ Value t c → Left s hints w at stop count matched total
-      → Left s hints w (c .at) stop (count + 1) (matched + suitsAt hints count t) (min tooLong (total + bodySize t))
+  pub left-step : (t : ℕ) (c : Cursor) → at < stop → at < c .at → varintAt s at ≡ Value t c → Left s hints w p at stop count matched total mark
+      → Left s hints w p (c .at) stop (count + 1) (matched + suitsAt hints count t) (min tooLong (total + bodySize t)) (mark || c .padded)
   unfolding Left
-  left-step t c h p e (zero, k, a) = absurd (omega arith)
-  left-step t c h p e (suc f, k, a) = (f, omega arith, along-step f t c h e a)
+  left-step t c h q e (zero, k, a, m) = absurd (omega arith)
+  left-step t c h q e (suc f, k, a, m) = (
+    f,
+    omega arith,
+    along-step s hints w at stop count matched total f t c h e a,
+    m ∙ ap (λ b. mark || b) (padded-step f s at stop t c h e) ∙ sym (or-assoc mark (c .padded) (typesPadded f s (c .at) stop)),
+  )
 
-  pub left-cut : at < stop → varintAt s at ≡ Short → Left s hints w at stop count matched total → Walked s hints w Cut
+  pub left-cut : at < stop → varintAt s at ≡ Short → Left s hints w p at stop count matched total mark → Walked s hints w p Cut
   unfolding Left
-  left-cut h e (zero, k, a) = absurd (omega arith)
-  left-cut h e (suc f, k, a) = let b = rw (types-cut f s at stop h e) at a in b .whole-is
+  left-cut h e (zero, k, a, m) = absurd (omega arith)
+  left-cut h e (suc f, k, a, m) = let b = rw (types-cut f s at stop h e) at a in b .whole-is
 
-  pub left-end : stop ≤ at → Left s hints w at stop count matched total → Walked s hints w (Whole count matched total at)
+  pub left-end : stop ≤ at → Left s hints w p at stop count matched total mark → Walked s hints w p (Whole count matched total at mark)
   unfolding Left
-  left-end h (f, k, a) = along-end (rw (types-end f s at stop h) at a)
+  left-end h (f, k, a, m) = along-end (rw (types-end f s at stop h) at a) (m ∙ ap (λ b. mark || b) (padded-end f s at stop h) ∙ or-false mark)
 
 -- ---- where reading stops
-
-module _ (f : ℕ) (s : List ℕ) (at stop : ℕ) where
-  pub places-step : (t : ℕ) (c : Cursor) → at < stop → varintAt s at ≡ Value t c → typePlaces (suc f) s at stop ≡ varintPlaces s at ++ typePlaces f s (c .at) stop
-  unfolding typePlaces
-  places-step t c h e = simp (lt-ltb at stop h, e)
-
-  pub places-cut : at < stop → varintAt s at ≡ Short → typePlaces (suc f) s at stop ≡ varintPlaces s at ++ []
-  unfolding typePlaces
-  places-cut h e = simp (lt-ltb at stop h, e)
-
-pub places-none : (s : List ℕ) (at stop : ℕ) → typePlaces 0 s at stop ≡ []
-unfolding typePlaces
-places-none s at stop = refl
-
-pub places-end : (f : ℕ) (s : List ℕ) (at stop : ℕ) → stop ≤ at → typePlaces f s at stop ≡ []
-unfolding typePlaces
-places-end zero s at stop h = refl
-places-end (suc f) s at stop h = simp (le-ltb at stop h)
 
 -- all bytes up to there are read; it lies in the region, and at most 8 behind the header's end
 pub record Stops (s : List ℕ) (at stop : ℕ) (ts : Types) (places : List ℕ) : Type 0 where
@@ -153,6 +145,12 @@ pub record Stops (s : List ℕ) (at stop : ℕ) (ts : Types) (places : List ℕ)
   pub near : at ≤ stop → reach s ts ≤ stop + 8
 
 module _ (s : List ℕ) (stop : ℕ) where
+  -- reading up to where it ended, instead of to the stop
+  abbrev pub ToEnd : (f at g : ℕ) → Type 0
+  ToEnd f at g =
+      let end = reach s (typesFrom f s at stop) in
+      (typesFrom g s at end ≡ typesFrom f s at stop) × (typesPadded g s at end ≡ typesPadded f s at stop)
+
   stops-here : (at : ℕ) → at ≤ length s → Stops s at stop (ended at) []
   stops-here at h = record { counts = omega arith; inside = h; near = λ l. omega arith }
 
@@ -184,18 +182,18 @@ module _ (s : List ℕ) (stop : ℕ) where
           rw (types-cut f s at stop lt e, places-cut f s at stop lt e)
           (record { counts = omega (arith, n, places-count s at); inside = omega arith; near = λ _. omega (arith, z .near) })
 
-  -- THE LAW: types that end before their stop are those up to where they end
+  -- THE LAW: types that end before their stop are those up to where they end, and so is their mark
   pub types-to-end : (f at g : ℕ) → at ≤ length s → isWhole (typesFrom f s at stop) ≡ true → reach s (typesFrom f s at stop) < stop
-      → reach s (typesFrom f s at stop) ≤ at + g → typesFrom g s at (reach s (typesFrom f s at stop)) ≡ typesFrom f s at stop
-  types-to-end zero at g in′ w lt h = rw (types-none s at stop) (types-end g s at at (omega arith))
+      → reach s (typesFrom f s at stop) ≤ at + g → ToEnd f at g
+  types-to-end zero at g in′ w lt h = rw (types-none s at stop, padded-none s at stop) (types-end g s at at (omega arith), padded-end g s at at (omega arith))
   types-to-end (suc f) at g in′ w lt h =
       by-order at stop (λ more. go more (varintAt s at) refl (λ c k. types-to-end f c k))
       (λ ge. absurd (omega (arith, ap (reach s) (types-end (suc f) s at stop ge))))
     where
       go : at < stop → (v : Varint) → varintAt s at ≡ v
           → ((c k : ℕ) → c ≤ length s → isWhole (typesFrom f s c stop) ≡ true → reach s (typesFrom f s c stop) < stop → reach s (typesFrom f s c stop) ≤ c + k
-          → typesFrom k s c (reach s (typesFrom f s c stop)) ≡ typesFrom f s c stop)
-          → typesFrom g s at (reach s (typesFrom (suc f) s at stop)) ≡ typesFrom (suc f) s at stop
+          → ToEnd f c k)
+          → ToEnd (suc f) at g
       go more Short e rest = let q = rw (types-cut f s at stop more e) at w in let z : _≡_ {A = ℕ} 0 1 = cc in absurd (omega arith)
       go more (Value t c) e rest = fuelled g h
         where
@@ -208,10 +206,13 @@ module _ (s : List ℕ) (stop : ℕ) where
               let y : stopOf s (varintAt s at) ≡ c .at = ap (stopOf s) e in
               (z .whole t c e, omega (arith, z .inside), omega (arith, stops f (c .at) (omega (arith, z .inside)) .counts))
 
-          fuelled : (g : ℕ) → reach s (typesFrom (suc f) s at stop) ≤ at + g → typesFrom g s at (reach s (typesFrom (suc f) s at stop)) ≡ typesFrom (suc f) s at stop
+          fuelled : (g : ℕ) → reach s (typesFrom (suc f) s at stop) ≤ at + g → ToEnd (suc f) at g
           fuelled zero h = absurd (omega (arith, on, ap (reach s) same))
           fuelled (suc k) h =
               let r = ap (reach s) same in
-              rw same
-              (types-step k s at (reach s (typesFrom f s (c .at) stop)) t c (omega (arith, on)) e
-              ∙ rw (rest (c .at) k (on .1) (sym (ap isWhole same) ∙ w) (omega arith) (omega (arith, on))))
+              let end = reach s (typesFrom f s (c .at) stop) in
+              let q = rest (c .at) k (on .1) (sym (ap isWhole same) ∙ w) (omega arith) (omega (arith, on)) in
+              rw (same, padded-step f s at stop t c more e) (
+                types-step k s at end t c (omega (arith, on)) e ∙ rw (q .0),
+                padded-step k s at end t c (omega (arith, on)) e ∙ rw (q .1),
+              )

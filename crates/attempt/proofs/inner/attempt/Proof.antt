@@ -21,8 +21,8 @@ enum-known-h c = search needs
 enum-told : tie.Need-enum-told
 enum-told c = search needs
 
-sub-t12 : tie.Need-sub-t12
-sub-t12 c = search needs
+sub-t11 : tie.Need-sub-t11
+sub-t11 c = search needs
 
 returns : tie.Need-returns
 returns c = attempt-short _ _ _ (sym (c .before .before .header-length .ensures) ∙ c .enum-told .given .1) (omega arith)
@@ -37,26 +37,26 @@ past : (c : tie.After-known-told) → c .before .before .before .before .before 
 past c = omega (arith, varint-lies _ _ _ _ (read c) .past)
 
 sub-own : tie.Need-sub-own
-sub-own c = past c
+sub-own c = past (c .before)
 
 returns-2 : tie.Need-returns-2
-returns-2 c = attempt-bad _ _ _ _ _ (read (c .before)) (fits-not _ _ _ (λ p q r. omega arith))
+returns-2 c = attempt-bad _ _ _ _ _ (read (c .before .before)) (fits-not _ _ _ (λ p q r. omega arith))
 
 returns-3 : tie.Need-returns-3
-returns-3 c = attempt-bad _ _ _ _ _ (read (c .before .before)) (fits-not _ _ _ (λ p q r. omega arith))
+returns-3 c = attempt-bad _ _ _ _ _ (read (c .before .before .before)) (fits-not _ _ _ (λ p q r. omega arith))
 
 sub-if3 : tie.Need-sub-if3
 sub-if3 c = search needs
 
 returns-4 : tie.Need-returns-4
-returns-4 c = attempt-bad _ _ _ _ _ (read (c .before .before .before)) (fits-not _ _ _ (λ p q r. omega arith))
+returns-4 c = attempt-bad _ _ _ _ _ (read (c .before .before .before .before)) (fits-not _ _ _ (λ p q r. omega arith))
 
 given-header-requires : tie.Need-given-header-requires
-given-header-requires c κs = headed _ _ _ _ (read (c .before .before .before)) (omega arith) (omega arith) (c .if3 .left) (omega arith)
+given-header-requires c κs = headed _ _ _ _ (read (c .before .before .before .before)) (omega arith) (omega arith) (c .if3 .left) (omega arith)
 
 returns-5 : tie.Need-returns-5
 returns-5 c =
-    let o = c .before .before .before .before in
+    let o = c .before .before .before .before .before in
     let fit = fits _ _ _ (c .before .before .before .if1 .left) (c .before .before .if2 .left) (c .before .if3 .left) in
     rw (attempt-is _ _ _ _ _ (read o) fit, places-is _ _ _ _ (read o) fit) (c .given-header .ensures)
 
@@ -67,7 +67,7 @@ attempt-spec =
     header-length-requires
     enum-known-h
     enum-told
-    sub-t12
+    sub-t11
     returns
     sub-own
     returns-2

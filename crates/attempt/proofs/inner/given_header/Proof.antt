@@ -1,9 +1,10 @@
 -- `attempt::inner::given_header` meets its contract: each way out is a law of `proofs/Judging.antt`.
 -- Assumes nothing.
-use Prim.Native.Nat.{_≤_}
+use Prim.Native.Nat.{_+_, _≤_}
 use mathlib.Core.Path.{sym, _∙_}
 use native.Mathlib.Omega.{arith}
 use denote.Ref.{now}
+use Rattle.record.specs.Places.{headerPadded}
 use Rattle.attempt.specs.Inner.{headerTypes, WholeIs}
 use Rattle.attempt.proofs.Bodies.{miss-count}
 use Rattle.attempt.proofs.Judging.{read-all, end-past, judge-cut, judge-never, judge-miss}
@@ -17,15 +18,15 @@ miscounted-requires c κs = search needs
 types-end-requires : tie.Need-types-end-requires
 types-end-requires c κs = search needs
 
-sub-t13 : tie.Need-sub-t13
-sub-t13 c =
+sub-t15 : tie.Need-sub-t15
+sub-t15 c =
     let a = c .before .before .before .before .before in
     rw (c .types-end .ensures) (omega (arith, read-all (now (a .args .bytes)) (now (a .args .hints)) _ _ _ (a .pre) .0))
 
 returns : tie.Need-returns
 returns c =
     let a = c .before .before .before .before .before in
-    rw (c .types-end .ensures) (judge-never _ _ _ _ _ (a .pre) (rw (c .before .if1 .taken) at (c .before .before .miscounted .ensures)))
+    rw (c .types-end .ensures) (judge-never _ _ _ _ _ (a .pre) _ (rw (c .before .if1 .taken) at (c .before .before .miscounted .ensures)))
 
 walk-types-requires : tie.Need-walk-types-requires
 walk-types-requires c κs = search needs
@@ -36,18 +37,19 @@ enum-known-count c = search needs
 enum-told : tie.Need-enum-told
 enum-told c = search needs
 
-sub-t16 : tie.Need-sub-t16
-sub-t16 c = search needs
+sub-t18 : tie.Need-sub-t18
+sub-t18 c = search needs
 
 returns-2 : tie.Need-returns-2
 returns-2 c =
-    judge-cut _ _ _ _ _ (c .before .before .before .before .before .before .before .pre) (rw (c .enum-told .given .1) at (c .before .before .walk-types .ensures))
+    judge-cut _ _ _ _ _ (c .before .before .before .before .before .before .before .pre) _ (rw (c .enum-told .given .1) at (c .before .before .walk-types .ensures))
 
 -- what the walk found
 walked : (c : tie.After-known-told) →
     let a = c .before .before .before .before .before .before .before .before .args in
     let w = c .before .count .given .0 in
-    WholeIs (now (a .bytes)) (now (a .hints)) (headerTypes (now (a .bytes)) (a .o) (a .head) (a .from)) (w .0) (w .1 .0) (w .1 .1 .0) (w .1 .1 .1 .0)
+    WholeIs (now (a .bytes)) (now (a .hints)) (headerTypes (now (a .bytes)) (a .o) (a .head) (a .from .at)) (headerPadded (a .head) (now (a .bytes)) (a .from) (a .o + a .head))
+    (w .0) (w .1 .0) (w .1 .1 .0) (w .1 .1 .1 .0) (w .1 .1 .1 .1 .0)
 walked c = rw (c .before .count .given .1) at (c .before .before .before .walk-types .ensures)
 
 -- and what that says of its numbers
@@ -55,17 +57,17 @@ bounds : (c : tie.After-known-told) →
     let a = c .before .before .before .before .before .before .before .before .args in
     let w = c .before .count .given .0 in
     (a .o ≤ w .1 .1 .1 .0) × (w .1 .1 .0 ≤ 65537)
-bounds c = end-past _ _ _ _ _ (c .before .before .before .before .before .before .before .before .pre) _ _ _ _ (walked c)
+bounds c = end-past _ _ _ _ _ (c .before .before .before .before .before .before .before .before .pre) _ _ _ _ _ _ (walked c)
 
-sub-t18 : tie.Need-sub-t18
-sub-t18 c = omega (arith, bounds (c .before))
+sub-t20 : tie.Need-sub-t20
+sub-t20 c = omega (arith, bounds (c .before))
 
 returns-3 : tie.Need-returns-3
 returns-3 c =
     let o = c .before in
     let w = walked o in
     let head = o .before .before .before .before .before .before .before .before .pre in
-    judge-miss _ _ _ _ _ head _ _ _ _ w (miss-count _ _ _ _ _ (head .inside) (λ e. c .if2 .taken (sym (w .counts) ∙ e)))
+    judge-miss _ _ _ _ _ head _ _ _ _ _ _ w (miss-count _ _ _ _ _ _ (head .inside) (λ e. c .if2 .taken (sym (w .counts) ∙ e)))
 
 judge-requires : tie.Need-judge-requires
 judge-requires c κs =
@@ -81,14 +83,14 @@ given-header-spec =
     (tie.spec
     miscounted-requires
     types-end-requires
-    sub-t13
+    sub-t15
     returns
     walk-types-requires
     enum-known-count
     enum-told
-    sub-t16
-    returns-2
     sub-t18
+    returns-2
+    sub-t20
     returns-3
     judge-requires
     returns-4)

@@ -6,10 +6,9 @@ use mathlib.Core.List.{_++_}
 use native.Mathlib.Omega.{arith}
 use denote.Ref.{now}
 use lib.ListN.{length}
-use Rattle.record.specs.Places.{placesFrom}
-use Rattle.attempt.specs.Attempt.{judgedWhole, mostBytes}
-use Rattle.attempt.specs.Inner.{headerTypes, MissIs}
-use Rattle.attempt.specs.Places.{typePlaces}
+use Rattle.record.specs.Places.{placesFrom, typePlaces}
+use Rattle.attempt.specs.Attempt.{mostBytes}
+use Rattle.attempt.specs.Inner.{judgedHeader, MissIs}
 use Rattle.attempt.proofs.Bodies.{miss-suited, miss-total}
 use Rattle.attempt.proofs.Judging.{end-past, judge-miss, judge-hit}
 use borrow.Author.Needs.{needs}
@@ -18,21 +17,21 @@ use Rattle.attempt.proofs.inner.judge.Tie as tie
 
 -- what the types say of their numbers
 bounds : (c : tie.Start) → (c .args .o ≤ c .args .end) × (c .args .total ≤ 65537)
-bounds c = end-past _ _ _ _ _ (c .pre .0) _ _ _ _ (c .pre .1)
+bounds c = end-past _ _ _ _ _ (c .pre .0) _ _ _ _ _ _ (c .pre .1)
 
 -- bodies that do not fit make no row
 over : (c : tie.Start) →
     let a = c .args in
     (a .head + a .total ≤ length (now (a .bytes)) - a .o → a .head + a .total ≤ mostBytes → ⊥)
-    → MissIs (judgedWhole (length (now (a .bytes))) (now (a .hints)) (a .o) (a .head) (headerTypes (now (a .bytes)) (a .o) (a .head) (a .from)))
-    (placesFrom (a .o) (a .from - a .o) ++ typePlaces (a .head) (now (a .bytes)) (a .from) (a .o + a .head)) (a .end - a .o)
-over c no′ = judge-miss _ _ _ _ _ (c .pre .0) _ _ _ _ (c .pre .1) (miss-total _ _ _ _ _ (c .pre .0 .inside) (rw (c .pre .1 .totals) no′))
+    → MissIs (judgedHeader (now (a .bytes)) (now (a .hints)) (a .o) (a .head) (a .from))
+    (placesFrom (a .o) (a .from .at - a .o) ++ typePlaces (a .head) (now (a .bytes)) (a .from .at) (a .o + a .head)) (a .end - a .o)
+over c no′ = judge-miss _ _ _ _ _ (c .pre .0) _ _ _ _ _ _ (c .pre .1) (miss-total _ _ _ _ _ _ (c .pre .0 .inside) (rw (c .pre .1 .totals) no′))
 
 sub-read : tie.Need-sub-read
 sub-read c = bounds c .0
 
 returns : tie.Need-returns
-returns c = judge-miss _ _ _ _ _ (c .before .pre .0) _ _ _ _ (c .before .pre .1) (miss-suited _ _ _ _ _ (c .before .pre .0 .inside) (c .before .pre .1 .matches ∙ c .if1 .taken))
+returns c = judge-miss _ _ _ _ _ (c .before .pre .0) _ _ _ _ _ _ (c .before .pre .1) (miss-suited _ _ _ _ _ _ (c .before .pre .0 .inside) (c .before .pre .1 .matches ∙ c .if1 .taken))
 
 add-consumed : tie.Need-add-consumed
 add-consumed c = omega (arith, bounds (c .before))
@@ -49,7 +48,7 @@ returns-3 c = over (c .before .before .before) (λ p q. omega (arith, c .if3 .ta
 returns-4 : tie.Need-returns-4
 returns-4 c =
     let s = c .before .before .before in
-    judge-hit _ _ _ _ _ (s .pre .0) _ _ _ _ (s .pre .1) refl (omega (arith, c .before .before .if1 .left)) (c .before .if2 .left) (c .if3 .left)
+    judge-hit _ _ _ _ _ (s .pre .0) _ _ _ _ _ _ (s .pre .1) refl (omega (arith, c .before .before .if1 .left)) (c .before .if2 .left) (c .if3 .left)
 
 pub judge-spec : {M : Type 1} → statement M
 judge-spec =

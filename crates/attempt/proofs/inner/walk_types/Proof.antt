@@ -1,11 +1,13 @@
 -- `attempt::inner::walk_types` meets its contract: what the loop has read, with what is left, comes to the whole header (`Left`).
 -- Assumes nothing.
 use Prim.Native.Nat.{_+_, _-_, _<_, _≤_}
-use mathlib.Core.Path.{_≡_, sym, _∙_}
+use mathlib.Core.Path.{_≡_, refl, sym, _∙_}
+use mathlib.Core.Bool.{_||_}
 use native.Mathlib.Omega.{arith}
 use denote.Ref.{now}
 use borrow.Author.Needs.{needs}
 use Rattle.record.proofs.Laws.{varint-lies}
+use Rattle.record.specs.Places.{typesPadded}
 use Rattle.record.specs.Varint.{varintAt}
 use Rattle.record.specs.declared.varint.Varint.the-variants.{Value}
 use Rattle.attempt.specs.Inner.{tooLong, headerTypes}
@@ -14,11 +16,12 @@ use Rattle.attempt.proofs.inner.walk_types.Statement.{statement}
 use Rattle.attempt.proofs.inner.walk_types.Tie as tie
 
 abbrev Inv-loop : tie.InvT-loop
-Inv-loop bytes hints o head from stop at₀ count₀ matched₀ total₀ at count matched total =
-    (from + count ≤ at) × (matched ≤ count) × (total ≤ tooLong) × Left bytes hints (headerTypes bytes o head from) at stop count matched total
+Inv-loop bytes hints o head stop at₀ padded₀ count₀ matched₀ total₀ at padded count matched total =
+    (at₀ + count ≤ at) × (matched ≤ count) × (total ≤ tooLong)
+    × Left bytes hints (headerTypes bytes o head at₀) (padded₀ || typesPadded head bytes at₀ stop) at stop count matched total padded
 
 abbrev μ-loop : tie.MeasureT-loop
-μ-loop bytes hints o head from stop at₀ count₀ matched₀ total₀ at count matched total = stop - at
+μ-loop bytes hints o head stop at₀ padded₀ count₀ matched₀ total₀ at padded count matched total = stop - at
 
 -- the type that was read, and where it ends
 read : (c : tie.After-known-told Inv-loop μ-loop) →
@@ -33,7 +36,7 @@ add-stop : tie.Need-add-stop Inv-loop μ-loop
 add-stop c = search needs
 
 loop-holds : tie.Need-loop-holds Inv-loop μ-loop
-loop-holds c = (omega arith, omega arith, omega arith, left-start _ _ _ _ _ (omega arith))
+loop-holds c = (omega arith, omega arith, omega arith, left-start _ _ _ _ _ _ _ (omega arith) refl)
 
 serial-type-requires : tie.Need-serial-type-requires Inv-loop μ-loop
 serial-type-requires c κs = search needs
@@ -45,7 +48,7 @@ enum-told : tie.Need-enum-told Inv-loop μ-loop
 enum-told c = search needs
 
 returns : tie.Need-returns Inv-loop μ-loop
-returns c = left-cut _ _ _ _ _ _ _ _ (c .before .before .before .loop-test .taken) (sym (c .before .before .serial-type .ensures) ∙ c .enum-told .given .1) (c .before .before .before .before .loop .inv .3)
+returns c = left-cut _ _ _ _ _ _ _ _ _ _ (c .before .before .before .loop-test .taken) (sym (c .before .before .serial-type .ensures) ∙ c .enum-told .given .1) (c .before .before .before .before .loop .inv .3)
 
 suits-at-requires : tie.Need-suits-at-requires Inv-loop μ-loop
 suits-at-requires c κs = search needs
@@ -60,21 +63,22 @@ add-count : tie.Need-add-count Inv-loop μ-loop
 add-count c = search needs
 
 loop-less : tie.Need-loop-less Inv-loop μ-loop
-loop-less c = omega (arith, past (c .before .before))
+loop-less c = omega (arith, past (c .before .before .before))
 
 loop-again : tie.Need-loop-again Inv-loop μ-loop
 loop-again c =
-    let o = c .before .before in
+    let b = c .before in
+    let o = b .before .before in
     let l = o .before .before .before .before .before .loop in
     let p = past o in (
       omega arith,
-      omega (arith, c .before .suits-at .ensures .1),
-      omega (arith, c .add-body .ensures),
-      rw (c .before .suits-at .ensures .0, c .add-body .ensures) (left-step _ _ _ _ _ _ _ _ _ _ (o .before .before .before .before .loop-test .taken) p (read o) (l .inv .3)),
+      omega (arith, b .before .suits-at .ensures .1),
+      omega (arith, b .add-body .ensures),
+      rw (b .before .suits-at .ensures .0, b .add-body .ensures) (left-step _ _ _ _ _ _ _ _ _ _ _ _ (o .before .before .before .before .loop-test .taken) p (read o) (l .inv .3)),
     )
 
 returns-2 : tie.Need-returns-2 Inv-loop μ-loop
-returns-2 c = left-end _ _ _ _ _ _ _ _ (c .loop-test .left) (c .before .loop .inv .3)
+returns-2 c = left-end _ _ _ _ _ _ _ _ _ _ (c .loop-test .left) (c .before .loop .inv .3)
 
 pub walk-types-spec : {M : Type 1} → statement M
 walk-types-spec =

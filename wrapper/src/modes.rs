@@ -63,8 +63,12 @@ mod tests {
             marks(&types[1..], 2),
             [(Mode::ColumnsOnly, true), (Mode::FirstColMissing, false)]
         );
-        let lost = [0xff, 0x80, 0x80, 0x80, 0x80, 0x01, 0x2a, 0xff];
-        assert_eq!(marks(&lost, 2), [(Mode::FirstColMissing, true)]);
+        // The fifth byte pads a type, and is a part of one that needs its six bytes.
+        let lost = [0xff, 0x80, 0x80, 0x80, 0x80, 0x01, 0x2a];
+        assert_eq!(
+            marks(&lost, 2),
+            [(Mode::ColumnsOnly, false), (Mode::FirstColMissing, true)]
+        );
     }
 
     #[test]

@@ -20,10 +20,16 @@
  * word with nothing to say is 0.
  *
  * Lists. Rows and their column entries go into two lists, `rows` and `cols`, which are filled from the front. Row i
- * has the words rows[8 * i ..] and, for n columns, the n entries cols[4 * n * i ..]; a call that is lent hints has a
- * column for each. There is room for the smaller of rows_len / 8 and cols_len / (4 * n) rows. Only the cells of rows
- * that out[0] counts are written; all others keep what they held. Hints, types, leaves and places go into one list in
- * the same way. Refusals 1 to 7 write no list.
+ * has the words rows[PHS_WORDS_PER_ROW * i ..] and, for n columns, the n entries cols[PHS_WORDS_PER_ENTRY * n * i ..]; a call
+ * that is lent hints has a column for each. There is room for the smaller of rows_len / PHS_WORDS_PER_ROW and
+ * cols_len / (PHS_WORDS_PER_ENTRY * n) rows. Only the cells of rows that out[0] counts are written; all others keep what they
+ * held. Hints, types, leaves and places go into one list in the same way. Refusals 1 to 7 write no list.
+ *
+ * Padded numbers. A varint is padded if it takes more bytes than the shortest one of its value, as 80 01 does for 1. SQLite
+ * writes none, so a padded one in a header is a strong hint that the row is none. PHS_ROW_PADDED is 1 where the header's length
+ * is padded, or a type that was read for the row, also a last one that runs past the header's end. Rebuilt rows and those of
+ * PHS_MODE_COLUMNS_ONLY and PHS_MODE_FIRST_COL_MISSING have no header length, so there it tells of types alone. The record's
+ * length and the row id of a cell do not count. No row is left out for it, and no confidence is less.
  *
  * Databases. A call sees the bytes that it is lent, and no file. The log that may stand beside a database, its name with -wal
  * behind it, may have newer pages than the database; no call reads it yet. Work on a copy of both files: sqlite3 writes the log
@@ -61,7 +67,7 @@ extern "C" {
  * The version of this header. It changes when the words of a row, of an entry or of an answer do, or what a call takes;
  * a call that is added leaves it.
  */
-#define PHS_VERSION 2
+#define PHS_VERSION 3
 
 /* The version of the library. Where it is not PHS_VERSION, no other call may be made. */
 uint64_t phs_version(void);
@@ -81,7 +87,7 @@ enum phs_refusal {
 };
 
 #define PHS_MOST_OUT 4 /* words of `out` that any call takes */
-#define PHS_WORDS_PER_ROW 8
+#define PHS_WORDS_PER_ROW 9
 #define PHS_WORDS_PER_ENTRY 4
 #define PHS_MOST_COLUMNS 510
 #define PHS_MOST_ONE_BYTE_COLUMNS 126 /* in a call that is lent PHS_ONE_BYTE */
@@ -128,7 +134,8 @@ enum phs_row_word {
     PHS_ROW_SOURCE = 4,     /* an enum phs_source */
     PHS_ROW_PERCENT = 5,    /* for people, from 0 to 100; 0 for the sources 0 and 1 */
     PHS_ROW_CONFIDENCE = 6, /* the bits of a 32-bit float: the share of columns that suit their hints, or as a call says */
-    PHS_ROW_MODE = 7        /* an enum phs_mode, plus 4 times the table's index where tables are lent */
+    PHS_ROW_MODE = 7,       /* an enum phs_mode, plus 4 times the table's index where tables are lent */
+    PHS_ROW_PADDED = 8      /* 1 if the header's length or a type is padded, else 0: "Padded numbers", above */
 };
 
 enum phs_source {
@@ -159,10 +166,10 @@ enum phs_state {
 
 /*
  * The varint at bytes[offset].
- * out, 3 words: 1 if it is whole, else 0; its value; the bytes that it takes, 1 to 9.
+ * out, 4 words: 1 if it is whole, else 0; its value; the bytes that it takes, 1 to 9; 1 if it is padded, else 0.
  * Returns 0.
  */
-uint64_t phs_read_varint(const uint8_t *bytes, size_t len, size_t offset, uint64_t out[3]);
+uint64_t phs_read_varint(const uint8_t *bytes, size_t len, size_t offset, uint64_t out[4]);
 
 /*
  * The body length of the serial type `kind`.

@@ -1,7 +1,7 @@
 //! Our side: each call of the C interface over a case.
 
 use crate::calls::*;
-use crate::case::{Answer, Case, Cell};
+use crate::case::{Answer, Case, List};
 use crate::door;
 use crate::rules::limits::{WORDS_PER_ENTRY, WORDS_PER_ROW};
 use crate::work::first_is_bytes;
@@ -20,13 +20,13 @@ pub struct Lent {
 }
 
 impl Lent {
-    pub fn new(case: &Case, cells: &[Cell]) -> Lent {
+    pub fn new(case: &Case, lists: &[List]) -> Lent {
         let mut lent = Lent::default();
         let mut sizes = case.lists.iter().copied();
-        if first_is_bytes(cells) {
+        if first_is_bytes(lists) {
             lent.bytes = vec![0; sizes.next().unwrap_or(0)];
         }
-        if cells.len() > 2 {
+        if lists.len() > 2 {
             lent.stack = vec![0; sizes.next().unwrap_or(0)];
         }
         lent.rows = vec![0; sizes.next().unwrap_or(0)];

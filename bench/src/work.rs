@@ -1,7 +1,7 @@
 //! One piece of work: a call with all that is lent to it, and the numbers that it is made with one after the other.
 
 use crate::calls::{self, *};
-use crate::case::{Case, Cell};
+use crate::case::{Case, List};
 use crate::door;
 use crate::ours::{self, Lent, Ours};
 use crate::rust::{self, Rust};
@@ -63,6 +63,6 @@ impl<'a> Prepared<'a> {
 }
 
 /// Whether the first list of a call holds bytes.
-pub fn first_is_bytes(cells: &[Cell]) -> bool {
-    matches!(cells.first(), Some(Cell::Byte | Cell::Flag))
+pub fn first_is_bytes(lists: &[List]) -> bool {
+    lists.first().is_some_and(|list| list.cell.is_byte())
 }

@@ -312,7 +312,7 @@ static size_t cell_head(const struct job *job, uint64_t *row)
     size_t place = start_of(job, row);
 
     for (size_t before = 2; before <= MOST_BEFORE && before <= place; before++) {
-        uint64_t length[3], id[3]; /* whether it is whole, its value, the bytes that it takes */
+        uint64_t length[4], id[4]; /* whether it is whole, its value, the bytes that it takes, whether it is padded */
         phs_read_varint(job->page, place, place - before, length);
         phs_read_varint(job->page, place, place - before + (size_t)length[2], id);
         if (length[0] && length[1] == row[PHS_ROW_CONSUMED] && id[0] && length[2] + id[2] == before) {
@@ -370,7 +370,7 @@ static void find_blocks(struct job *job)
 static int has_long_ids(const struct job *job)
 {
     size_t cells = two_bytes(job, job->header + 3);
-    uint64_t length[3], id[3]; /* whether it is whole, its value, the bytes that it takes */
+    uint64_t length[4], id[4]; /* whether it is whole, its value, the bytes that it takes, whether it is padded */
     size_t cell = cells == 0 ? job->len : two_bytes(job, job->header + 8 + 2 * (cells - 1));
 
     phs_read_varint(job->page, job->len, cell, length);

@@ -46,6 +46,10 @@ COUNTS = [
     (HEADER, r"PHS_MOST_LEARNED (\d+)", "sheet.mostRows"),
     (HEADER, r"PHS_VERSION (\d+)", "phsarodil.doorVersion"),
     (r"wrapper/src/\w+\.rs", r"const VERSION: u64 = (\d+)", "phsarodil.doorVersion"),
+    (r"wrapper/src/\w+\.rs", r"const ROW_WORDS: usize = (\d+)", "sheet.wordsPerRow"),
+    (r"wrapper/src/\w+\.rs", r"const ENTRY_WORDS: usize = (\d+)", "sheet.wordsPerEntry"),
+    (r"oracle/src/rules/\w+\.rs", r"const WORDS_PER_ROW: usize = (\d+)", "sheet.wordsPerRow"),
+    (r"oracle/src/rules/\w+\.rs", r"const WORDS_PER_ENTRY: usize = (\d+)", "sheet.wordsPerEntry"),
 ]
 # Where refusals have their numbers beside rule 1.1, and how a line of them is written.
 REFUSALS = {

@@ -6,15 +6,15 @@
 use std::sync::Once;
 
 /// The words that this crate knows: `PHS_VERSION` of the header. It moves with the three numbers below.
-const VERSION: u64 = 2;
+const VERSION: u64 = 3;
 
 /// The words of a row, `PHS_WORDS_PER_ROW`.
-pub const ROW_WORDS: usize = 8;
+pub const ROW_WORDS: usize = 9;
 
 /// The words of a column entry, `PHS_WORDS_PER_ENTRY`.
 pub const ENTRY_WORDS: usize = 4;
 
-/// How many modes the last word of a row tells apart: it holds the mode, plus so many times the table's index.
+/// How many modes the word of a row tells apart that holds the mode, plus so many times the table's index.
 pub const MODES: u64 = 4;
 
 /// A refusal number, 0 for none, with the words of `out`.
@@ -32,7 +32,7 @@ mod c {
             bytes: *const u8,
             len: usize,
             offset: usize,
-            out: *mut [u64; 3],
+            out: *mut [u64; 4],
         ) -> u64;
 
         pub fn phs_body_length(kind: u64, out: *mut [u64; 2]) -> u64;
@@ -306,7 +306,7 @@ fn answer<const N: usize>(call: impl FnOnce(*mut [u64; N]) -> u64) -> Answer<N> 
     (number, out)
 }
 
-pub fn read_varint(bytes: &[u8], offset: usize) -> Answer<3> {
+pub fn read_varint(bytes: &[u8], offset: usize) -> Answer<4> {
     answer(|out| unsafe { c::phs_read_varint(bytes.as_ptr(), bytes.len(), offset, out) })
 }
 

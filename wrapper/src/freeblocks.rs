@@ -134,6 +134,19 @@ mod tests {
     }
 
     #[test]
+    fn a_padded_header_is_marked() {
+        let mut db = database();
+        let marks = |db: &[u8]| -> Vec<bool> {
+            let found = all(recover_every_page_freeblocks(db, 512, &HINTS).unwrap());
+            found.iter().map(|found| found.record.row.padded).collect()
+        };
+        assert_eq!(marks(&db), [false]);
+        // The byte of rest becomes a part of the header's length.
+        db[512 + 304..][..2].copy_from_slice(&[0x80, 4]);
+        assert_eq!(marks(&db), [true]);
+    }
+
+    #[test]
     fn what_is_not_there_is_refused_or_has_no_rows() {
         let db = database();
         assert!(recover_freeblocks(&db, 512, &[]).unwrap().next().is_none());

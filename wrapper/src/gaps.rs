@@ -192,6 +192,29 @@ mod tests {
     }
 
     #[test]
+    fn padded_headers_are_marked() {
+        let first = |way, payload: &[u8]| {
+            let row = cells(way, payload, 0, &HINTS).unwrap()[0].row;
+            (row.offset, row.id.is_some(), row.padded)
+        };
+        for way in [OneByte, Exact] {
+            assert_eq!(first(way, &CELL), (2, true, false));
+            // The record's length, which does not count; the header's length; a type.
+            let length = [&[0x80], &CELL[..]].concat();
+            assert_eq!(first(way, &length), (3, true, false));
+            let header = [&[10, 7, 0x80, 4], &CELL[3..]].concat();
+            assert_eq!(first(way, &header), (2, true, true));
+            let types = [&[10, 7, 4, 0x80], &CELL[3..]].concat();
+            assert_eq!(first(way, &types), (2, true, true));
+            assert_eq!(first(way, &CELL[3..]), (0, false, false));
+        }
+        // Of a rebuilt row the types alone are there.
+        let types = [&[1, 0x80], &CELL[4..]].concat();
+        assert_eq!(first(Exact, &types), (0, false, true));
+        assert_eq!(first(OneByte, &types), (0, false, true));
+    }
+
+    #[test]
     fn neither_list_holds_the_other() {
         let starts = |way, payload: &[u8], hints: &[Hint]| -> Vec<u64> {
             let records = cells(way, payload, 0, hints).unwrap();

@@ -148,6 +148,17 @@ mod tests {
     }
 
     #[test]
+    fn a_padded_header_is_marked() {
+        let marks = |region: &[u8]| -> Vec<bool> {
+            let carved = carve_unallocated(region, &[1, 23], 0).unwrap();
+            carved.map(|record| record.row.padded).collect()
+        };
+        assert_eq!(marks(b"\x03\x01\x17*hipik"), [false]);
+        assert_eq!(marks(b"\x80\x04\x01\x17*hipik"), [true]);
+        assert_eq!(marks(b"\x04\x01\x80\x17*hipik"), [true]);
+    }
+
+    #[test]
     fn refusals() {
         assert_eq!(learned(&[vec![body(1, 7, 1)]]), Err(Refusal::Malformed));
         assert_eq!(

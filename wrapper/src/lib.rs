@@ -68,7 +68,7 @@ pub use refusal::Refusal;
 pub use rows::{scan, try_parse_record, Mode, Record, Row, Rows, Scan, Source};
 pub use search::{search, Places};
 pub use tables::Table;
-pub use values::{body_length, decode_serial_type, read_varint, Entry, State, Value};
+pub use values::{body_length, decode_serial_type, read_varint, Entry, State, Value, Varint};
 
 /// Its example is run.
 #[cfg(doctest)]

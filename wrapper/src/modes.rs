@@ -43,6 +43,35 @@ mod tests {
     }
 
     #[test]
+    fn padded_numbers_are_marked() {
+        let marks = |block: &[u8], columns| -> Vec<(Mode, bool)> {
+            let records = carved(block, 0, columns).unwrap();
+            let marks = records
+                .iter()
+                .map(|record| (record.row.mode, record.row.padded));
+            marks.collect()
+        };
+        assert_eq!(marks(&HIPIK, 2), [(Mode::Normal, false)]);
+        let length = [&[0x80, 0x04], &HIPIK[1..]].concat();
+        assert_eq!(marks(&length, 2), [(Mode::Normal, true)]);
+        let types = [&[0x04, 0x01, 0x80], &HIPIK[2..]].concat();
+        assert_eq!(marks(&types, 2), [(Mode::Normal, true)]);
+        // The second type is not read.
+        assert_eq!(marks(&types[..5], 1), [(Mode::Normal, false)]);
+        // Without a header length: the first byte is a type here.
+        assert_eq!(
+            marks(&types[1..], 2),
+            [(Mode::ColumnsOnly, true), (Mode::FirstColMissing, false)]
+        );
+        // The fifth byte pads a type, and is a part of one that needs its six bytes.
+        let lost = [0xff, 0x80, 0x80, 0x80, 0x80, 0x01, 0x2a];
+        assert_eq!(
+            marks(&lost, 2),
+            [(Mode::ColumnsOnly, false), (Mode::FirstColMissing, true)]
+        );
+    }
+
+    #[test]
     fn more_rows_than_a_batch() {
         for rows in [63, 64, 65, 128, 129, 300] {
             // What is left behind the last row has a reading in the other modes, which no row may come of.

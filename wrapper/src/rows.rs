@@ -52,6 +52,10 @@ pub struct Row {
     pub mode: Mode,
     /// The table's index, where tables are lent, else 0; [`Record::table`] has the table itself, with its name.
     pub table: usize,
+    /// Whether its header's length or a type that was read for it is padded ([`Varint::padded`](crate::Varint::padded)): a strong
+    /// hint that the row is none. Rebuilt rows and those of [`Mode::ColumnsOnly`] and [`Mode::FirstColMissing`] have no header
+    /// length, so there it tells of types alone. The record's length and the row id of a cell do not count.
+    pub padded: bool,
 }
 
 impl Row {
@@ -76,6 +80,7 @@ impl Row {
                 _ => Mode::FirstColMissing,
             },
             table: (words[7] / MODES) as usize,
+            padded: words[8] == 1,
         }
     }
 }
@@ -328,7 +333,8 @@ mod tests {
                 source: Source::Scan,
                 confidence: 1.0,
                 mode: Mode::Plain,
-                table: 0
+                table: 0,
+                padded: false
             }
         );
         assert_eq!(
@@ -362,6 +368,34 @@ mod tests {
             .collect();
         assert_eq!(found.len(), 1);
         assert_eq!(found[0].row.confidence, 0.5);
+    }
+
+    #[test]
+    fn a_padded_header_is_marked() {
+        let note = "n".repeat(58);
+        let marked = |header: &[u8], bodies: &[u8]| {
+            // Behind a byte that begins no row.
+            let region = [&[0x00], header, bodies].concat();
+            let rows: Vec<Row> = scan(&region, &HINTS, 0).unwrap().map(|r| r.row).collect();
+            let attempt = try_parse_record(&region, &HINTS, 0, 1).unwrap().unwrap();
+            assert_eq!(rows, [attempt.row]);
+            attempt.row.padded
+        };
+        assert!(!marked(&[0x03, 0x01, 0x17], b"*hipik"));
+        // A header length, a type; and one that runs past the header's end, where the integer is read from.
+        assert!(marked(&[0x80, 0x04, 0x01, 0x17], b"*hipik"));
+        assert!(marked(&[0x04, 0x80, 0x01, 0x17], b"*hipik"));
+        assert!(marked(&[0x04, 0x01, 0x80, 0x17], b"*hipik"));
+        assert!(marked(&[0x03, 0x01, 0x80, 0x17], b"hipik"));
+        // A type that needs its two bytes.
+        let long = [b"*", note.as_bytes()].concat();
+        assert!(!marked(&[0x04, 0x01, 0x81, 0x01], &long));
+        assert!(marked(&[0x05, 0x01, 0x80, 0x81, 0x01], &long));
+        // A header length that does.
+        let hints = [Hint::Integer; 127];
+        let types = [&[0x81, 0x01][..], &[8; 127]].concat();
+        let wide = try_parse_record(&types, &hints, 0, 0).unwrap().unwrap();
+        assert!(!wide.row.padded);
     }
 
     #[test]

@@ -69,10 +69,32 @@ impl<'a> Value<'a> {
     }
 }
 
-/// The varint at `offset` and the bytes that it takes, or `None` where it runs off the slice.
-pub fn read_varint(bytes: &[u8], offset: usize) -> Option<(u64, usize)> {
-    let (_, [found, value, taken]) = door::read_varint(bytes, offset);
-    (found == 1).then_some((value, taken as usize))
+/// A varint that was read.
+#[derive(Clone, Copy, Debug, PartialEq, Eq, Hash)]
+pub struct Varint {
+    /// Its value.
+    pub value: u64,
+    /// How many bytes it takes, 1 to 9.
+    pub length: usize,
+    /// Whether that is more than the shortest varint of its value takes. SQLite writes none that is.
+    pub padded: bool,
+}
+
+/// The varint at `offset`, or `None` where it runs off the slice.
+///
+/// ```
+/// # use phsarodil::read_varint;
+/// let [short, padded] = [0, 1].map(|offset| read_varint(&[0x01, 0x80, 0x01], offset).unwrap());
+/// assert_eq!((short.value, short.length, short.padded), (1, 1, false));
+/// assert_eq!((padded.value, padded.length, padded.padded), (1, 2, true));
+/// ```
+pub fn read_varint(bytes: &[u8], offset: usize) -> Option<Varint> {
+    let (_, [found, value, taken, padded]) = door::read_varint(bytes, offset);
+    (found == 1).then_some(Varint {
+        value,
+        length: taken as usize,
+        padded: padded == 1,
+    })
 }
 
 /// The body length of a serial type; the types 10 and 11 have none.
@@ -165,13 +187,60 @@ impl Entry {
 mod tests {
     use super::*;
 
+    /// A value as a varint of so many bytes: the ninth has eight bits of it, any other seven.
+    fn written(value: u64, length: usize) -> Vec<u8> {
+        let (last, rest) = match length {
+            9 => (value as u8, value >> 8),
+            _ => (value as u8 & 0x7f, value >> 7),
+        };
+        let first = (0..length - 1)
+            .rev()
+            .map(|i| (rest >> (7 * i)) as u8 | 0x80);
+        first.chain([last]).collect()
+    }
+
+    #[test]
+    fn varints_of_every_width() {
+        // The least value that takes one byte, two, and so on.
+        let least = [
+            0,
+            1 << 7,
+            1 << 14,
+            1 << 21,
+            1 << 28,
+            1 << 35,
+            1 << 42,
+            1 << 49,
+            1_u64 << 56,
+        ];
+        for width in 1..=9 {
+            let last = least.get(width).map_or(u64::MAX, |next| next - 1);
+            for length in width..=9 {
+                for value in [least[width - 1], last] {
+                    let bytes = [&[0xff], &written(value, length)[..], &[0xff]].concat();
+                    let padded = length > width;
+                    let read = read_varint(&bytes, 1).unwrap();
+                    assert_eq!(
+                        (read.value, read.length, read.padded),
+                        (value, length, padded)
+                    );
+                    assert_eq!(read_varint(&bytes[..length], 1), None);
+                }
+            }
+        }
+    }
+
     #[test]
     fn varints() {
-        assert_eq!(read_varint(&[0x81, 0x00], 0), Some((128, 2)));
-        assert_eq!(read_varint(&[0x7f, 0x80, 0x02], 1), Some((2, 2)));
-        assert_eq!(read_varint(&[0xff; 9], 0), Some((u64::MAX, 9)));
-        assert_eq!(read_varint(&[0x81], 0), None);
-        assert_eq!(read_varint(&[], usize::MAX), None);
+        let read = |bytes: &[u8], offset| {
+            read_varint(bytes, offset).map(|read| (read.value, read.length, read.padded))
+        };
+        assert_eq!(read(&[0x81, 0x00], 0), Some((128, 2, false)));
+        assert_eq!(read(&[0x7f, 0x80, 0x02], 1), Some((2, 2, true)));
+        assert_eq!(read(&[0xff; 9], 0), Some((u64::MAX, 9, false)));
+        assert_eq!(read(&[0x80, 0x00], 0), Some((0, 2, true)));
+        assert_eq!(read(&[0x81], 0), None);
+        assert_eq!(read(&[], usize::MAX), None);
     }
 
     #[test]

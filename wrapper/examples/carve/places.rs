@@ -142,11 +142,11 @@ impl<'a> Page<'a> {
         let place = self.start_of(record);
         let before_it = &self.bytes[..place];
         for before in 2..=MOST_BEFORE.min(place) {
-            let length = read_varint(before_it, place - before);
-            let id = length.and_then(|(_, taken)| read_varint(before_it, place - before + taken));
-            if let (Some((length, taken)), Some((id, more))) = (length, id) {
-                if length == record.row.consumed && taken + more == before {
-                    record.row.id = Some(id as i64);
+            let size = read_varint(before_it, place - before);
+            let id = size.and_then(|size| read_varint(before_it, place - before + size.length));
+            if let (Some(size), Some(id)) = (size, id) {
+                if size.value == record.row.consumed && size.length + id.length == before {
+                    record.row.id = Some(id.value as i64);
                     return before;
                 }
             }
@@ -163,8 +163,8 @@ impl<'a> Page<'a> {
             0 => self.bytes.len(),
             cells => self.two_bytes(self.header + 8 + 2 * (cells - 1)),
         };
-        let taken = read_varint(self.bytes, cell).map_or(0, |(_, taken)| taken);
-        read_varint(self.bytes, cell + taken).is_none_or(|(_, taken)| taken > 1)
+        let taken = read_varint(self.bytes, cell).map_or(0, |size| size.length);
+        read_varint(self.bytes, cell + taken).is_none_or(|id| id.length > 1)
     }
 
     /// Whether the link took a type of a row as well: three bytes are before the types of a short row with a short id.

@@ -2,7 +2,7 @@
 -- Assumes nothing.
 use Prim.Native.Nat.{ℕ, zero, suc, _+_, _-_, _≤_, _<_, min}
 use mathlib.Core.Path.{_≡_, refl, sym, ap, _∙_}
-use mathlib.Core.Bool.{Bool, true, _||_, or-assoc, or-false}
+use mathlib.Core.Bool.{Bool, true, _||_}
 use mathlib.Core.List.{List, [], _∷_, _++_}
 use native.Mathlib.Omega.{arith}
 use lib.ListN.{length, drop, length-append}
@@ -10,7 +10,7 @@ use lib.Seq.{drop-drop}
 use borrow.Author.Tests.{lt-ltb, le-ltb}
 use Rattle.record.proofs.Laws.{varint-reach, places-count}
 use Rattle.record.proofs.Numbers.{by-order}
-use Rattle.record.proofs.Types.{places-step, places-cut, places-none, places-end, padded-step, padded-none, padded-end}
+use Rattle.record.proofs.Types.{places-step, places-cut, places-none, places-end, padded-step, padded-none, padded-end, marked-step, marked-end}
 use Rattle.record.specs.Places.{stopOf, varintPlaces, typePlaces, typesPadded}
 use Rattle.record.specs.Varint.{varintAt}
 use Rattle.record.specs.declared.varint.Cursor.{Cursor}
@@ -124,7 +124,7 @@ module _ (s hints : List ℕ) (w : Types) (p : Bool) (at stop count matched tota
     f,
     omega arith,
     along-step s hints w at stop count matched total f t c h e a,
-    m ∙ ap (λ b. mark || b) (padded-step f s at stop t c h e) ∙ sym (or-assoc mark (c .padded) (typesPadded f s (c .at) stop)),
+    marked-step f s at stop t c p mark h e m,
   )
 
   pub left-cut : at < stop → varintAt s at ≡ Short → Left s hints w p at stop count matched total mark → Walked s hints w p Cut
@@ -134,7 +134,7 @@ module _ (s hints : List ℕ) (w : Types) (p : Bool) (at stop count matched tota
 
   pub left-end : stop ≤ at → Left s hints w p at stop count matched total mark → Walked s hints w p (Whole count matched total at mark)
   unfolding Left
-  left-end h (f, k, a, m) = along-end (rw (types-end f s at stop h) at a) (m ∙ ap (λ b. mark || b) (padded-end f s at stop h) ∙ or-false mark)
+  left-end h (f, k, a, m) = along-end (rw (types-end f s at stop h) at a) (marked-end f s at stop p mark (padded-end f s at stop h) m)
 
 -- ---- where reading stops
 

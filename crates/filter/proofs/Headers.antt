@@ -22,11 +22,11 @@ use Rattle.record.specs.declared.varint.Varint.the-variants.{Value, Short}
 module _ (s hints : List ℕ) (o h : ℕ) (inside : o < length s) (is : h ≡ getD s o 0) where
   -- below 128 it is the header's length,
   module _ (low : h < 128) where
-    number : varintAt s o ≡ Value h (record { at = o + 1 })
+    number : varintAt s o ≡ Value h (record { at = o + 1; padded = false })
     number = varint-low s o inside (rw is at low) ∙ rw is
 
     pub one-not : headerFits (length s) o h ≡ false → MissAt s hints o 1
-    one-not f = let e : o + 1 - o ≡ 1 = omega arith in rw e at (attempt-bad s hints o h (record { at = o + 1 }) number f)
+    one-not f = let e : o + 1 - o ≡ 1 = omega arith in rw e at (attempt-bad s hints o h (record { at = o + 1; padded = false }) number f)
 
     pub too-low : h < 2 → MissAt s hints o 1
     too-low lt = one-not (fits-not (length s) o h (λ p q r. omega arith))
@@ -36,7 +36,7 @@ module _ (s hints : List ℕ) (o h : ℕ) (inside : o < length s) (is : h ≡ ge
 
     module _ (two : 2 ≤ h) (in′ : h ≤ length s - o) where
       one-headed : Headed s o h (o + 1)
-      one-headed = headed s o h (record { at = o + 1 }) number two (omega arith) in′ (omega arith)
+      one-headed = headed s o h (record { at = o + 1; padded = false }) number two (omega arith) in′ (omega arith)
 
       pub one-past : o ≤ reach s (headerTypes s o h (o + 1))
       one-past = omega (arith, read-all s hints o h (o + 1) one-headed .0)
@@ -45,8 +45,8 @@ module _ (s hints : List ℕ) (o h : ℕ) (inside : o < length s) (is : h ≡ ge
         pub one-never : MissAt s hints o (reach s (headerTypes s o h (o + 1)) - o)
         one-never =
             let f = fits (length s) o h two (omega arith) in′ in
-            rw (attempt-is s hints o h (record { at = o + 1 }) number f, places-is s o h (record { at = o + 1 }) number f)
-            (judge-never s hints o h (o + 1) one-headed none)
+            rw (attempt-is s hints o h (record { at = o + 1; padded = false }) number f, places-is s o h (record { at = o + 1; padded = false }) number f)
+            (judge-never s hints o h (o + 1) one-headed _ none)
 
         pub one-soon : (r : ℕ) → SoonEnds s o h r → 0 < r → MissAt s hints o r
         one-soon r ends some = let d : reach s (headerTypes s o h (o + 1)) - o ≡ r = omega (arith, ends some) in rw d at one-never

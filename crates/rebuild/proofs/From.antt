@@ -14,11 +14,13 @@ use Rattle.attempt.specs.Attempt.{Types, ended, cut, kind, isWhole, typesFrom, 
 use Rattle.attempt.specs.Inner.{reach, headerTypes}
 use Rattle.attempt.specs.Moved.{moved}
 use Rattle.rebuild.specs.Header.{mostTypeBytes, ownBytes, mostBy, Guess, noHeader, takes, exactTypes, takenFrom, guessed, without, rebuilt}
+use Rattle.rebuild.specs.Inner.{exactPadded}
 use Rattle.rebuild.specs.declared.rebuilding.Rebuilding.{Rebuilding}
 use Rattle.rebuild.specs.declared.rebuilding.Rebuilding.the-variants.{OneByte, Exact}
 use Rattle.rebuild.proofs.Laws.{behind-made, rebuilt-with, rebuilt-cut, rebuilt-none}
 use Rattle.record.proofs.Laws.{varint-lies}
 use Rattle.record.proofs.Numbers.{by-order}
+use Rattle.record.specs.Places.{typesPadded}
 use Rattle.record.specs.Varint.{varintAt}
 use Rattle.record.specs.declared.varint.Varint.{Varint}
 use Rattle.record.specs.declared.varint.Varint.the-variants.{Value, Short}
@@ -59,15 +61,16 @@ module _ (d : List ℕ) (v : ℕ) (start : v ≤ length d) where
   guess-small Exact (suc n) t some few e = (exact-some n t e, taken-from d v (exactTypes d (suc n) v) t e .2)
   guess-small Exact zero t some few e = absurd (omega arith)
 
-  -- THE LAW: the types of the exact mode's header are those that it read, and it ends where they do, in the payload
-  pub header-is : (n t : ℕ) → guessed Exact d n v ≡ takes t → (headerTypes d v t v ≡ exactTypes d n v) × (v + t ≡ reach d (exactTypes d n v)) × (v + t ≤ length d)
+  -- THE LAW: the types of the exact mode's header are those that it read, with their mark, and it ends where they do, in the payload
+  pub header-is : (n t : ℕ) → guessed Exact d n v ≡ takes t
+      → (headerTypes d v t v ≡ exactTypes d n v) × (v + t ≡ reach d (exactTypes d n v)) × (v + t ≤ length d) × (typesPadded t d v (v + t) ≡ exactPadded d n v)
   unfolding guessed
   header-is n t e =
       let f = taken-from d v (exactTypes d n v) t e in
       let z = stops d (v + suc mostTypeBytes) n v start in
       let end : v + t ≡ reach d (exactTypes d n v) = omega (arith, f .1, z .counts) in
       let same = types-to-end d (v + suc mostTypeBytes) n v t start (f .0) (omega (arith, f .1, f .2, z .counts)) (omega (arith, f .1)) in
-      (rw end same, end, omega (arith, z .inside))
+      (rw end (same .0), end, omega (arith, z .inside), rw end (same .1))
 
 -- ---- behind the made-up bytes stands what the header makes
 columns-of : {a b : Found} → hit a ≡ hit b → a .columns ≡ b .columns
@@ -77,7 +80,7 @@ behind : (k : ℕ) (x : Found) (t : Tried) → without k (longer k t) ≡ hit x 
 behind k x miss e = never e
 behind k x (hit y) e = go (leb (k + y .consumed) mostBytes) e
   where
-    go : (b : Bool) → without k (cond b (hit (record { consumed = k + y .consumed; matched = y .matched; columns = moved k (y .columns) })) miss) ≡ hit x
+    go : (b : Bool) → without k (cond b (hit (record { consumed = k + y .consumed; matched = y .matched; columns = moved k (y .columns); padded = y .padded })) miss) ≡ hit x
         → (z : Found) × (hit y ≡ hit z) × (z .columns ≡ x .columns)
     go false e = never e
     go true e = (y, refl, sym (back-moved k (y .columns)) ∙ columns-of e)

@@ -7,7 +7,7 @@ use mathlib.Core.Bool.{Bool, true, false, cond}
 use mathlib.Core.List.{List, [], _∷_, _++_}
 use native.Mathlib.Nat.{add-zero}
 use native.Mathlib.Omega.{arith}
-use borrow.Author.Tests.{le-leb, lt-leb}
+use borrow.Author.Tests.{le-leb, lt-leb, le-ltb}
 use lib.Dec.{leb}
 use lib.ListN.{length, drop, length-drop}
 use Rattle.attempt.proofs.Shifts.{back-moved, moved-at, given, movedTried, longer, given-moved, made-up, made-up-cut}
@@ -23,7 +23,8 @@ use Rattle.rebuild.specs.declared.rebuilding.Rebuilding.the-variants.{On
 use Rattle.record.proofs.Laws.{varint-low, varint-two}
 use Rattle.record.proofs.Numbers.{by-order}
 use Rattle.record.proofs.Shifts.{part-rest}
-use Rattle.record.specs.Varint.{varintAt}
+use Rattle.record.proofs.Widths.{width-least}
+use Rattle.record.specs.Varint.{widthOf, varintAt}
 use Rattle.record.specs.declared.varint.Varint.the-variants.{Value}
 use Rattle.sheet.specs.Limits.{mostHeader}
 
@@ -35,22 +36,23 @@ own-length t = go (leb t oneByteTypes)
     go true = refl
     go false = refl
 
--- THE LAW: they read as the bytes of the types and their own
-pub own-read : (t : ℕ) (l : List ℕ) → t ≤ mostTypeBytes → varintAt (lengthBytes t ++ l) 0 ≡ Value (length (lengthBytes t) + t) (record { at = length (lengthBytes t) })
+-- THE LAW: they read as the bytes of the types and their own, in the shortest form
+pub own-read : (t : ℕ) (l : List ℕ) → t ≤ mostTypeBytes → varintAt (lengthBytes t ++ l) 0 ≡ Value (length (lengthBytes t) + t) (record { at = length (lengthBytes t); padded = false })
 own-read t l few = by-order oneByteTypes t two one
   where
-    one : t ≤ oneByteTypes → varintAt (lengthBytes t ++ l) 0 ≡ Value (length (lengthBytes t) + t) (record { at = length (lengthBytes t) })
+    one : t ≤ oneByteTypes → varintAt (lengthBytes t ++ l) 0 ≡ Value (length (lengthBytes t) + t) (record { at = length (lengthBytes t); padded = false })
     one le = let e : t + 1 ≡ 1 + t = omega arith in rw (le-leb t oneByteTypes le) (varint-low ((t + 1) ∷ l) 0 (omega arith) (omega arith) ∙ rw e)
 
-    two : oneByteTypes < t → varintAt (lengthBytes t ++ l) 0 ≡ Value (length (lengthBytes t) + t) (record { at = length (lengthBytes t) })
+    two : oneByteTypes < t → varintAt (lengthBytes t ++ l) 0 ≡ Value (length (lengthBytes t) + t) (record { at = length (lengthBytes t); padded = false })
     two gt =
         let e : (128 + (t + 2) / 128) % 128 * 128 + (t + 2) % 128 ≡ 2 + t = omega arith in
-        rw (lt-leb t oneByteTypes gt) (varint-two ((128 + (t + 2) / 128) ∷ (t + 2) % 128 ∷ l) 0 (omega arith) (omega arith) (omega arith) ∙ rw e)
+        let short = le-ltb (widthOf (2 + t)) 2 (width-least (2 + t) 1 (omega arith) (omega arith)) in
+        rw (lt-leb t oneByteTypes gt) (varint-two ((128 + (t + 2) / 128) ∷ (t + 2) % 128 ∷ l) 0 (omega arith) (omega arith) (omega arith) ∙ rw (e, short))
 
 -- ---- what was found at v, said of the bytes from v on
 abbrev pub seenFrom : ℕ → Tried → Tried
 seenFrom v miss = miss
-seenFrom v (hit x) = hit (record { consumed = x .consumed; matched = x .matched; columns = back v (x .columns) })
+seenFrom v (hit x) = hit (record { consumed = x .consumed; matched = x .matched; columns = back v (x .columns); padded = x .padded })
 
 -- with k bytes more it takes too many, or not
 abbrev pub shortOnly : ℕ → Tried → Tried
@@ -61,8 +63,8 @@ both : (k v : ℕ) (t : Tried) → without k (longer k t) ≡ shortOnly k (seenF
 both k v miss = refl
 both k v (hit x) = rw (back-moved v (x .columns)) (go (leb (k + x .consumed) mostBytes))
   where
-    go : (b : Bool) → without k (cond b (hit (record { consumed = k + x .consumed; matched = x .matched; columns = moved k (x .columns) })) miss)
-        ≡ cond b (hit (record { consumed = x .consumed; matched = x .matched; columns = x .columns })) miss
+    go : (b : Bool) → without k (cond b (hit (record { consumed = k + x .consumed; matched = x .matched; columns = moved k (x .columns); padded = x .padded })) miss)
+        ≡ cond b (hit (record { consumed = x .consumed; matched = x .matched; columns = x .columns; padded = x .padded })) miss
     go true = let e : k + x .consumed - k ≡ x .consumed = omega arith in rw (e, back-moved k (x .columns))
     go false = refl
 
@@ -104,7 +106,7 @@ module _ (d hints : List ℕ) (v : ℕ) (start : v ≤ length d) (t : ℕ) (some
       rebuilt-miss e = rebuilt-with ∙ (behind-is h ∙ rw e)
 
       -- THE LAW: what such a header tells, and with it the made-up bytes
-      pub rebuilt-told : (verdict : Verdict) → Judged d hints v t v verdict → RebuiltIs how d hints v (shortBy (ownBytes t) verdict)
+      pub rebuilt-told : (verdict : Verdict) → Judged d hints v t (record { at = v; padded = false }) verdict → RebuiltIs how d hints v (shortBy (ownBytes t) verdict)
       rebuilt-told (Miss read) m = rebuilt-miss (m .misses)
       rebuilt-told (Hit x) f = go (leb (ownBytes t + x .consumed) mostBytes) refl
         where

@@ -2,6 +2,7 @@
 -- Assumes nothing.
 use Prim.Native.Nat.{ℕ, zero, suc, _+_, _-_, _≤_, _<_}
 use mathlib.Core.Path.{_≡_, refl, sym, ap, _∙_}
+use mathlib.Core.Bool.{false}
 use mathlib.Core.List.{List, _∷_}
 use native.Mathlib.Nat.{add-zero}
 use native.Mathlib.Omega.{arith}
@@ -13,12 +14,13 @@ use Rattle.attempt.proofs.Types.{types-step, types-cut, types-none, stops}
 use Rattle.attempt.specs.Attempt.{ended, typesFrom, Tried, attemptAt}
 use Rattle.attempt.specs.Inner.{headerTypes}
 use Rattle.rebuild.specs.Header.{oneByteTypes, mostTypeBytes, ownBytes, Guess, noHeader, takes, exactTypes, exactPlaces, takenFrom, guessed, without, rebuilt}
+use Rattle.rebuild.specs.Inner.{exactPadded}
 use Rattle.rebuild.specs.declared.rebuilding.Rebuilding.the-variants.{OneByte, Exact}
 use Rattle.rebuild.proofs.From.{header-is, guess-small}
 use Rattle.rebuild.proofs.Laws.{seenFrom, shortOnly, behind-is, rebuilt-with, rebuilt-cut, rebuilt-none, one-byte-guess}
 use Rattle.record.proofs.Laws.{varint-lies, varint-low}
 use Rattle.record.proofs.Numbers.{by-order}
-use Rattle.record.specs.Places.{AgreeAt}
+use Rattle.record.specs.Places.{AgreeAt, typesPadded}
 use Rattle.record.specs.Varint.{varintAt}
 use Rattle.record.specs.declared.varint.Varint.{Varint}
 use Rattle.record.specs.declared.varint.Varint.the-variants.{Value, Short}
@@ -39,7 +41,7 @@ module _ (d : List ℕ) (v n : ℕ) (few : n ≤ mostColumns) (low : (p : ℕ) �
   one-each zero at from to in′ = rw (types-none d at (stopAt v), add-zero at)
   one-each (suc f) at from to in′ =
       let e : at + suc f ≡ at + 1 + f = omega arith in
-      rw (types-step f d at (stopAt v) (getD d at 0) (record { at = at + 1 }) (omega arith) (varint-low d at (omega arith) (low at from (omega arith))), e)
+      rw (types-step f d at (stopAt v) (getD d at 0) (record { at = at + 1; padded = false }) (omega arith) (varint-low d at (omega arith) (low at from (omega arith))), e)
       (one-each f (at + 1) (omega arith) (omega arith) (omega arith))
 
   -- or the payload ends before
@@ -48,7 +50,7 @@ module _ (d : List ℕ) (v n : ℕ) (few : n ≤ mostColumns) (low : (p : ℕ) �
   one-off (suc f) at from to in′ out =
       by-order at (length d)
       (λ there.
-      rw (types-step f d at (stopAt v) (getD d at 0) (record { at = at + 1 }) (omega arith) (varint-low d at there (low at from (omega arith))))
+      rw (types-step f d at (stopAt v) (getD d at 0) (record { at = at + 1; padded = false }) (omega arith) (varint-low d at there (low at from (omega arith))))
       (one-off f (at + 1) (omega arith) (omega arith) (omega arith) (omega arith)))
       (λ end. rw (types-cut f d at (stopAt v) (omega arith) (nothing (varintAt d at) refl end)))
     where
@@ -86,6 +88,9 @@ module _ (x y hints : List ℕ) (v : ℕ) (long : length x ≡ length y) (start 
   same-types : exactTypes y n v ≡ exactTypes x n v
   same-types = types-same x y long n v (stopAt v) agree .0
 
+  same-mark : exactPadded y n v ≡ exactPadded x n v
+  same-mark = types-same x y long n v (stopAt v) agree .2
+
   same-guess : guessed Exact y n v ≡ guessed Exact x n v
   unfolding guessed
   same-guess = ap (takenFrom v) same-types
@@ -102,7 +107,8 @@ module _ (x y hints : List ℕ) (v : ℕ) (long : length x ≡ length y) (start 
           let hx = header-is x v start n t g in
           let hy = header-is y v start′ n t (same-guess ∙ g) in
           let types : headerTypes y v t v ≡ headerTypes x v t v = hy .0 ∙ (same-types ∙ sym (hx .0)) in
-          let made : given y hints v t ≡ given x hints v t = rw (← long, types) in
+          let marks : typesPadded t y v (v + t) ≡ typesPadded t x v (v + t) = hy .3 ∙ (same-mark ∙ sym (hx .3)) in
+          let made : given y hints v t ≡ given x hints v t = rw (← long, types, marks) in
           rebuilt-with y hints v start′ t (small .0) (small .1) Exact (same-guess ∙ g)
           ∙ (behind-is y hints v start′ t (small .0) (small .1) (omega (arith, hy .2))
           ∙ (ap (λ (r : Tried). shortOnly (ownBytes t) (seenFrom v r)) made

@@ -1,8 +1,8 @@
 -- Types one behind the other: the places that reading them looks at, and whether one is padded.
 -- Assumes nothing.
 use Prim.Native.Nat.{ℕ, zero, suc, _≤_, _<_}
-use mathlib.Core.Path.{_≡_, refl}
-use mathlib.Core.Bool.{false, _||_}
+use mathlib.Core.Path.{_≡_, refl, sym, ap, _∙_}
+use mathlib.Core.Bool.{Bool, false, _||_, or-assoc, or-false}
 use mathlib.Core.List.{List, [], _++_}
 use borrow.Author.Tests.{lt-ltb, le-ltb}
 use Rattle.record.specs.Places.{varintPlaces, typePlaces, typesPadded}
@@ -44,3 +44,15 @@ pub padded-end : (f : ℕ) (s : List ℕ) (at stop : ℕ) → stop ≤ at → ty
 unfolding typesPadded
 padded-end zero s at stop h = refl
 padded-end (suc f) s at stop h = simp (le-ltb at stop h)
+
+-- ---- p is the mark of all, and `mark` that of those that have been read
+module _ (f : ℕ) (s : List ℕ) (at stop : ℕ) where
+  -- THE LAW: one more was read,
+  pub marked-step : (t : ℕ) (c : Cursor) (p mark : Bool) → at < stop → varintAt s at ≡ Value t c → p ≡ (mark || typesPadded (suc f) s at stop)
+      → p ≡ (mark || c .padded || typesPadded f s (c .at) stop)
+  marked-step t c p mark h e m =
+      m ∙ (ap (λ b. mark || b) (padded-step f s at stop t c h e) ∙ sym (or-assoc mark (c .padded) (typesPadded f s (c .at) stop)))
+
+  -- and none is left
+  pub marked-end : (p mark : Bool) → typesPadded f s at stop ≡ false → p ≡ (mark || typesPadded f s at stop) → p ≡ mark
+  marked-end p mark none m = m ∙ (ap (λ b. mark || b) none ∙ or-false mark)

@@ -53,3 +53,7 @@ module _ (v : ℕ) where
         let b = leading-length 64 v (omega arith) in
         omega (arith, width-low low, bits-least (b .0) (7 * n) (b .2) h, b .1))
         (λ high. omega (arith, width-nine high))
+
+  -- none takes more than nine
+  pub width-nine-most : widthOf v ≤ 9
+  width-nine-most = by-order v (2 ^ 56) (λ low. omega (arith, width-most 8 (omega arith) (omega arith) low)) (λ high. omega (arith, width-nine high))

@@ -5,7 +5,7 @@ use denote.Ref.{now}
 use Rattle.rebuild.specs.Inner.{Taken}
 use borrow.Author.Needs.{needs}
 use Rattle.rebuild.proofs.Laws.{rebuilt-told}
-use Rattle.rebuild.proofs.Reading.{taken-guess, taken-header, taken-inside, taken-headed}
+use Rattle.rebuild.proofs.Reading.{taken-guess, taken-header, taken-mark, taken-inside, taken-headed}
 use Rattle.rebuild.proofs.inner.exact.Statement.{statement}
 use Rattle.rebuild.proofs.inner.exact.Tie as tie
 
@@ -13,7 +13,7 @@ use Rattle.rebuild.proofs.inner.exact.Tie as tie
 taken : (c : tie.After-known-told) →
     let a = c .before .before .before .before .before .before .args in
     let w = c .before .matched .given .0 in
-    Taken (now (a .payload)) (now (a .hints)) (a .v) (w .0) (w .1 .0) (w .1 .1 .0)
+    Taken (now (a .payload)) (now (a .hints)) (a .v) (w .0) (w .1 .0) (w .1 .1 .0) (w .1 .1 .1 .0)
 taken c = rw (c .before .matched .given .1) at (c .before .before .before .walk-columns .ensures)
 
 walk-columns-requires : tie.Need-walk-columns-requires
@@ -38,7 +38,7 @@ judge-requires : tie.Need-judge-requires
 judge-requires c κs =
     let t = taken (c .before) in
     let start = c .before .before .before .before .before .before .before .pre .0 .0 in
-    (taken-headed _ _ _ _ _ _ start t, rw (taken-header _ _ _ _ _ _ start t) (t .whole))
+    (taken-headed _ _ _ _ _ _ _ start t, rw (taken-header _ _ _ _ _ _ _ start t, taken-mark _ _ _ _ _ _ _ start t) (t .whole))
 
 short-by-requires : tie.Need-short-by-requires
 short-by-requires c κs = search needs
@@ -49,7 +49,7 @@ returns-2 c =
     let t = taken (c .before .before .before) in
     let start = s .pre .0 .0 in
     rw (c .short-by .ensures, c .before .before .own-bytes .ensures .0)
-    (rebuilt-told (now (s .args .payload)) (now (s .args .hints)) _ start _ (omega (arith, t .past)) (omega (arith, t .near)) _ (taken-guess _ _ _ _ _ _ start t) (omega (arith, taken-inside _ _ _ _ _ _ start t)) (c .before .judge .result) (c .before .judge .ensures))
+    (rebuilt-told (now (s .args .payload)) (now (s .args .hints)) _ start _ (omega (arith, t .past)) (omega (arith, t .near)) _ (taken-guess _ _ _ _ _ _ _ start t) (omega (arith, taken-inside _ _ _ _ _ _ _ start t)) (c .before .judge .result) (c .before .judge .ensures))
 
 pub exact-spec : {M : Type 1} → statement M
 exact-spec =

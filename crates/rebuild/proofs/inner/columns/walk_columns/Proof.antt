@@ -2,6 +2,7 @@
 -- Assumes nothing.
 use Prim.Native.Nat.{_+_, _-_, _≤_}
 use mathlib.Core.Path.{_≡_, sym, _∙_}
+use mathlib.Core.Bool.{_||_}
 use native.Mathlib.Omega.{arith}
 use denote.Ref.{now}
 use lib.ListN.{length}
@@ -15,11 +16,11 @@ use Rattle.rebuild.proofs.inner.columns.walk_columns.Statement.{stateme
 use Rattle.rebuild.proofs.inner.columns.walk_columns.Tie as tie
 
 abbrev Inv-loop : tie.InvT-loop
-Inv-loop payload hints v last at₀ count₀ matched₀ total₀ at count matched total =
-    (v + count ≤ at) × (at ≤ length payload) × (matched ≤ count) × (total ≤ tooLong) × Reading payload hints v at count matched total
+Inv-loop payload hints v last at₀ padded₀ count₀ matched₀ total₀ at padded count matched total =
+    (v + count ≤ at) × (at ≤ length payload) × (matched ≤ count) × (total ≤ tooLong) × Reading payload hints v at count matched total padded
 
 abbrev μ-loop : tie.MeasureT-loop
-μ-loop payload hints v last at₀ count₀ matched₀ total₀ at count matched total = length hints - count
+μ-loop payload hints v last at₀ padded₀ count₀ matched₀ total₀ at padded count matched total = length hints - count
 
 -- ---- places, from the last: a type was read; the turn of the loop; the call
 abbrev turn : tie.After-known-told Inv-loop μ-loop → tie.In-loop Inv-loop μ-loop
@@ -40,7 +41,7 @@ loop-holds : tie.Need-loop-holds Inv-loop μ-loop
 loop-holds c = (omega arith, c .before .before .pre .0 .0, omega arith, omega arith, reading-start _ _ _)
 
 returns : tie.Need-returns Inv-loop μ-loop
-returns c = reading-over _ _ _ _ _ _ _ (c .before .before .loop .inv .4) (c .if1 .taken)
+returns c = reading-over _ _ _ _ _ _ _ _ (c .before .before .loop .inv .4) (c .if1 .taken)
 
 serial-type-requires : tie.Need-serial-type-requires Inv-loop μ-loop
 serial-type-requires c κs = search needs
@@ -54,7 +55,7 @@ enum-told c = search needs
 returns-2 : tie.Need-returns-2 Inv-loop μ-loop
 returns-2 c =
     let l = c .before .before .before .before .before .loop in
-    reading-cut _ _ _ _ _ _ _ (l .inv .4) (c .before .before .before .before .loop-test .taken) (c .before .before .before .if1 .left) (sym (c .before .before .serial-type .ensures) ∙ c .enum-told .given .1)
+    reading-cut _ _ _ _ _ _ _ _ (l .inv .4) (c .before .before .before .before .loop-test .taken) (c .before .before .before .if1 .left) (sym (c .before .before .serial-type .ensures) ∙ c .enum-told .given .1)
 
 suits-at-requires : tie.Need-suits-at-requires Inv-loop μ-loop
 suits-at-requires c κs = search needs
@@ -75,27 +76,28 @@ one-more : (c : tie.After-add-body Inv-loop μ-loop) →
     let a = start (turn (c .before .before)) .args in
     let l = turn (c .before .before) .before .loop in
     Reading (now (a .payload)) (now (a .hints)) (a .v) (c .before .before .before .kind .given .0 .1 .0 .at) (l .count + 1) (l .matched + c .before .suits-at .result) (c .add-body .result)
+    (l .padded || c .before .before .before .kind .given .0 .1 .0 .padded)
 one-more c =
     let o = c .before .before in
     let t = turn o in
     rw (c .before .suits-at .ensures .0, c .add-body .ensures)
-    (reading-step _ _ _ _ _ _ _ (t .before .loop .inv .4) _ _ (t .loop-test .taken) (o .before .before .before .before .if1 .left) (read o))
+    (reading-step _ _ _ _ _ _ _ _ (t .before .loop .inv .4) _ _ (t .loop-test .taken) (o .before .before .before .before .if1 .left) (read o))
 
 sub-if2 : tie.Need-sub-if2 Inv-loop μ-loop
-sub-if2 c = varint-lies _ _ _ _ (read (c .before .before)) .inside
+sub-if2 c = varint-lies _ _ _ _ (read (c .before .before .before)) .inside
 
 returns-3 : tie.Need-returns-3 Inv-loop μ-loop
 returns-3 c =
-    let o = c .before in
+    let o = c .before .before in
     let p = start (turn (o .before .before)) .pre in
-    reading-long _ _ _ _ _ _ _ (one-more o) (p .0 .0) (p .1 .0) (p .1 .1) (varint-lies _ _ _ _ (read (o .before .before)) .inside) (omega (arith, o .add-body .ensures)) (c .if2 .taken)
+    reading-long _ _ _ _ _ _ _ _ (one-more o) (p .0 .0) (p .1 .0) (p .1 .1) (varint-lies _ _ _ _ (read (o .before .before)) .inside) (omega (arith, o .add-body .ensures)) (c .if2 .taken)
 
 loop-less : tie.Need-loop-less Inv-loop μ-loop
 loop-less c = search needs
 
 loop-again : tie.Need-loop-again Inv-loop μ-loop
 loop-again c =
-    let o = c .before in
+    let o = c .before .before in
     let l = turn (o .before .before) .before .loop in
     let z = varint-lies _ _ _ _ (read (o .before .before)) in (
       omega (arith, z .past, l .inv .0),
@@ -106,12 +108,12 @@ loop-again c =
     )
 
 returns-4 : tie.Need-returns-4 Inv-loop μ-loop
-returns-4 c = reading-over _ _ _ _ _ _ _ (c .before .before .loop .inv .4) (c .if3 .taken)
+returns-4 c = reading-over _ _ _ _ _ _ _ _ (c .before .before .loop .inv .4) (c .if3 .taken)
 
 returns-5 : tie.Need-returns-5 Inv-loop μ-loop
 returns-5 c =
     let l = c .before .before .loop in
-    reading-end _ _ _ _ _ _ _ (l .inv .4) (c .before .loop-test .left) (c .before .before .before .before .before .pre .1 .0) (l .inv .0) (c .if3 .left)
+    reading-end _ _ _ _ _ _ _ _ (l .inv .4) (c .before .loop-test .left) (c .before .before .before .before .before .pre .1 .0) (l .inv .0) (c .if3 .left)
 
 pub walk-columns-spec : {M : Type 1} → statement M
 walk-columns-spec =

@@ -63,10 +63,11 @@ unused = 3 ∷ 0 ∷ 0 ∷ 0 ∷ []
 left : ℕ → List ℕ
 left n = replicate n 7
 
--- In turn: a row; two rows, one behind the other; the second finds no room. A header's byte that no type takes is passed over, and fewer types
--- than columns leave the rest unused. A text that does not fit and a type 10 move nothing. Too long a header is a row for the other two modes:
--- both, or, of one column, only the first. Two bytes are too few for the first mode. A row is marked for a padded length, for the second of its
--- types, and for one that runs past the header's end, but not for one that is not read; each of the other two for its own types. Then the refusals.
+-- In turn: a row; two rows, one behind the other; the second finds no room. A header's byte that no type takes is passed over, and fewer
+-- types than columns leave the rest unused. A text that does not fit and a type 10 move nothing. Too long a header is a row for the other
+-- two modes: both, or, of one column, only the first. Two bytes are too few for the first mode. A row is marked for a padded length, for
+-- the second of its types, and for one that runs past the header's end, but not for one that is not read; each of the other two for its
+-- own types. Then the refusals.
 cases : List Case
 cases =
     carve (0x03 ∷ 0x01 ∷ 0x17 ∷ 0x2a ∷ 0x68 ∷ 0x69 ∷ 0x70 ∷ 0x69 ∷ 0x6b ∷ []) 2 9 (out 0 1 (normal 100 9 0) (body 1 3 1 ++ body 23 4 5 ++ left 1))

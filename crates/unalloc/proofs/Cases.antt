@@ -55,10 +55,10 @@ left n = replicate n 7
 hipik : List ℕ
 hipik = 0x03 ∷ 0x01 ∷ 0x17 ∷ 0x2a ∷ 0x68 ∷ 0x69 ∷ 0x70 ∷ 0x69 ∷ 0x6b ∷ []
 
--- In turn: both types match, an integer as another integer and a text as another text; a byte stands before the row; one of three matches, which
--- is 33 percent; one of two, with the other column not used; none; a body is cut off; a type 10 has none; the header's last byte is passed over;
--- one of one; a second row finds no room. A row is marked for a padded length, which the row behind it is not, and for a padded type, but not for
--- one that is not read. Then the refusals.
+-- In turn: both types match, an integer as another integer and a text as another text; a byte stands before the row; one of three matches,
+-- which is 33 percent; one of two, with the other column not used; none; a body is cut off; a type 10 has none; the header's last byte is
+-- passed over; one of one; a second row finds no room. A row is marked for a padded length, which the row behind it is not, and for a
+-- padded type, but not for one that is not read. Then the refusals.
 cases : List Case
 cases =
     carve hipik (8 ∷ 13 ∷ []) 9 (out 0 1 (row 100 9 100 0x3f800000 0) (body 1 3 1 ++ body 23 4 5 ++ left 1))

@@ -36,7 +36,8 @@ there-not (d ∷ cs) c ds t = go (isThere d) (there-not cs c ds t)
     go true rest = rest
     go false rest = refl
 
--- of the types `whole`, with the mark p, so many were read, up to `at`, with the mark `padded`; n of them match, and the last body ends at `end`
+-- of the types `whole`, with the mark p, so many were read, up to `at`, with the mark `padded`; n of them match, and the last body ends at
+-- `end`
 pub record ReadSoFar (s ls : List ℕ) (stop : ℕ) (whole : Types) (p : Bool) (at : ℕ) (padded : Bool) (end count n : ℕ) : Type 0 where
   pub done : List ℕ
   pub counts : length done ≡ count

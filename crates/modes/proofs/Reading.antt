@@ -2,6 +2,7 @@
 -- Assumes nothing.
 use Prim.Native.Nat.{ℕ, zero, suc, _+_, _≤_, _<_}
 use mathlib.Core.Path.{_≡_, refl, sym, ap, _∙_}
+use mathlib.Core.Bool.{Bool, false, _||_, or-false, or-assoc}
 use mathlib.Core.List.{List, [], _∷_, _++_}
 use native.Mathlib.Omega.{arith}
 use borrow.Author.Tests.{lt-ltb, le-ltb}
@@ -10,6 +11,8 @@ use Rattle.modes.specs.Found.{Types, cut, read, typeBefore, typesFrom}
 use Rattle.modes.specs.Inner.{WholeIs, kindsAt}
 use Rattle.record.proofs.Laws.{varint-lies}
 use Rattle.record.proofs.Numbers.{by-order}
+use Rattle.record.proofs.Types.{padded-step, padded-none, padded-end}
+use Rattle.record.specs.Places.{typesPadded}
 use Rattle.record.specs.Varint.{varintAt}
 use Rattle.record.specs.declared.varint.Cursor.{Cursor}
 use Rattle.record.specs.declared.varint.Varint.{Varint}
@@ -78,16 +81,17 @@ first-ones (t ∷ done) w ts end e =
     let r = first-ones done w (f .0) end (f .1) in
     (r .0, f .2 ∙ ap (λ (l : List ℕ). t ∷ l) (r .1))
 
--- of the types `whole`, at most `most`, those of the list `done` were read, up to `at`
-pub record SoFar (s : List ℕ) (stop : ℕ) (whole : Types) (most at : ℕ) (done : List ℕ) : Type 0 where
+-- of the types `whole`, at most `most`, with the mark p, those of the list `done` were read, up to `at`, with the mark `padded`
+pub record SoFar (s : List ℕ) (stop : ℕ) (whole : Types) (p : Bool) (most at : ℕ) (padded : Bool) (done : List ℕ) : Type 0 where
   pub left : ℕ
   pub sum : length done + left ≡ most
   pub is : whole ≡ typesBefore done (typesFrom left s at stop)
+  pub marks : p ≡ (padded || typesPadded left s at stop)
 
-pub so-start : (s : List ℕ) (at stop most : ℕ) → SoFar s stop (typesFrom most s at stop) most at []
-so-start s at stop most = record { left = most; sum = omega arith; is = refl }
+pub so-start : (s : List ℕ) (at stop most : ℕ) → SoFar s stop (typesFrom most s at stop) (typesPadded most s at stop) most at false []
+so-start s at stop most = record { left = most; sum = omega arith; is = refl; marks = refl }
 
-module _ (s : List ℕ) (stop : ℕ) (whole : Types) (most at : ℕ) (done : List ℕ) (w : SoFar s stop whole most at done) where
+module _ (s : List ℕ) (stop : ℕ) (whole : Types) (p : Bool) (most at : ℕ) (padded : Bool) (done : List ℕ) (w : SoFar s stop whole p most at padded done) where
   module _ (h : length done < most) (below : at < stop) where
     some-left : (k : ℕ) × (w .left ≡ suc k)
     some-left = go (w .left) (w .sum)
@@ -96,55 +100,64 @@ module _ (s : List ℕ) (stop : ℕ) (whole : Types) (most at : ℕ) (done : Lis
         go zero e = absurd (omega arith)
         go (suc k) e = (k, refl)
 
-    pub so-on : (t : ℕ) (c : Cursor) → varintAt s at ≡ Value t c → SoFar s stop whole most (c .at) (done ++ (t ∷ []))
+    pub so-on : (t : ℕ) (c : Cursor) → varintAt s at ≡ Value t c → SoFar s stop whole p most (c .at) (padded || c .padded) (done ++ (t ∷ []))
     so-on t c e =
         let k = some-left in
         record {
           left = k .0;
           sum = simp length-append (omega (arith, k .1, w .sum));
           is = rw (k .1, types-step (k .0) s at stop t c below e) at (w .is) ∙ sym (before-one done t (typesFrom (k .0) s (c .at) stop));
+          marks = rw (k .1, padded-step (k .0) s at stop t c below e) at (w .marks) ∙ sym (or-assoc padded (c .padded) (typesPadded (k .0) s (c .at) stop));
         }
 
     pub so-cut : varintAt s at ≡ Short → whole ≡ cut
     so-cut e = let k = some-left in rw (k .1, types-cut (k .0) s at stop below e) at (w .is) ∙ before-cut done
 
   -- no place is left, or no type
-  pub so-past : stop ≤ at → whole ≡ read done at
-  so-past h = rw (types-end (w .left) s at stop h) at (w .is) ∙ before-read done at
+  pub so-past : stop ≤ at → (whole ≡ read done at) × (p ≡ padded)
+  so-past h = (
+    rw (types-end (w .left) s at stop h) at (w .is) ∙ before-read done at,
+    rw (padded-end (w .left) s at stop h) at (w .marks) ∙ or-false padded,
+  )
 
-  pub so-all : most ≤ length done → whole ≡ read done at
-  so-all h = let z : w .left ≡ 0 = omega (arith, w .sum) in rw (z, types-none s at stop) at (w .is) ∙ before-read done at
+  pub so-all : most ≤ length done → (whole ≡ read done at) × (p ≡ padded)
+  so-all h =
+      let z : w .left ≡ 0 = omega (arith, w .sum) in
+      (rw (z, types-none s at stop) at (w .is) ∙ before-read done at, rw (z, padded-none s at stop) at (w .marks) ∙ or-false padded)
 
   -- THE LAW: if there are types in the end, these are the first of them
   pub so-first : (ts : List ℕ) (end : ℕ) → whole ≡ read ts end → (us : List ℕ) × (ts ≡ done ++ us)
   so-first ts end e = first-ones done (typesFrom (w .left) s at stop) ts end (sym (w .is) ∙ e)
 
 -- so many were read
-pub record Counted (s : List ℕ) (stop : ℕ) (whole : Types) (most at count : ℕ) : Type 0 where
+pub record Counted (s : List ℕ) (stop : ℕ) (whole : Types) (p : Bool) (most at : ℕ) (padded : Bool) (count : ℕ) : Type 0 where
   pub done : List ℕ
   pub counts : length done ≡ count
-  pub so : SoFar s stop whole most at done
+  pub so : SoFar s stop whole p most at padded done
 
-pub counted-start : (s : List ℕ) (at stop most : ℕ) → Counted s stop (typesFrom most s at stop) most at 0
+pub counted-start : (s : List ℕ) (at stop most : ℕ) → Counted s stop (typesFrom most s at stop) (typesPadded most s at stop) most at false 0
 counted-start s at stop most = record { done = []; counts = refl; so = so-start s at stop most }
 
-module _ (s : List ℕ) (stop : ℕ) (whole : Types) (most at count : ℕ) (w : Counted s stop whole most at count) where
+module _ (s : List ℕ) (stop : ℕ) (whole : Types) (p : Bool) (most at : ℕ) (padded : Bool) (count : ℕ) (w : Counted s stop whole p most at padded count) where
   module _ (h : count < most) (below : at < stop) where
     more : length (w .done) < most
     more = rw (w .counts) h
 
-    pub counted-on : (t : ℕ) (c : Cursor) → varintAt s at ≡ Value t c → Counted s stop whole most (c .at) (count + 1)
+    pub counted-on : (t : ℕ) (c : Cursor) → varintAt s at ≡ Value t c → Counted s stop whole p most (c .at) (padded || c .padded) (count + 1)
     counted-on t c e =
-        record { done = w .done ++ (t ∷ []); counts = simp length-append (omega (arith, w .counts)); so = so-on s stop whole most at (w .done) (w .so) more below t c e }
+        record { done = w .done ++ (t ∷ []); counts = simp length-append (omega (arith, w .counts)); so = so-on s stop whole p most at padded (w .done) (w .so) more below t c e }
 
     pub counted-cut : varintAt s at ≡ Short → whole ≡ cut
-    counted-cut e = so-cut s stop whole most at (w .done) (w .so) more below e
+    counted-cut e = so-cut s stop whole p most at padded (w .done) (w .so) more below e
 
-  pub counted-past : stop ≤ at → WholeIs whole count at
-  counted-past h = record { types = w .done; is = so-past s stop whole most at (w .done) (w .so) h; counts = w .counts }
+  ended : (whole ≡ read (w .done) at) × (p ≡ padded) → WholeIs whole p count at padded
+  ended e = record { types = w .done; is = e .0; counts = w .counts; marks = e .1 }
 
-  pub counted-all : most ≤ count → WholeIs whole count at
-  counted-all h = record { types = w .done; is = so-all s stop whole most at (w .done) (w .so) (rw (w .counts) h); counts = w .counts }
+  pub counted-past : stop ≤ at → WholeIs whole p count at padded
+  counted-past h = ended (so-past s stop whole p most at padded (w .done) (w .so) h)
+
+  pub counted-all : most ≤ count → WholeIs whole p count at padded
+  counted-all h = ended (so-all s stop whole p most at padded (w .done) (w .so) (rw (w .counts) h))
 
 -- ---- where reading ends, and how many there are
 pub record Typed (s : List ℕ) (most at : ℕ) (ts : List ℕ) (end : ℕ) : Type 0 where

@@ -2,7 +2,7 @@
 -- Assumes nothing.
 use Prim.Native.Nat.{ℕ, _+_, _-_, _≤_, _<_}
 use mathlib.Core.Path.{_≡_, refl, sym, _∙_}
-use mathlib.Core.Bool.{Bool, true, false, cond, _&&_}
+use mathlib.Core.Bool.{Bool, true, false, cond, _&&_, _||_}
 use mathlib.Core.List.{List}
 use native.Mathlib.Omega.{arith}
 use borrow.Author.Tests.{le-leb, lt-leb, le-ltb, lt-ltb}
@@ -15,6 +15,7 @@ use Rattle.modes.specs.Inner.{WholeIs, HitIs}
 use Rattle.modes.proofs.Trying.{never}
 use Rattle.record.proofs.Laws.{varint-lies, varint-low, varint-large}
 use Rattle.record.proofs.Numbers.{by-order}
+use Rattle.record.specs.Places.{typesPadded, headerPadded}
 use Rattle.record.specs.Varint.{varintAt}
 use Rattle.record.specs.declared.varint.Cursor.{Cursor}
 use Rattle.record.specs.declared.varint.Varint.{Varint}
@@ -24,30 +25,30 @@ use Rattle.unalloc.specs.Inner.{Headed, AllIs, FailsIs}
 use Rattle.unalloc.specs.Learned.{matched, learnedStyle, allThere, judged, judgedTypes, attemptAt}
 
 -- ---- the types
-module _ (s ls : List ℕ) (o h : ℕ) (ts : List ℕ) where
-  judged-out : allThere (columnsFrom (length s) (o + h) ts) ≡ false → judged s ls o h ts ≡ miss
+module _ (s ls : List ℕ) (o h : ℕ) (p : Bool) (ts : List ℕ) where
+  judged-out : allThere (columnsFrom (length s) (o + h) ts) ≡ false → judged s ls o h p ts ≡ miss
   unfolding judged
   judged-out e = rw e (go (ltb 0 (matched ls ts)))
     where
-      go : (b : Bool) → cond (b && false) (hit (record { style = learnedStyle (matched ls ts) (length ls); at = o; start = o + h; types = ts })) miss ≡ miss
+      go : (b : Bool) → cond (b && false) (hit (record { style = learnedStyle (matched ls ts) (length ls); at = o; start = o + h; types = ts; padded = p })) miss ≡ miss
       go true = refl
       go false = refl
 
-  judged-none : matched ls ts ≡ 0 → judged s ls o h ts ≡ miss
+  judged-none : matched ls ts ≡ 0 → judged s ls o h p ts ≡ miss
   unfolding judged
   judged-none z = simp (le-ltb 0 (matched ls ts) (omega arith))
 
   judged-hit : 0 < matched ls ts → allThere (columnsFrom (length s) (o + h) ts) ≡ true
-      → judged s ls o h ts ≡ hit (record { style = learnedStyle (matched ls ts) (length ls); at = o; start = o + h; types = ts })
+      → judged s ls o h p ts ≡ hit (record { style = learnedStyle (matched ls ts) (length ls); at = o; start = o + h; types = ts; padded = p })
   unfolding judged
-  judged-hit p e = simp (lt-ltb 0 (matched ls ts) p, e)
+  judged-hit some e = simp (lt-ltb 0 (matched ls ts) some, e)
 
   -- what a row that is found says of itself
-  judged-found : (x : Found) → judged s ls o h ts ≡ hit x → (x .at ≡ o) × (x .start ≡ o + h) × (x .style .lost ≡ 0) × (x .types ≡ ts)
+  judged-found : (x : Found) → judged s ls o h p ts ≡ hit x → (x .at ≡ o) × (x .start ≡ o + h) × (x .style .lost ≡ 0) × (x .types ≡ ts)
   unfolding judged
   judged-found x e = go (ltb 0 (matched ls ts) && allThere (columnsFrom (length s) (o + h) ts)) e
     where
-      go : (b : Bool) → cond b (hit (record { style = learnedStyle (matched ls ts) (length ls); at = o; start = o + h; types = ts })) miss ≡ hit x
+      go : (b : Bool) → cond b (hit (record { style = learnedStyle (matched ls ts) (length ls); at = o; start = o + h; types = ts; padded = p })) miss ≡ hit x
           → (x .at ≡ o) × (x .start ≡ o + h) × (x .style .lost ≡ 0) × (x .types ≡ ts)
       go true e =
           let is : learnedStyle (matched ls ts) (length ls) ≡ x .style = cc in
@@ -75,32 +76,35 @@ module _ (s ls : List ℕ) (o : ℕ) where
         (λ fits. absurd (no′ short own fits))))
 
     module _ (short : h ≤ mostHeader) (own : c .at - o ≤ h) (fits : h ≤ length s - o) where
-      attempt-is : attemptAt s ls o ≡ judgedTypes s ls o h (typesFrom (length ls) s (c .at) (o + h))
+      attempt-is : attemptAt s ls o ≡ judgedTypes s ls o h (headerPadded (length ls) s c (o + h)) (typesFrom (length ls) s (c .at) (o + h))
       unfolding attemptAt
       attempt-is = simp (e, le-leb h mostHeader short, le-leb (c .at - o) h own, le-leb h (length s - o) fits)
 
       pub attempt-fails : FailsIs s (o + h) (typesFrom (length ls) s (c .at) (o + h)) → attemptAt s ls o ≡ miss
       attempt-fails f = attempt-is ∙ go (typesFrom (length ls) s (c .at) (o + h)) f
         where
-          go : (w : Types) → FailsIs s (o + h) w → judgedTypes s ls o h w ≡ miss
+          go : (w : Types) → FailsIs s (o + h) w → judgedTypes s ls o h (headerPadded (length ls) s c (o + h)) w ≡ miss
           go cut f = refl
-          go (read ts end) f = judged-out s ls o h ts f
+          go (read ts end) f = judged-out s ls o h (headerPadded (length ls) s c (o + h)) ts f
 
-      module _ (count n : ℕ) (w : AllIs s ls (o + h) (typesFrom (length ls) s (c .at) (o + h)) count n) where
+      module _ (count n : ℕ) (padded : Bool) (w : AllIs s ls (o + h) (typesFrom (length ls) s (c .at) (o + h)) (typesPadded (length ls) s (c .at) (o + h)) count n padded) where
+        abbrev mark : Bool
+        mark = c .padded || padded
+
         pub attempt-none : n ≡ 0 → attemptAt s ls o ≡ miss
-        attempt-none z = attempt-is ∙ rw (w .is) (judged-none s ls o h (w .types) (w .matches-are ∙ z))
+        attempt-none z = attempt-is ∙ rw (w .is, w .marks) (judged-none s ls o h mark (w .types) (w .matches-are ∙ z))
 
-        abbrev whole : WholeIs (typesFrom (length ls) s (c .at) (o + h)) count (w .end)
-        whole = record { types = w .types; is = w .is; counts = w .counts }
+        abbrev whole : WholeIs (typesFrom (length ls) s (c .at) (o + h)) (typesPadded (length ls) s (c .at) (o + h)) count (w .end) padded
+        whole = record { types = w .types; is = w .is; counts = w .counts; marks = w .marks }
 
-        pub attempt-hit : 0 < n → HitIs s (length ls) (attemptAt s ls o) (record { style = learnedStyle n (length ls); at = o; from = c .at; count = count; start = o + h })
+        pub attempt-hit : 0 < n → HitIs s (length ls) (attemptAt s ls o) (record { style = learnedStyle n (length ls); at = o; from = c .at; count = count; start = o + h; padded = mark })
         attempt-hit some =
             let v = varint-lies s o h c e in
-            let types = again s (length ls) (learnedStyle n (length ls)) o (o + h) (length ls) (c .at) (o + h) count (w .end) whole (v .inside) in
+            let types = again s (length ls) (learnedStyle n (length ls)) o (o + h) (length ls) (c .at) (o + h) count (w .end) mark whole (v .inside) in
             record {
-              is = attempt-is ∙ rw (w .is) (judged-hit s ls o h (w .types) (rw (w .matches-are) some) (w .there) ∙ rw (w .matches-are, types));
+              is = attempt-is ∙ rw (w .is, w .marks) (judged-hit s ls o h mark (w .types) (rw (w .matches-are) some) (w .there) ∙ rw (w .matches-are, types));
               fits =
-                  find-fits s (length ls) (learnedStyle n (length ls)) o (o + h) (length ls) (c .at) (o + h) count (w .end) whole (v .inside) (omega arith) (omega (arith, v .past, v .inside)) (omega arith) (omega arith);
+                  find-fits s (length ls) (learnedStyle n (length ls)) o (o + h) (length ls) (c .at) (o + h) count (w .end) mark whole (v .inside) (omega arith) (omega (arith, v .past, v .inside)) (omega arith) (omega arith);
             }
 
         pub few-match : n ≤ length ls
@@ -136,10 +140,10 @@ pub record AttemptIs (s ls : List ℕ) (o : ℕ) (x : Found) : Type 0 where
 pub attempt-found : (s ls : List ℕ) (o : ℕ) (x : Found) → attemptAt s ls o ≡ hit x → AttemptIs s ls o x
 attempt-found s ls o x e = with-length (varintAt s o) refl
   where
-    by-types : (h next : ℕ) → 0 < h → o + h ≤ length s → next ≤ length s → (w : Types) → typesFrom (length ls) s next (o + h) ≡ w → judgedTypes s ls o h w ≡ hit x → AttemptIs s ls o x
-    by-types h next some in′ near cut w e = never e
-    by-types h next some in′ near (read ts end) w e =
-        let f = judged-found s ls o h ts x e in
+    by-types : (h next : ℕ) → 0 < h → o + h ≤ length s → next ≤ length s → (p : Bool) (w : Types) → typesFrom (length ls) s next (o + h) ≡ w → judgedTypes s ls o h p w ≡ hit x → AttemptIs s ls o x
+    by-types h next some in′ near p cut w e = never e
+    by-types h next some in′ near p (read ts end) w e =
+        let f = judged-found s ls o h p ts x e in
         let few = typed (length ls) s next (o + h) ts end near w .few in
         record { at-is = f .0; past = rw (f .1) (omega arith); inside = rw (f .1) in′; few = rw (f .2, f .3) (omega arith) }
 
@@ -156,4 +160,4 @@ attempt-found s ls o x e = with-length (varintAt s o) refl
         by-order (length s - o) h
         (λ past. never (sym (attempt-bad s ls o h c v (λ p q r. omega arith)) ∙ e))
         (λ fits.
-        by-types h (c .at) (omega (arith, z .past)) (omega (arith, z .past, z .inside)) (z .inside) (typesFrom (length ls) s (c .at) (o + h)) refl (sym (attempt-is s ls o h c v short own fits) ∙ e))))
+        by-types h (c .at) (omega (arith, z .past)) (omega (arith, z .past, z .inside)) (z .inside) (headerPadded (length ls) s c (o + h)) (typesFrom (length ls) s (c .at) (o + h)) refl (sym (attempt-is s ls o h c v short own fits) ∙ e))))

@@ -2,13 +2,14 @@
 -- Assumes nothing.
 use Prim.Native.Nat.{ℕ, _+_, _≤_, _<_}
 use mathlib.Core.Path.{_≡_, refl, ap, _∙_}
-use mathlib.Core.Bool.{Bool, true, false, _&&_}
+use mathlib.Core.Bool.{Bool, true, false, _&&_, _||_}
 use mathlib.Core.List.{List, [], _∷_, _++_}
 use native.Mathlib.Omega.{arith}
 use lib.ListN.{length, length-append}
 use Rattle.modes.proofs.Bodies.{columns-nil, columns-one, columns-first, end-nil, end-one, behind-inside}
 use Rattle.modes.proofs.Reading.{SoFar, so-start, so-on, so-cut, so-past, so-all, so-first}
 use Rattle.modes.specs.Found.{Types, cut, read, typesFrom, columnAt, behind, columnsFrom, endFrom}
+use Rattle.record.specs.Places.{typesPadded}
 use Rattle.record.specs.Varint.{varintAt}
 use Rattle.record.specs.declared.varint.Cursor.{Cursor}
 use Rattle.record.specs.declared.varint.Varint.the-variants.{Value, Short}
@@ -35,18 +36,20 @@ there-not (d ∷ cs) c ds t = go (isThere d) (there-not cs c ds t)
     go true rest = rest
     go false rest = refl
 
--- of the types `whole`, so many were read, up to `at`; n of them match, and the last body ends at `end`
-pub record ReadSoFar (s ls : List ℕ) (stop : ℕ) (whole : Types) (at end count n : ℕ) : Type 0 where
+-- of the types `whole`, with the mark p, so many were read, up to `at`, with the mark `padded`; n of them match, and the last body ends at
+-- `end`
+pub record ReadSoFar (s ls : List ℕ) (stop : ℕ) (whole : Types) (p : Bool) (at : ℕ) (padded : Bool) (end count n : ℕ) : Type 0 where
   pub done : List ℕ
   pub counts : length done ≡ count
-  pub so : SoFar s stop whole (length ls) at done
+  pub so : SoFar s stop whole p (length ls) at padded done
   pub matches-are : matched ls done ≡ n
   pub ends : endFrom (length s) stop done ≡ end
   pub there : allThere (columnsFrom (length s) stop done) ≡ true
   pub inside : end ≤ length s
   pub few : n ≤ count
 
-pub reading-start : (s ls : List ℕ) (from stop : ℕ) → stop ≤ length s → ReadSoFar s ls stop (typesFrom (length ls) s from stop) from stop 0 0
+pub reading-start : (s ls : List ℕ) (from stop : ℕ) → stop ≤ length s
+    → ReadSoFar s ls stop (typesFrom (length ls) s from stop) (typesPadded (length ls) s from stop) from false stop 0 0
 reading-start s ls from stop h =
     record {
       done = [];
@@ -63,17 +66,17 @@ reading-start s ls from stop h =
     none [] = refl
     none (l ∷ ls) = refl
 
-module _ (s ls : List ℕ) (stop : ℕ) (whole : Types) (at end count n : ℕ) (w : ReadSoFar s ls stop whole at end count n) where
+module _ (s ls : List ℕ) (stop : ℕ) (whole : Types) (p : Bool) (at : ℕ) (padded : Bool) (end count n : ℕ) (w : ReadSoFar s ls stop whole p at padded end count n) where
   module _ (h : count < length ls) (below : at < stop) where
     more : length (w .done) < length ls
     more = rw (w .counts) h
 
     pub reading-cut : varintAt s at ≡ Short → FailsIs s stop whole
-    reading-cut e = rw (so-cut s stop whole (length ls) at (w .done) (w .so) more below e) tt
+    reading-cut e = rw (so-cut s stop whole p (length ls) at padded (w .done) (w .so) more below e) tt
 
     module _ (t : ℕ) (c : Cursor) (e : varintAt s at ≡ Value t c) where
-      on : SoFar s stop whole (length ls) (c .at) (w .done ++ (t ∷ []))
-      on = so-on s stop whole (length ls) at (w .done) (w .so) more below t c e
+      on : SoFar s stop whole p (length ls) (c .at) (padded || c .padded) (w .done ++ (t ∷ []))
+      on = so-on s stop whole p (length ls) at padded (w .done) (w .so) more below t c e
 
       -- the body that comes
       next : columnAt (length s) (endFrom (length s) stop (w .done)) t ≡ columnAt (length s) end t
@@ -85,13 +88,13 @@ module _ (s ls : List ℕ) (stop : ℕ) (whole : Types) (at end count n : ℕ) (
           go : (v : Types) → whole ≡ v → FailsIs s stop v
           go cut v = tt
           go (read ts end′) v =
-              let first = so-first s stop whole (length ls) (c .at) (w .done ++ (t ∷ [])) on ts end′ v in
+              let first = so-first s stop whole p (length ls) (c .at) (padded || c .padded) (w .done ++ (t ∷ [])) on ts end′ v in
               let columns : columnsFrom (length s) stop ts ≡ (columnsFrom (length s) stop (w .done) ++ (columnAt (length s) end t ∷ [])) ++ columnsFrom (length s) (endFrom (length s) stop (w .done ++ (t ∷ []))) (first .0)
               = ap (λ (l : List ℕ). columnsFrom (length s) stop l) (first .1) ∙ columns-first (length s) stop (w .done ++ (t ∷ [])) (first .0) ∙ rw (columns-one (length s) stop (w .done) t, next) in
               rw columns (there-not (columnsFrom (length s) stop (w .done)) (columnAt (length s) end t) (columnsFrom (length s) (endFrom (length s) stop (w .done ++ (t ∷ []))) (first .0)) f)
 
       pub reading-on : isThere (columnAt (length s) end t) ≡ true → (m : ℕ) → m ≡ matchesAt ls count t → m ≤ 1
-          → ReadSoFar s ls stop whole (c .at) (behind end (columnAt (length s) end t)) (count + 1) (n + m)
+          → ReadSoFar s ls stop whole p (c .at) (padded || c .padded) (behind end (columnAt (length s) end t)) (count + 1) (n + m)
       reading-on f m is small =
           record {
             done = w .done ++ (t ∷ []);
@@ -104,11 +107,11 @@ module _ (s ls : List ℕ) (stop : ℕ) (whole : Types) (at end count n : ℕ) (
             few = omega (arith, w .few);
           }
 
-  ended : whole ≡ read (w .done) at → AllIs s ls stop whole count n
-  ended e = record { types = w .done; end = at; is = e; counts = w .counts; matches-are = w .matches-are; there = w .there; few = w .few }
+  ended : (whole ≡ read (w .done) at) × (p ≡ padded) → AllIs s ls stop whole p count n padded
+  ended e = record { types = w .done; end = at; is = e .0; counts = w .counts; matches-are = w .matches-are; there = w .there; few = w .few; marks = e .1 }
 
-  pub reading-past : stop ≤ at → AllIs s ls stop whole count n
-  reading-past h = ended (so-past s stop whole (length ls) at (w .done) (w .so) h)
+  pub reading-past : stop ≤ at → AllIs s ls stop whole p count n padded
+  reading-past h = ended (so-past s stop whole p (length ls) at padded (w .done) (w .so) h)
 
-  pub reading-all : length ls ≤ count → AllIs s ls stop whole count n
-  reading-all h = ended (so-all s stop whole (length ls) at (w .done) (w .so) (rw (w .counts) h))
+  pub reading-all : length ls ≤ count → AllIs s ls stop whole p count n padded
+  reading-all h = ended (so-all s stop whole p (length ls) at padded (w .done) (w .so) (rw (w .counts) h))

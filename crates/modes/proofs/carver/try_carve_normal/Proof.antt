@@ -59,15 +59,19 @@ returns-4 : tie.Need-returns-4
 returns-4 c = normal-cut _ _ _ _ _ (read (c .before .before .before .before .before)) (c .before .before .before .if2 .left) (c .before .before .before .before .if1 .left) (rw (c .enum-told2 .given .1) at (c .before .before .read-types .ensures))
 
 returns-5 : tie.Need-returns-5
-returns-5 c = normal-none _ _ _ _ _ (read (c .before .before .before .before .before .before .before)) (c .before .before .before .before .before .if2 .left) (c .before .before .before .before .before .before .if1 .left) _ _ (rw (c .before .before .count .given .1) at (c .before .before .before .before .read-types .ensures)) (c .if3 .taken)
+returns-5 c =
+    let passed = c .before .before .before .before .before in
+    normal-none _ _ _ _ _ (read (passed .before .before)) (passed .if2 .left) (passed .before .if1 .left) _ _ _ (rw (c .before .before .count .given .1) at (c .before .before .before .before .read-types .ensures)) (c .if3 .taken)
 
 normal-requires : tie.Need-normal-requires
 normal-requires c κs = search needs
 
 returns-6 : tie.Need-returns-6
 returns-6 c =
-    rw (c .normal .ensures)
-    (normal-hit _ _ _ _ _ (read (c .before .before .before .before .before .before .before .before)) (c .before .before .before .before .before .before .if2 .left) (c .before .before .before .before .before .before .before .if1 .left) _ _ (rw (c .before .before .before .count .given .1) at (c .before .before .before .before .before .read-types .ensures)) (omega (arith, c .before .if3 .left)))
+    let some = c .before .before in
+    let passed = some .before .before .before .before .before in
+    rw (c .before .normal .ensures)
+    (normal-hit _ _ _ _ _ (read (passed .before .before)) (passed .if2 .left) (passed .before .if1 .left) _ _ _ (rw (some .before .before .count .given .1) at (some .before .before .before .before .read-types .ensures)) (omega (arith, some .if3 .left)))
 
 pub try-carve-normal-spec : {M : Type 1} → statement M
 try-carve-normal-spec =

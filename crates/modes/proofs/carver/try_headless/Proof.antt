@@ -19,10 +19,10 @@ returns : tie.Need-returns
 returns c = headless-cut _ _ _ _ (rw (c .enum-told .given .1) at (c .before .before .read-types .ensures))
 
 returns-2 : tie.Need-returns-2
-returns-2 c = headless-none _ _ _ _ _ _ (rw (c .before .before .count .given .1) at (c .before .before .before .before .read-types .ensures)) (c .if1 .taken)
+returns-2 c = headless-none _ _ _ _ _ _ _ (rw (c .before .before .count .given .1) at (c .before .before .before .before .read-types .ensures)) (c .if1 .taken)
 
 returns-3 : tie.Need-returns-3
-returns-3 c = headless-hit _ _ _ _ _ _ (rw (c .before .before .count .given .1) at (c .before .before .before .before .read-types .ensures)) (c .before .before .before .before .before .before .pre .0) (c .before .before .before .before .before .before .pre .2) (omega (arith, c .if1 .left))
+returns-3 c = headless-hit _ _ _ _ _ _ _ (rw (c .before .before .count .given .1) at (c .before .before .before .before .read-types .ensures)) (c .before .before .before .before .before .before .pre .0) (c .before .before .before .before .before .before .pre .2) (omega (arith, c .if1 .left))
 
 pub try-headless-spec : {M : Type 1} → statement M
 try-headless-spec =

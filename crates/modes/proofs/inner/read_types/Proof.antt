@@ -8,18 +8,20 @@ use Rattle.modes.specs.Found.{typesFrom}
 use Rattle.modes.proofs.Reading.{Counted, counted-start, counted-on, counted-cut, counted-past, counted-all}
 use Rattle.modes.proofs.inner.read_types.Statement.{statement}
 use Rattle.modes.proofs.inner.read_types.Tie as tie
+use Rattle.record.specs.Places.{typesPadded}
 
 abbrev Inv-loop : tie.InvT-loop
-Inv-loop bytes from stop most at₀ count₀ at count = (count ≤ most) × Counted bytes stop (typesFrom most bytes from stop) most at count
+Inv-loop bytes from stop most at₀ padded₀ count₀ at padded count =
+    (count ≤ most) × Counted bytes stop (typesFrom most bytes from stop) (typesPadded most bytes from stop) most at padded count
 
 abbrev μ-loop : tie.MeasureT-loop
-μ-loop bytes from stop most at₀ count₀ at count = most - count
+μ-loop bytes from stop most at₀ padded₀ count₀ at padded count = most - count
 
 loop-holds : tie.Need-loop-holds Inv-loop μ-loop
 loop-holds c = (omega arith, counted-start _ _ _ _)
 
 returns : tie.Need-returns Inv-loop μ-loop
-returns c = counted-past _ _ _ _ _ _ (c .before .before .loop .inv .1) (c .if1 .taken)
+returns c = counted-past _ _ _ _ _ _ _ _ (c .before .before .loop .inv .1) (c .if1 .taken)
 
 serial-type-requires : tie.Need-serial-type-requires Inv-loop μ-loop
 serial-type-requires c κs = search needs
@@ -31,7 +33,7 @@ enum-told : tie.Need-enum-told Inv-loop μ-loop
 enum-told c = search needs
 
 returns-2 : tie.Need-returns-2 Inv-loop μ-loop
-returns-2 c = counted-cut _ _ _ _ _ _ (c .before .before .before .before .before .loop .inv .1) (c .before .before .before .before .loop-test .taken) (c .before .before .before .if1 .left) (sym (c .before .before .serial-type .ensures) ∙ c .enum-told .given .1)
+returns-2 c = counted-cut _ _ _ _ _ _ _ _ (c .before .before .before .before .before .loop .inv .1) (c .before .before .before .before .loop-test .taken) (c .before .before .before .if1 .left) (sym (c .before .before .serial-type .ensures) ∙ c .enum-told .given .1)
 
 add-count : tie.Need-add-count Inv-loop μ-loop
 add-count c = search needs
@@ -40,13 +42,15 @@ loop-less : tie.Need-loop-less Inv-loop μ-loop
 loop-less c = search needs
 
 loop-again : tie.Need-loop-again Inv-loop μ-loop
-loop-again c = (
-  search needs,
-  counted-on _ _ _ _ _ _ (c .before .before .before .before .before .before .loop .inv .1) (c .before .before .before .before .before .loop-test .taken) (c .before .before .before .before .if1 .left) _ _ (sym (c .before .before .before .serial-type .ensures) ∙ c .before .next .given .1),
-)
+loop-again c =
+    let known = c .before .before in
+    let turn = known .before .before .before .before in (
+      search needs,
+      counted-on _ _ _ _ _ _ _ _ (turn .before .loop .inv .1) (turn .loop-test .taken) (known .before .before .before .if1 .left) _ _ (sym (known .before .before .serial-type .ensures) ∙ known .next .given .1),
+    )
 
 returns-3 : tie.Need-returns-3 Inv-loop μ-loop
-returns-3 c = counted-all _ _ _ _ _ _ (c .before .loop .inv .1) (c .loop-test .left)
+returns-3 c = counted-all _ _ _ _ _ _ _ _ (c .before .loop .inv .1) (c .loop-test .left)
 
 pub read-types-spec : {M : Type 1} → statement M
 read-types-spec =

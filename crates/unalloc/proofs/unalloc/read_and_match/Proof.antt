@@ -8,6 +8,7 @@ use borrow.Author.Tests.{not-true, not-false}
 use denote.Ref.{now}
 use lib.ListN.{length}
 use Rattle.modes.specs.Found.{typesFrom}
+use Rattle.record.specs.Places.{typesPadded}
 use Rattle.record.specs.Varint.{varintAt}
 use Rattle.record.specs.declared.varint.Varint.the-variants.{Value}
 use Rattle.unalloc.proofs.Reading.{ReadSoFar, reading-start, reading-cut, reading-out, reading-on, reading-past, reading-all}
@@ -15,11 +16,11 @@ use Rattle.unalloc.proofs.unalloc.read_and_match.Statement.{statement}
 use Rattle.unalloc.proofs.unalloc.read_and_match.Tie as tie
 
 abbrev Inv-loop : tie.InvT-loop
-Inv-loop region types from stop at₀ end₀ count₀ matched₀ at end count matched =
-    (count ≤ length types) × ReadSoFar region types stop (typesFrom (length types) region from stop) at end count matched
+Inv-loop region types from stop at₀ padded₀ end₀ count₀ matched₀ at padded end count matched =
+    (count ≤ length types) × ReadSoFar region types stop (typesFrom (length types) region from stop) (typesPadded (length types) region from stop) at padded end count matched
 
 abbrev μ-loop : tie.MeasureT-loop
-μ-loop region types from stop at₀ end₀ count₀ matched₀ at end count matched = length types - count
+μ-loop region types from stop at₀ padded₀ end₀ count₀ matched₀ at padded end count matched = length types - count
 
 -- ---- places, from the last: a type was read; the turn of the loop; the call
 abbrev turn : tie.After-known-told Inv-loop μ-loop → tie.In-loop Inv-loop μ-loop
@@ -32,7 +33,7 @@ loop-holds : tie.Need-loop-holds Inv-loop μ-loop
 loop-holds c = (omega arith, reading-start _ _ _ _ (c .before .before .pre .within))
 
 returns : tie.Need-returns Inv-loop μ-loop
-returns c = reading-past _ _ _ _ _ _ _ _ (c .before .before .loop .inv .1) (c .if1 .taken)
+returns c = reading-past _ _ _ _ _ _ _ _ _ _ (c .before .before .loop .inv .1) (c .if1 .taken)
 
 serial-type-requires : tie.Need-serial-type-requires Inv-loop μ-loop
 serial-type-requires c κs = search needs
@@ -44,7 +45,7 @@ enum-told : tie.Need-enum-told Inv-loop μ-loop
 enum-told c = search needs
 
 returns-2 : tie.Need-returns-2 Inv-loop μ-loop
-returns-2 c = reading-cut _ _ _ _ _ _ _ _ (c .before .before .before .before .before .loop .inv .1) (c .before .before .before .before .loop-test .taken) (c .before .before .before .if1 .left) (sym (c .before .before .serial-type .ensures) ∙ c .enum-told .given .1)
+returns-2 c = reading-cut _ _ _ _ _ _ _ _ _ _ (c .before .before .before .before .before .loop .inv .1) (c .before .before .before .before .loop-test .taken) (c .before .before .before .if1 .left) (sym (c .before .before .serial-type .ensures) ∙ c .enum-told .given .1)
 
 -- the type that was read
 read : (c : tie.After-known-told Inv-loop μ-loop) → varintAt (now (start (turn c) .args .region)) (turn c .before .loop .at) ≡ Value (c .before .kind .given .0 .0) (c .before .kind .given .0 .1 .0)
@@ -60,7 +61,7 @@ returns-3 : tie.Need-returns-3 Inv-loop μ-loop
 returns-3 c =
     let kind = c .before .before .before in
     let x = c .before .before .column-at in
-    reading-out _ _ _ _ _ _ _ _ (turn kind .before .loop .inv .1) (turn kind .loop-test .taken) (kind .before .before .before .before .if1 .left) _ _ (read kind) (rw (x .ensures .0) at (sym (c .before .is-there .ensures) ∙ not-true _ (c .if2 .taken)))
+    reading-out _ _ _ _ _ _ _ _ _ _ (turn kind .before .loop .inv .1) (turn kind .loop-test .taken) (kind .before .before .before .before .if1 .left) _ _ (read kind) (rw (x .ensures .0) at (sym (c .before .is-there .ensures) ∙ not-true _ (c .if2 .taken)))
 
 matches-at-requires : tie.Need-matches-at-requires Inv-loop μ-loop
 matches-at-requires c κs = turn (c .before .before .before) .loop-test .taken
@@ -79,16 +80,17 @@ loop-less c = search needs
 
 loop-again : tie.Need-loop-again Inv-loop μ-loop
 loop-again c =
-    let kind = c .before .before .before .before .before in
-    let x = c .before .before .before .before .column-at in
-    let m = c .before .matches-at in (
+    let moved = c .before in
+    let kind = moved .before .before .before .before .before in
+    let x = moved .before .before .before .before .column-at in
+    let m = moved .before .matches-at in (
       search needs,
-      rw (c .behind .ensures, x .ensures .0)
-          (reading-on _ _ _ _ _ _ _ _ (turn kind .before .loop .inv .1) (turn kind .loop-test .taken) (kind .before .before .before .before .if1 .left) _ _ (read kind) (rw (x .ensures .0) at (sym (c .before .before .before .is-there .ensures) ∙ not-false _ (c .before .before .if2 .left))) _ (m .ensures .0) (m .ensures .1)),
+      rw (moved .behind .ensures, x .ensures .0)
+          (reading-on _ _ _ _ _ _ _ _ _ _ (turn kind .before .loop .inv .1) (turn kind .loop-test .taken) (kind .before .before .before .before .if1 .left) _ _ (read kind) (rw (x .ensures .0) at (sym (moved .before .before .before .is-there .ensures) ∙ not-false _ (moved .before .before .if2 .left))) _ (m .ensures .0) (m .ensures .1)),
     )
 
 returns-4 : tie.Need-returns-4 Inv-loop μ-loop
-returns-4 c = reading-all _ _ _ _ _ _ _ _ (c .before .loop .inv .1) (c .loop-test .left)
+returns-4 c = reading-all _ _ _ _ _ _ _ _ _ _ (c .before .loop .inv .1) (c .loop-test .left)
 
 pub read-and-match-spec : {M : Type 1} → statement M
 read-and-match-spec =

@@ -66,20 +66,21 @@ returns-5 : tie.Need-returns-5
 returns-5 c = attempt-fails _ _ _ _ _ (read (c .before .before .before .before .before .before)) (c .before .before .before .before .before .if1 .left) (c .before .before .before .if3 .left) (c .before .before .before .before .if2 .left) (rw (c .enum-told2 .given .1) at (c .before .before .read-and-match .ensures))
 
 returns-6 : tie.Need-returns-6
-returns-6 c = let passed = c .before .before .before .before .before in attempt-none _ _ _ _ _ (read (passed .before .before .before)) (passed .before .before .if1 .left) (passed .if3 .left) (passed .before .if2 .left) _ _ (rw (c .before .before .count .given .1) at (c .before .before .before .before .read-and-match .ensures)) (c .if4 .taken)
+returns-6 c = let passed = c .before .before .before .before .before in attempt-none _ _ _ _ _ (read (passed .before .before .before)) (passed .before .before .if1 .left) (passed .if3 .left) (passed .before .if2 .left) _ _ _ (rw (c .before .before .count .given .1) at (c .before .before .before .before .read-and-match .ensures)) (c .if4 .taken)
 
 learned-requires : tie.Need-learned-requires
 learned-requires c κs =
     let passed = c .before .before .before .before .before in
     let p = start (passed .before .before .before) .pre .1 in
-    let few = few-match _ _ _ _ _ (read (passed .before .before .before)) (passed .before .before .if1 .left) (passed .if3 .left) (passed .before .if2 .left) _ _ (rw (c .before .before .count .given .1) at (c .before .before .before .before .read-and-match .ensures)) in
+    let few = few-match _ _ _ _ _ (read (passed .before .before .before)) (passed .before .before .if1 .left) (passed .if3 .left) (passed .before .if2 .left) _ _ _ (rw (c .before .before .count .given .1) at (c .before .before .before .before .read-and-match .ensures)) in
     (omega (arith, few, p .1), p .0)
 
 returns-7 : tie.Need-returns-7
 returns-7 c =
-    let passed = c .before .before .before .before .before .before in
-    rw (c .learned .ensures)
-    (attempt-hit _ _ _ _ _ (read (passed .before .before .before)) (passed .before .before .if1 .left) (passed .if3 .left) (passed .before .if2 .left) _ _ (rw (c .before .before .before .count .given .1) at (c .before .before .before .before .before .read-and-match .ensures)) (omega (arith, c .before .if4 .left)))
+    let some = c .before .before in
+    let passed = some .before .before .before .before .before in
+    rw (c .before .learned .ensures)
+    (attempt-hit _ _ _ _ _ (read (passed .before .before .before)) (passed .before .before .if1 .left) (passed .if3 .left) (passed .before .if2 .left) _ _ _ (rw (some .before .before .count .given .1) at (some .before .before .before .before .read-and-match .ensures)) (omega (arith, some .if4 .left)))
 
 pub try-parse-record-spec : {M : Type 1} → statement M
 try-parse-record-spec =

@@ -3,6 +3,7 @@
 use Prim.Native.Nat.{ℕ}
 use mathlib.Core.Path.{_≡_, refl}
 use mathlib.Core.List.{List, [], _∷_, _++_, map}
+use lib.Count.{leadingZeros}
 use lib.Ieee.{ofBits, ofInt, div, mul, round, toBits}
 use lib.ListN.{replicate}
 use Rattle.attempt.specs.Attempt.{headerFits, typesFrom, bodiesFrom, judged, attemptAt}
@@ -15,8 +16,9 @@ use Rattle.freeblock.specs.Freeblock.{chainEnds, blocksFrom, freeblocks, firstF
 use Rattle.gap.specs.Gap.{hasGap, gapHits, chainFrom, chain, chainEnds as gapChainEnds, pageHits as gapPageHits}
 use Rattle.page.specs.Page.{sizeFits, hasPage}
 use Rattle.rebuild.specs.declared.rebuilding.Rebuilding.the-variants.{OneByte, Exact}
+use Rattle.record.specs.Places.{typesPadded}
 use Rattle.record.specs.Value.{bodyLength, bigEndian}
-use Rattle.record.specs.Varint.{varintFrom, varintAt}
+use Rattle.record.specs.Varint.{widthOf, varintFrom, varintAt}
 use Rattle.sheet.specs.Columns.{columnWords, unusedWords, roomOf}
 use Rattle.sheet.specs.Confidence.{share, freedShare}
 use Rattle.sheet.specs.Filled.{filledNumber, filledWritten}
@@ -55,9 +57,9 @@ expected (slice how hints head words o) = o
 -- with the header at 1 there is no chain, and at 100 no header
 cases : List Case
 cases =
-    slice Freeblocks (0 ∷ 2 ∷ []) 0 16 (out 0 2 (row 113 0 ++ row 128 0) (pair 13 ++ pair 28))
-    ∷ slice Freeblocks (0 ∷ 2 ∷ []) 0 15 (out 9 1 (row 113 0 ++ kept 7) (pair 13 ++ kept 7))
-    ∷ slice Freeblocks (0 ∷ 2 ∷ []) 0 7 (out 9 0 (kept 7) (kept 7))
+    slice Freeblocks (0 ∷ 2 ∷ []) 0 18 (out 0 2 (row 113 0 ++ row 128 0) (pair 13 ++ pair 28 ++ kept 2))
+    ∷ slice Freeblocks (0 ∷ 2 ∷ []) 0 17 (out 9 1 (row 113 0 ++ kept 8) (pair 13 ++ kept 9))
+    ∷ slice Freeblocks (0 ∷ 2 ∷ []) 0 8 (out 9 0 (kept 8) (kept 8))
     ∷ slice Freeblocks (0 ∷ 2 ∷ []) 1 8 (out 0 0 (kept 8) (kept 8))
     ∷ slice Freeblocks [] 0 8 (out 1 0 (kept 8) (kept 8))
     ∷ slice Freeblocks (6 ∷ []) 0 8 (out 2 0 (kept 8) (kept 8))
@@ -71,7 +73,7 @@ cases =
     ∷ []
 
 table : map computed cases ≡ map expected cases
-unfolding cases computed expected kept out page row pair rowsAnswer rowsLeft entriesLeft hitsBy gapPageHits pageHits freeblocks blocksFrom chainEnds blockHits firstStart firstFrom attemptAt judged bodiesFrom typesFrom headerFits suits isInteger isReal isText isBlob varintAt varintFrom bodyLength bigEndian columnWords unusedWords roomOf share freedShare countFits hintsKnown rowWords ofBits ofInt div mul round toBits
+unfolding cases computed expected kept out page row pair rowsAnswer rowsLeft entriesLeft hitsBy gapPageHits pageHits freeblocks blocksFrom chainEnds blockHits firstStart firstFrom attemptAt judged bodiesFrom typesFrom headerFits suits isInteger isReal isText isBlob varintAt varintFrom widthOf leadingZeros typesPadded bodyLength bigEndian columnWords unusedWords roomOf share freedShare countFits hintsKnown rowWords ofBits ofInt div mul round toBits
 table = refl
 
 -- ---- a database whose second page this is

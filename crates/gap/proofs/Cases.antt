@@ -4,6 +4,7 @@ use Prim.Native.Nat.{ℕ, _+_}
 use mathlib.Core.Path.{_≡_, refl}
 use mathlib.Core.Bool.{Bool, true, false}
 use mathlib.Core.List.{List, [], _∷_, _++_, map}
+use lib.Count.{leadingZeros}
 use lib.Ieee.{ofBits, ofInt, div, mul, round, toBits, toUnsigned}
 use lib.ListN.{length, replicate}
 use Rattle.attempt.specs.Attempt.{headerFits, typesFrom, bodiesFrom, judged, attemptAt}
@@ -15,8 +16,9 @@ use Rattle.page.specs.Page.{Block}
 use Rattle.rebuild.specs.Header.{guessed, rebuilt}
 use Rattle.rebuild.specs.declared.rebuilding.Rebuilding.{Rebuilding}
 use Rattle.rebuild.specs.declared.rebuilding.Rebuilding.the-variants.{OneByte, Exact}
+use Rattle.record.specs.Places.{typesPadded}
 use Rattle.record.specs.Value.{bodyLength, bigEndian}
-use Rattle.record.specs.Varint.{varintFrom, varintAt}
+use Rattle.record.specs.Varint.{widthOf, varintFrom, varintAt}
 use Rattle.scan.specs.Scan.{scanFrom}
 use Rattle.sheet.specs.Columns.{columnWords, unusedWords}
 use Rattle.sheet.specs.Confidence.{share, rebuiltShare, percentOf}
@@ -93,9 +95,9 @@ block at size = record { at = at; size = size }
 spot : ℕ → ℕ → ℕ → Spot
 spot base start table = record { base = base; start = start; table = table }
 
--- offset, bytes, row id, percent, confidence and table of a row
-row : ℕ → ℕ → List ℕ → ℕ → ℕ → ℕ → List ℕ
-row offset consumed id percent confidence table = offset ∷ consumed ∷ (id ++ (2 ∷ percent ∷ confidence ∷ table ∷ []))
+-- offset, bytes, row id, percent, confidence, table and mark of a row
+row : ℕ → ℕ → List ℕ → ℕ → ℕ → ℕ → ℕ → List ℕ
+row offset consumed id percent confidence table mark = offset ∷ consumed ∷ (id ++ (2 ∷ percent ∷ confidence ∷ table ∷ mark ∷ []))
 
 body : ℕ → ℕ → ℕ → List ℕ
 body kind start len = 0 ∷ kind ∷ start ∷ len ∷ []
@@ -123,16 +125,16 @@ cases =
     ∷ onPage OneByte rowsIn 0 (spot 1000 512 3)
     (record {
       rows =
-          row 1009 9 (0 ∷ 0 ∷ []) 100 0x3f800000 12
-          ++ row 1026 9 (1 ∷ 7 ∷ []) 100 0x3f800000 12
-          ++ row 1024 10 (0 ∷ 0 ∷ []) 45 0x3ee66666 12
-          ++ row 1027 8 (0 ∷ 0 ∷ []) 90 0x3f666666 12;
+          row 1009 9 (0 ∷ 0 ∷ []) 100 0x3f800000 12 0
+          ++ row 1026 9 (1 ∷ 7 ∷ []) 100 0x3f800000 12 0
+          ++ row 1024 10 (0 ∷ 0 ∷ []) 45 0x3ee66666 12 0
+          ++ row 1027 8 (0 ∷ 0 ∷ []) 90 0x3f666666 12 0;
       cols = pair 524 ++ pair 541 ++ body 9 538 0 ++ body 7 538 8 ++ pair 541;
     })
-    ∷ onPage OneByte padded 0 (spot 0 0 0) (record { rows = row 12 8 (0 ∷ 0 ∷ []) 90 0x3f666666 0; cols = body 1 14 1 ++ body 23 15 5 })
-    ∷ onPage Exact padded 0 (spot 0 0 0) (record { rows = row 12 9 (0 ∷ 0 ∷ []) 90 0x3f666666 0; cols = pair 15 })
+    ∷ onPage OneByte padded 0 (spot 0 0 0) (record { rows = row 12 8 (0 ∷ 0 ∷ []) 90 0x3f666666 0 1; cols = body 1 14 1 ++ body 23 15 5 })
+    ∷ onPage Exact padded 0 (spot 0 0 0) (record { rows = row 12 9 (0 ∷ 0 ∷ []) 90 0x3f666666 0 1; cols = pair 15 })
     ∷ []
 
 table : map computed cases ≡ map expected cases
-unfolding cases computed expected header begins chained inHeader record9 rowsIn padded hints block spot row body pair none hasGap allZero regionHits gapHits chainEnds chainFrom chain pageHits guessed rebuilt cellAt cellsFrom cellsOf rebuiltFrom payloadHits scanFrom attemptAt judged bodiesFrom typesFrom headerFits suits isInteger isReal isText isBlob varintAt varintFrom bodyLength bigEndian columnWords unusedWords share rebuiltShare percentOf rowWords ofBits ofInt div mul round toBits toUnsigned
+unfolding cases computed expected header begins chained inHeader record9 rowsIn padded hints block spot row body pair none hasGap allZero regionHits gapHits chainEnds chainFrom chain pageHits guessed rebuilt cellAt cellsFrom cellsOf rebuiltFrom payloadHits scanFrom attemptAt judged bodiesFrom typesFrom headerFits suits isInteger isReal isText isBlob varintAt varintFrom widthOf leadingZeros typesPadded bodyLength bigEndian columnWords unusedWords share rebuiltShare percentOf rowWords ofBits ofInt div mul round toBits toUnsigned
 table = refl

@@ -3,18 +3,19 @@
 use Prim.Native.Nat.{ℕ}
 use mathlib.Core.Path.{_≡_, refl}
 use mathlib.Core.List.{List, [], _∷_, _++_, map}
+use lib.Count.{leadingZeros}
 use lib.ListN.{replicate}
 use Rattle.digits.specs.Digits.{decimalFrom, decimal, hexDigit, hex8}
 use Rattle.listing.specs.Input.{countOf, hintsOf, regionOf, inputChecks}
 use Rattle.listing.specs.Part.{rowSpace, colSpace, partText, partAnswer, partsFrom, partsOf, rowsSum, readSum}
 use Rattle.listing.specs.Text.{typeText, typesText, numbersText, lineText, rowsText, heading, totalsLine, refusalLine}
 use lib.Ieee.{ofInt, div, round, toBits}
-use Rattle.record.specs.Places.{varintPlaces}
+use Rattle.record.specs.Places.{varintPlaces, typePlaces, typesPadded}
 use Rattle.record.specs.Value.{bodyLength, bigEndian}
-use Rattle.record.specs.Varint.{varintFrom, varintAt}
+use Rattle.record.specs.Varint.{widthOf, varintFrom, varintAt}
 use Rattle.attempt.specs.Attempt.{headerFits, typesFrom, bodiesFrom, judged, attemptAt}
 use Rattle.attempt.specs.Hints.{isInteger, isReal, isText, isBlob, suits}
-use Rattle.attempt.specs.Places.{typePlaces, attemptPlaces}
+use Rattle.attempt.specs.Places.{attemptPlaces}
 use Rattle.scan.specs.Scan.{scanFrom, scanAsked, scanAnswer, scanRows, scanCols}
 use Rattle.sheet.specs.Columns.{columnWords, roomOf}
 use Rattle.sheet.specs.Confidence.{share}
@@ -70,5 +71,5 @@ cases =
     ∷ []
 
 table : map computed cases ≡ map expected cases
-unfolding printedIf printed computed expected cases countOf partText partAnswer partsFrom partsOf decimalFrom decimal hexDigit hex8 typeText typesText numbersText lineText rowsText heading totalsLine refusalLine ofInt div round toBits varintPlaces bodyLength bigEndian varintFrom varintAt headerFits typesFrom bodiesFrom judged attemptAt isInteger isReal isText isBlob suits typePlaces attemptPlaces scanFrom scanAnswer scanRows scanCols columnWords roomOf share countFits hintsKnown rowWords
+unfolding printedIf printed computed expected cases countOf partText partAnswer partsFrom partsOf decimalFrom decimal hexDigit hex8 typeText typesText numbersText lineText rowsText heading totalsLine refusalLine ofInt div round toBits varintPlaces bodyLength bigEndian varintFrom varintAt widthOf leadingZeros typesPadded headerFits typesFrom bodiesFrom judged attemptAt isInteger isReal isText isBlob suits typePlaces attemptPlaces scanFrom scanAnswer scanRows scanCols columnWords roomOf share countFits hintsKnown rowWords
 table = refl

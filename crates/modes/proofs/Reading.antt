@@ -2,7 +2,7 @@
 -- Assumes nothing.
 use Prim.Native.Nat.{ℕ, zero, suc, _+_, _≤_, _<_}
 use mathlib.Core.Path.{_≡_, refl, sym, ap, _∙_}
-use mathlib.Core.Bool.{Bool, false, _||_, or-false, or-assoc}
+use mathlib.Core.Bool.{Bool, false, _||_}
 use mathlib.Core.List.{List, [], _∷_, _++_}
 use native.Mathlib.Omega.{arith}
 use borrow.Author.Tests.{lt-ltb, le-ltb}
@@ -11,7 +11,7 @@ use Rattle.modes.specs.Found.{Types, cut, read, typeBefore, typesFrom}
 use Rattle.modes.specs.Inner.{WholeIs, kindsAt}
 use Rattle.record.proofs.Laws.{varint-lies}
 use Rattle.record.proofs.Numbers.{by-order}
-use Rattle.record.proofs.Types.{padded-step, padded-none, padded-end}
+use Rattle.record.proofs.Types.{padded-none, padded-end, marked-step, marked-end}
 use Rattle.record.specs.Places.{typesPadded}
 use Rattle.record.specs.Varint.{varintAt}
 use Rattle.record.specs.declared.varint.Cursor.{Cursor}
@@ -107,7 +107,7 @@ module _ (s : List ℕ) (stop : ℕ) (whole : Types) (p : Bool) (most at : ℕ) 
           left = k .0;
           sum = simp length-append (omega (arith, k .1, w .sum));
           is = rw (k .1, types-step (k .0) s at stop t c below e) at (w .is) ∙ sym (before-one done t (typesFrom (k .0) s (c .at) stop));
-          marks = rw (k .1, padded-step (k .0) s at stop t c below e) at (w .marks) ∙ sym (or-assoc padded (c .padded) (typesPadded (k .0) s (c .at) stop));
+          marks = marked-step (k .0) s at stop t c p padded below e (rw (k .1) at (w .marks));
         }
 
     pub so-cut : varintAt s at ≡ Short → whole ≡ cut
@@ -117,13 +117,13 @@ module _ (s : List ℕ) (stop : ℕ) (whole : Types) (p : Bool) (most at : ℕ) 
   pub so-past : stop ≤ at → (whole ≡ read done at) × (p ≡ padded)
   so-past h = (
     rw (types-end (w .left) s at stop h) at (w .is) ∙ before-read done at,
-    rw (padded-end (w .left) s at stop h) at (w .marks) ∙ or-false padded,
+    marked-end (w .left) s at stop p padded (padded-end (w .left) s at stop h) (w .marks),
   )
 
   pub so-all : most ≤ length done → (whole ≡ read done at) × (p ≡ padded)
   so-all h =
       let z : w .left ≡ 0 = omega (arith, w .sum) in
-      (rw (z, types-none s at stop) at (w .is) ∙ before-read done at, rw (z, padded-none s at stop) at (w .marks) ∙ or-false padded)
+      (rw (z, types-none s at stop) at (w .is) ∙ before-read done at, marked-end 0 s at stop p padded (padded-none s at stop) (rw z at (w .marks)))
 
   -- THE LAW: if there are types in the end, these are the first of them
   pub so-first : (ts : List ℕ) (end : ℕ) → whole ≡ read ts end → (us : List ℕ) × (ts ≡ done ++ us)

@@ -3,6 +3,7 @@
 use Prim.Native.Nat.{ℕ}
 use mathlib.Core.Path.{_≡_, refl}
 use mathlib.Core.List.{List, [], _∷_, _++_}
+use lib.Count.{leadingZeros}
 use lib.Ieee.{ofBits, ofInt, div, mul, round, toBits}
 use lib.ListN.{replicate}
 use Rattle.attempt.specs.Attempt.{headerFits, typesFrom, bodiesFrom, judged, attemptAt}
@@ -16,8 +17,9 @@ use Rattle.freeblock.specs.Freeblock.{chainEnds, blocksFrom, freeblocks, firstF
 use Rattle.page.specs.Page.{sizeFits, hasPage}
 use Rattle.rebuild.specs.declared.rebuilding.Rebuilding.the-variants.{OneByte, Exact}
 use Rattle.rebuild.specs.declared.rebuilding.Rebuilding.{Rebuilding}
+use Rattle.record.specs.Places.{typesPadded}
 use Rattle.record.specs.Value.{bodyLength, bigEndian}
-use Rattle.record.specs.Varint.{varintFrom, varintAt}
+use Rattle.record.specs.Varint.{widthOf, varintFrom, varintAt}
 use Rattle.sheet.specs.Columns.{columnWords, unusedWords, roomOf}
 use Rattle.sheet.specs.Confidence.{share, freedShare}
 use Rattle.sheet.specs.Hits.{rowsLeft, entriesLeft}
@@ -42,8 +44,8 @@ none = 3 ∷ 0 ∷ 0 ∷ 0 ∷ []
 two : ℕ → ℕ → ℕ → Outcome
 two flags depth words = tables Freeblocks (0 ∷ 2 ∷ []) (3 ∷ 2 ∷ []) (0 ∷ 0 ∷ 0 ∷ 0 ∷ 2 ∷ []) flags depth words
 
-both : two 2 1 24 ≡ out 0 2 (row 525 4 ++ row 540 4 ++ kept 8) (pair 525 ++ none ++ pair 540 ++ none)
-unfolding two tables out kept db none page row pair tabledAnswer tabledRows tabledCols rowsLeft entriesLeft tablesHits tablesOverflow walk walkFrom popped marked fresh pageDone pushAll kids cellsFrom childIn sizeFits hasPage leafHits hitsBy pageHits freeblocks blocksFrom chainEnds blockHits firstStart firstFrom attemptAt judged bodiesFrom typesFrom headerFits suits isInteger isReal isText isBlob varintAt varintFrom bodyLength bigEndian columnWords unusedWords roomOf share freedShare countFits hintsKnown rowWords ofBits ofInt div mul round toBits
+both : two 2 1 24 ≡ out 0 2 (row 525 4 ++ row 540 4 ++ kept 6) (pair 525 ++ none ++ pair 540 ++ none)
+unfolding two tables out kept db none page row pair tabledAnswer tabledRows tabledCols rowsLeft entriesLeft tablesHits tablesOverflow walk walkFrom popped marked fresh pageDone pushAll kids cellsFrom childIn sizeFits hasPage leafHits hitsBy pageHits freeblocks blocksFrom chainEnds blockHits firstStart firstFrom attemptAt judged bodiesFrom typesFrom headerFits suits isInteger isReal isText isBlob varintAt varintFrom widthOf leadingZeros typesPadded bodyLength bigEndian columnWords unusedWords roomOf share freedShare countFits hintsKnown rowWords ofBits ofInt div mul round toBits
 both = refl
 
 few-flags : two 1 1 24 ≡ out 8 0 (kept 24) (kept 24)

@@ -72,7 +72,7 @@ module _ (s : List ℕ) (spot : Spot) (o : ℕ) (d hints : List ℕ) (part : Par
         let rest = part-rest d v start in
         let long : length (drop v d) ≡ length d - v = length-drop v d in
         let ts = kinds (headerTypes (drop v d) 0 t 0) in
-        let m = made-from (length (drop v d)) hints 0 t (f .found) (omega (arith, f .fits)) (headerTypes (drop v d) 0 t 0) (f .made) in
+        let m = made-from (length (drop v d)) hints 0 t _ (f .found) (omega (arith, f .fits)) (headerTypes (drop v d) 0 t 0) (f .made) in
         let kinds-are = types-moved rest (omega arith) t t 0 (0 + t) (omega arith) (omega arith) .kinds-are in
         let place : v + (0 + t) ≡ v + t = omega arith in
         let values : valuesBehind d v (takes t) ≡ map (movedValue v) (valuesFrom (drop v d) (0 + t) ts) =

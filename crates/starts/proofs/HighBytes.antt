@@ -76,7 +76,7 @@ high-miss d hints v p some few le lt in′ high =
     (λ fits.
     let head : Headed d v (length hints) v = record { low = some; high = omega arith; inside = omega arith; past = omega arith; near = omega arith; within = omega arith } in
     let less = fewer d (v + length hints) p lt (omega arith) high (length hints) v le in
-    rebuilt-miss d hints v (omega arith) (length hints) some (omega arith) OneByte guess fits (judge-never d hints v (length hints) v head (λ _ e. omega arith) .misses))
+    rebuilt-miss d hints v (omega arith) (length hints) some (omega arith) OneByte guess fits (judge-never d hints v (length hints) v head _ (λ _ e. omega arith) .misses))
 
 pub none-on : (d hints : List ℕ) (v at next : ℕ) → 1 ≤ length hints → length hints ≤ oneByteTypes → at + (length hints - 1) ≤ length d → at < next
     → BehindHigh d at (at + (length hints - 1)) next → NoneFrom OneByte d hints v at → NoneFrom OneByte d hints v next

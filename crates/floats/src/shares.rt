@@ -20,6 +20,7 @@ fn bits(confidence: f32) -> u64 {
         confidence,
         mode: Mode::Plain,
         table: 0,
+        padded: false,
     });
     row[6]
 }

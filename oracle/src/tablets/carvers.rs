@@ -227,10 +227,10 @@ fn live(lent: &Lent, page: &Leaf) -> Vec<u64> {
     let cells = number(page.bytes, page.header + 3, 2).unwrap_or(0);
     let row = |i: usize| {
         let at = number(page.bytes, page.header + limits.leaf_header + 2 * i, 2)?;
-        let (length, width) = whole(limits, page.bytes, at)?;
-        let (_, id_width) = whole(limits, page.bytes, at + width)?;
-        let start = at + width + id_width;
-        let payload = page.bytes.get(start..start + length as usize)?;
+        let length = whole(limits, page.bytes, at)?;
+        let id = whole(limits, page.bytes, at + length.width)?;
+        let start = at + length.width + id.width;
+        let payload = page.bytes.get(start..start + length.value as usize)?;
         Some(entries((page.at + start) as u64, &attempt(limits, payload, &lent.hints, 0).found?))
     };
     (0..cells).filter_map(row).flatten().collect()

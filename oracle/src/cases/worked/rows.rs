@@ -3,6 +3,7 @@
 use super::making::*;
 use super::tablet::{one_leaf, SIZE};
 use super::Worked;
+use crate::rules::limits::WORDS_PER_ROW;
 
 /// Three rows of two columns.
 const THREE: &str = "03 08 09 03 09 08 03 08 08";
@@ -72,11 +73,11 @@ fn rooms() -> Vec<Worked> {
         with_lists(scan(name, THREE, "0000", 0, 0, 0), &[rows, entries])
     };
     vec![
-        heading("5.3 Room: whole rows of 8 cells, and whole groups, here of 8 cells"),
-        lent(16, 16, 2),
-        lent(15, 16, 1),
-        lent(16, 15, 1),
-        lent(24, 16, 2),
-        lent(16, 24, 2),
+        heading(&format!("5.3 Room: whole rows of {WORDS_PER_ROW} cells, and whole groups, here of 8 cells")),
+        lent(2 * WORDS_PER_ROW, 16, 2),
+        lent(2 * WORDS_PER_ROW - 1, 16, 1),
+        lent(2 * WORDS_PER_ROW, 15, 1),
+        lent(3 * WORDS_PER_ROW, 16, 2),
+        lent(2 * WORDS_PER_ROW, 24, 2),
     ]
 }

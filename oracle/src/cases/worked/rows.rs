@@ -1,6 +1,7 @@
 //! Section 5, 5.1 to 5.3: rows and columns as words, and room.
 
 use super::making::*;
+use super::padding;
 use super::tablet::{one_leaf, SIZE};
 use super::Worked;
 use crate::rules::limits::WORDS_PER_ROW;
@@ -9,7 +10,7 @@ use crate::rules::limits::WORDS_PER_ROW;
 const THREE: &str = "03 08 09 03 09 08 03 08 08";
 
 pub fn all() -> Vec<Worked> {
-    [sources(), tables_of_rows(), groups(), rooms()].into_iter().flatten().collect()
+    [sources(), tables_of_rows(), padding::rows(), groups(), rooms()].into_iter().flatten().collect()
 }
 
 fn sources() -> Vec<Worked> {
@@ -44,7 +45,7 @@ fn tables_of_rows() -> Vec<Worked> {
     let space = Space { flags: 1, stack: 1, rows: 2 };
     let two = tables(&[1, 1], &[1, 1], "0000");
     vec![
-        heading("5.1 The table's index, four times, in the last word"),
+        heading("5.1 The table's index, four times, in the word of the mode"),
         recover("tables 0 and 1", one_leaf("0208"), SIZE, &two, space),
         recover("table 1023, the last of 1024", one_leaf("0208"), SIZE, &last_of(1024), space),
     ]

@@ -64,7 +64,7 @@ const GAP_GROUPS: [(usize, Group); 4] = [(28, gaps::all), (10, gaps::walks), (24
 const CARVING_GROUPS: [(usize, Group); 3] = [(24, modes::all), (20, learning::all), (24, learned::all)];
 
 /// The same for padded numbers, in all of these.
-const PADDING_GROUPS: [(usize, Group); 1] = [(4, padding::all)];
+const PADDING_GROUPS: [(usize, Group); 1] = [(1, padding::all)];
 
 /// All but the worked ones.
 pub fn all(sink: &mut dyn Sink, plan: &Plan) {

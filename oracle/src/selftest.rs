@@ -282,7 +282,7 @@ const CHANGES: &[Change] = &[
         call: BLOCK,
         cases: |sink, _, _| blocks::rebuilt(sink),
         in_the_rust: true,
-        at_most: 14,
+        at_most: 15,
     },
     Change {
         what: "a rebuilt row of 65,535 bytes is too long",

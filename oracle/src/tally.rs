@@ -73,6 +73,12 @@ impl Tally {
         self.calls.iter().map(|c| c.cases).sum()
     }
 
+    /// The rows that a call has written, and those of them that are marked as padded.
+    pub fn rows(&self, call: u8) -> (u64, u64) {
+        let call = &self.calls[call as usize - 1];
+        (call.written, call.padded)
+    }
+
     pub fn print(&self) {
         println!("{:<27} {:>10} {:>12} {:>10} {:>10}  refusals", "call", "cases", "with Rust", "written", "padded");
         for (call, per) in CALLS.iter().zip(&self.calls) {

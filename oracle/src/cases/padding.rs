@@ -26,7 +26,9 @@ pub fn all(sink: &mut dyn Sink, random: &mut Random, count: usize) {
     types(sink);
     cells(sink);
     freed(sink);
-    unread(sink);
+    gaps(sink);
+    first_mode(sink);
+    learned(sink);
     made_up(sink);
     for _ in 0..count {
         random_record(sink, random);
@@ -109,35 +111,42 @@ pub fn cells(sink: &mut dyn Sink) {
     }
 }
 
-/// Freed blocks and gaps of a page: a slice, a page by its number, and the leaf of a table.
+/// The first freed block of a page: of a slice, of a page by its number, and of the leaf of a table.
 pub fn freed(sink: &mut dyn Sink) {
     for record in records() {
         let mut page = vec![0; 12 + record.len()];
         leaf(&mut page, 0, &[record.clone()]);
         slice(sink, &page, 0, &HINTS, 1);
-        slice(&mut AsGaps(sink), &page, 0, &HINTS, 1);
-        let mut gap = [vec![0; 8], record.clone()].concat();
-        let end = gap.len();
-        put(&mut gap, 5, end);
-        slice(&mut AsGaps(sink), &gap, 0, &HINTS, 1);
         page.resize(512, 0);
         numbered(sink, &page, 0, &HINTS, 1);
-        numbered(&mut AsGaps(sink), &page, 0, &HINTS, 1);
         let mut db = Database::new(512, 1);
         db.leaf(1, &[record]);
-        let table = [(1, HINTS.to_vec())];
-        tables::put(sink, &db, &table, 1, 1);
-        tables::put(&mut AsGaps(sink), &db, &table, 1, 1);
+        tables::put(sink, &db, &[(1, HINTS.to_vec())], 1, 1);
     }
 }
 
-/// Fewer types are read than there are, as many, and there are fewer.
-pub fn unread(sink: &mut dyn Sink) {
+/// The same by the gap's carver; and the gap of a slice.
+pub fn gaps(sink: &mut dyn Sink) {
     for record in records() {
-        modes(sink, &record);
-        for learned in 1..=LEARNED.len() {
-            let case = Case::new(UNALLOC, &[0], &[&record], &lists(3, learned));
-            sink.put(case.with_words(&[&LEARNED[..learned]]));
+        let mut page = [vec![0; 8], record].concat();
+        let end = page.len();
+        put(&mut page, 5, end);
+        slice(&mut AsGaps(sink), &page, 0, &HINTS, 1);
+    }
+    freed(&mut AsGaps(sink));
+}
+
+/// The first mode, which reads fewer types than there are, or as many, or has fewer.
+pub fn first_mode(sink: &mut dyn Sink) {
+    records().iter().for_each(|record| modes(sink, record));
+}
+
+/// The same with learned types.
+pub fn learned(sink: &mut dyn Sink) {
+    for record in records() {
+        for most in 1..=LEARNED.len() {
+            let case = Case::new(UNALLOC, &[0], &[&record], &lists(3, most));
+            sink.put(case.with_words(&[&LEARNED[..most]]));
         }
     }
 }

@@ -2,7 +2,7 @@
 
 use super::Change;
 use crate::calls::{BLOCK, GAP_SLICE, MODES, READ_VARINT, RECOVER_SLICE, SCAN, UNALLOC};
-use crate::cases::padding::{cells, freed, lengths, made_up, types, unread, varints};
+use crate::cases::padding::{cells, first_mode, freed, gaps, learned, lengths, made_up, types, varints};
 use crate::rules::varint::written;
 
 const OF_A_VARINT: Change = Change {
@@ -14,7 +14,7 @@ const OF_A_VARINT: Change = Change {
     at_most: 9,
 };
 
-const OF_A_ROW: Change = Change { call: SCAN, cases: |sink, _, _| lengths(sink), at_most: 30, ..OF_A_VARINT };
+const OF_A_ROW: Change = Change { call: SCAN, cases: |sink, _, _| lengths(sink), at_most: 45, ..OF_A_VARINT };
 
 pub const CHANGES: &[Change] = &[
     Change {
@@ -48,21 +48,21 @@ pub const CHANGES: &[Change] = &[
         what: "a header's length marks no row in the first mode",
         change: |l| l.marks.header = |_, types| types,
         call: MODES,
-        cases: |sink, _, _| unread(sink),
+        cases: |sink, _, _| first_mode(sink),
         ..OF_A_ROW
     },
     Change {
         what: "a header's length marks no row of learned types",
         change: |l| l.marks.header = |_, types| types,
         call: UNALLOC,
-        cases: |sink, _, _| unread(sink),
+        cases: |sink, _, _| learned(sink),
         ..OF_A_ROW
     },
     Change {
         what: "a header's length marks no row of a gap",
         change: |l| l.marks.header = |_, types| types,
         call: GAP_SLICE,
-        cases: |sink, _, _| freed(sink),
+        cases: |sink, _, _| gaps(sink),
         ..OF_A_ROW
     },
     Change {
@@ -90,14 +90,14 @@ pub const CHANGES: &[Change] = &[
         what: "a type that a mode does not read marks its row",
         change: |l| l.marks.unread = true,
         call: MODES,
-        cases: |sink, _, _| unread(sink),
+        cases: |sink, _, _| first_mode(sink),
         ..OF_A_ROW
     },
     Change {
         what: "a type behind the learned ones marks its row",
         change: |l| l.marks.unread = true,
         call: UNALLOC,
-        cases: |sink, _, _| unread(sink),
+        cases: |sink, _, _| learned(sink),
         ..OF_A_ROW
     },
     Change {

@@ -97,27 +97,23 @@ fn cells() -> Vec<Worked> {
     ]
 }
 
+/// In the one-byte mode all types but the last take a byte.
 fn rebuilt() -> Vec<Worked> {
-    let mut all = vec![heading("5.1, 11.6, 11.9 The same of rebuilt headers, which have no length of their own")];
-    for (mode, code) in [("one-byte", ONE_BYTE), ("exact", EXACT)] {
-        let lent = |name: &str, payload: &str| block(format!("{mode}: {name}"), code, payload, 0, "000000", 1);
-        all.extend([
-            lent("none", "08 09 08"),
-            lent("the first type", "8008 09 08"),
-            lent("the type in the middle", "08 8009 08"),
-            lent("the last type", "08 09 8008"),
-            block(format!("{mode}: none, and a padded 8 begins before the second row"), code, "8008 09", 0, "00", 3),
-        ]);
-    }
-    all.push(block(
-        "exact: none, and the length that is made up takes two bytes",
-        EXACT,
-        times(8, 127),
-        0,
-        times(0, 127),
-        1,
-    ));
-    all
+    let one = |name: &str, payload: &str| block(name, ONE_BYTE, payload, 0, "000000", 1);
+    let exact = |name: &str, payload: &str| block(name, EXACT, payload, 0, "000000", 1);
+    vec![
+        heading("5.1, 11.6, 11.9 The same of rebuilt headers, which have no length of their own"),
+        one("one-byte: none", "08 09 08"),
+        one("one-byte: the last type", "08 09 8008"),
+        one("one-byte: none, and a padded type begins before the row", "8008 09 08"),
+        block("one-byte: the first of three rows", ONE_BYTE, "8008 09", 0, "00", 3),
+        exact("exact: none", "08 09 08"),
+        exact("exact: the first type, room for 1", "8008 09 08"),
+        exact("exact: the type in the middle", "08 8009 08"),
+        exact("exact: the last type", "08 09 8008"),
+        block("exact: the first of three rows", EXACT, "8008 09", 0, "00", 3),
+        block("exact: none, and the made-up length takes two bytes", EXACT, times(8, 127), 0, times(0, 127), 1),
+    ]
 }
 
 fn modes_with_a_length() -> Vec<Worked> {

@@ -108,6 +108,10 @@ impl Tally {
                 println!("NOT REACHED: {what} {missed:?}");
             }
         }
+        let mixed = |per: &PerCall| per.padded > 0 && per.padded < per.written;
+        for (call, _) in CALLS.iter().zip(&self.calls).filter(|(call, per)| call.writes_rows() && !mixed(per)) {
+            println!("NOT REACHED: rows of {} that are marked as padded, and others", call.name);
+        }
         println!("column states read by a call (0 to 3, above): {:?}", self.states_read);
         println!("values read (none, NULL, integer, real, text, blob): {:?}", self.values);
     }

@@ -195,7 +195,7 @@ static u64 make_call(int call, const struct frame *f, u64 *out, u64 *words) {
     const u64 *l = f->lent;
     switch (call) {
     case 0: *words = 1; out[0] = calls_there(); return 0;
-    case 1: *words = 3; return phs_read_varint(a, la, n[0], out);
+    case 1: *words = 4; return phs_read_varint(a, la, n[0], out);
     case 2: *words = 2; return phs_body_length(n[0], out);
     case 3: *words = 4; return phs_decode_serial_type(n[0], a, la, n[1], out);
     case 4: *words = 4; return phs_read_entry(n[0], n[1], n[2], n[3], a, la, out);

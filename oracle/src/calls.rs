@@ -75,7 +75,7 @@ const WALK_AND_ROWS: &[List] = &[FLAGS, STACK, ROWS, ENTRIES];
 
 /// The call with the number n stands at n - 1.
 pub const CALLS: &[Call] = &[
-    call("read_varint", (1, 1, 3), &[], value::varint, value::given_varint),
+    call("read_varint", (1, 1, 4), &[], value::varint, value::given_varint),
     call("body_length", (1, 0, 2), &[], value::body, value::given_body),
     call("decode_serial_type", (2, 1, 4), &[], value::decode, value::given_decode),
     call("read_entry", (4, 1, 4), &[], entry::read, entry::given_read),

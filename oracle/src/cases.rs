@@ -12,6 +12,7 @@ pub mod learning;
 pub mod limits;
 pub mod modes;
 pub mod numbers;
+pub mod padding;
 pub mod payloads;
 pub mod rebuilding;
 pub mod records;
@@ -62,12 +63,17 @@ const GAP_GROUPS: [(usize, Group); 4] = [(28, gaps::all), (10, gaps::walks), (24
 /// The same for the three modes, and for learning.
 const CARVING_GROUPS: [(usize, Group); 3] = [(24, modes::all), (20, learning::all), (24, learned::all)];
 
+/// The same for padded numbers, in all of these.
+const PADDING_GROUPS: [(usize, Group); 1] = [(1, padding::all)];
+
 /// All but the worked ones.
 pub fn all(sink: &mut dyn Sink, plan: &Plan) {
     values_and_regions(sink, plan);
     pages(sink, plan);
     gaps(sink, plan);
     carving(sink, plan);
+    let before = GROUPS.len() + PAGE_GROUPS.len() + GAP_GROUPS.len() + CARVING_GROUPS.len();
+    groups(sink, plan, &PADDING_GROUPS, before);
 }
 
 /// The worked ones, without their names.

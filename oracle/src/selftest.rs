@@ -2,6 +2,7 @@
 //! against our side and, where the Rust has that number too, against the Rust.
 
 pub mod noticing;
+mod padding;
 mod rebuilding;
 
 use crate::calls::{BLOCK, CALLS, COMPATIBLE, GAP_SLICE, LEARN, LEAVES, MODES, PAGE_DATA, READ_VARINT};
@@ -281,7 +282,7 @@ const CHANGES: &[Change] = &[
         call: BLOCK,
         cases: |sink, _, _| blocks::rebuilt(sink),
         in_the_rust: true,
-        at_most: 14,
+        at_most: 15,
     },
     Change {
         what: "a rebuilt row of 65,535 bytes is too long",
@@ -494,7 +495,7 @@ const CHANGES: &[Change] = &[
 ];
 
 fn changes() -> impl Iterator<Item = &'static Change> {
-    CHANGES.iter().chain(rebuilding::CHANGES)
+    CHANGES.iter().chain(rebuilding::CHANGES).chain(padding::CHANGES)
 }
 
 pub fn run(server: &[String]) -> bool {

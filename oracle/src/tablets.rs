@@ -2,10 +2,12 @@
 //! each, which rows were deleted and which were not.
 
 mod carvers;
+mod padding;
 mod rows;
 mod tables;
 
 use self::carvers::File;
+use self::padding::PutIn;
 use self::rows::{Back, Lent, Lines, Row};
 use crate::calls::{self, STATEMENT};
 use crate::case::Case;
@@ -111,23 +113,41 @@ pub fn run(runner: &mut Runner, folder: &str) -> io::Result<bool> {
     );
     println!("the statements, every page and every frame of a log, a damaged copy of each, and rows at every offset; the tables'");
     println!("leaves, each free block, the rows that are learned from, and a damaged copy of each of these.");
-    Ok(true)
+    padded(runner, folder, &names)
+}
+
+/// Rows as sqlite3 wrote them, and rows in which a number is padded then.
+fn padded(runner: &mut Runner, folder: &str, names: &[String]) -> io::Result<bool> {
+    let mut put_in = PutIn::default();
+    for name in names {
+        let tablet = Tablet::read(runner, folder, name)?;
+        let db = fs::read(Path::new(folder).join(format!("{name}.db")))?;
+        let file = File { bytes: &db, pages: pages(&db, 0, 0, tablet.page), size: tablet.page, is_log: false };
+        if let Some((list, hints, _)) = tablet.lists().into_iter().next() {
+            put_in.of_file(runner, &Lent::new(tablet.columns(list), hints), &file);
+        }
+    }
+    let written = padding::as_written(runner, &Path::new(folder).join("many"))?;
+    if let Some(difference) = &runner.difference {
+        difference.print();
+        return Ok(false);
+    }
+    let PutIn { calls, wrong } = put_in;
+    wrong.iter().for_each(|case| println!("NOT MARKED AS IT SHOULD BE: {case}"));
+    if let Some(rows) = written {
+        println!("\nOf {rows} more rows, each read at its cell as sqlite3 wrote it, none is marked as padded. In {calls} calls on");
+        println!(
+            "pages of the databases above a number of a header was padded: the row is marked, and as it was it is not."
+        );
+    }
+    Ok(written.is_some() && calls > 0 && wrong.is_empty())
 }
 
 /// The database, and its log as a kind of its own.
 fn measure(runner: &mut Runner, folder: &str, name: &str, measured: &mut Measured) -> io::Result<()> {
     let path = |end: &str| Path::new(folder).join(format!("{name}{end}"));
-    let lines = |end: &str| -> io::Result<Vec<String>> {
-        Ok(fs::read_to_string(path(end))?.lines().map(String::from).collect())
-    };
     let db = fs::read(path(".db"))?;
-    let mut tablet = Tablet {
-        kind: name.split_once('-').map_or(name, |(_, kind)| kind).to_string(),
-        page: page_size(&db),
-        hints: hints_of(runner, &fs::read(path(".sql"))?),
-        deleted: lines(".deleted")?,
-        live: lines(".live")?,
-    };
+    let mut tablet = Tablet::read(runner, folder, name)?;
     let file = File { bytes: &db, pages: pages(&db, 0, 0, tablet.page), size: tablet.page, is_log: false };
     measure_file(runner, &tablet, &file, &file, measured);
     if let Ok(log) = fs::read(path(".db-wal")) {
@@ -180,6 +200,20 @@ fn unite(found: &mut HashMap<(List, Way), Option<Vec<Row>>>) {
 }
 
 impl Tablet {
+    fn read(runner: &mut Runner, folder: &str, name: &str) -> io::Result<Tablet> {
+        let path = |end: &str| Path::new(folder).join(format!("{name}{end}"));
+        let lines = |end: &str| -> io::Result<Vec<String>> {
+            Ok(fs::read_to_string(path(end))?.lines().map(String::from).collect())
+        };
+        Ok(Tablet {
+            kind: name.split_once('-').map_or(name, |(_, kind)| kind).to_string(),
+            page: page_size(&fs::read(path(".db"))?),
+            hints: hints_of(runner, &fs::read(path(".sql"))?),
+            deleted: lines(".deleted")?,
+            live: lines(".live")?,
+        })
+    }
+
     /// The lists of hints that are lent, and the ways for which they are. A key is NULL in each record, and the statement's
     /// hints leave it out.
     fn lists(&self) -> Vec<(List, Vec<u8>, &'static [Way])> {

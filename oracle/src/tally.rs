@@ -1,8 +1,9 @@
 //! What was compared, in numbers.
 
-use crate::calls::{Given, CALLS, READ_ENTRY, VIEW_ENTRY};
+use crate::calls::{Given, CALLS, READ_ENTRY, READ_VARINT, VIEW_ENTRY};
 use crate::case::{Answer, Case, Cell};
 use crate::compare::Asked;
+use crate::rules::limits::{WORDS_PER_ENTRY, WORDS_PER_ROW};
 use std::collections::BTreeMap;
 
 const STATES: usize = 4;
@@ -13,6 +14,8 @@ struct PerCall {
     with_the_rust: u64,
     /// Rows, leaves, hints or places written.
     written: u64,
+    /// Rows, or varints, that are marked as padded.
+    padded: u64,
     numbers: BTreeMap<u64, u64>,
 }
 
@@ -52,9 +55,17 @@ impl Tally {
         if case.call == READ_ENTRY {
             self.values[answer.out[0] as usize] += 1;
         }
-        let lists = answer.lists.iter().zip(CALLS[case.call as usize - 1].lists);
-        for entry in lists.filter(|l| l.1.cell == Cell::Entry).flat_map(|l| l.0.chunks(4)) {
-            self.states_written[entry[0] as usize] += 1;
+        if case.call == READ_VARINT {
+            call.padded += answer.out[3];
+        }
+        for (list, lent) in answer.lists.iter().zip(CALLS[case.call as usize - 1].lists) {
+            match lent.cell {
+                Cell::Row => call.padded += list.chunks(WORDS_PER_ROW).map(|row| row[WORDS_PER_ROW - 1]).sum::<u64>(),
+                Cell::Entry => {
+                    list.chunks(WORDS_PER_ENTRY).for_each(|entry| self.states_written[entry[0] as usize] += 1);
+                }
+                _ => {}
+            }
         }
     }
 
@@ -62,15 +73,22 @@ impl Tally {
         self.calls.iter().map(|c| c.cases).sum()
     }
 
+    /// The rows that a call has written, and those of them that are marked as padded.
+    pub fn rows(&self, call: u8) -> (u64, u64) {
+        let call = &self.calls[call as usize - 1];
+        (call.written, call.padded)
+    }
+
     pub fn print(&self) {
-        println!("{:<27} {:>10} {:>12} {:>10}  refusals", "call", "cases", "with Rust", "written");
+        println!("{:<27} {:>10} {:>12} {:>10} {:>10}  refusals", "call", "cases", "with Rust", "written", "padded");
         for (call, per) in CALLS.iter().zip(&self.calls) {
             println!(
-                "{:<27} {:>10} {:>12} {:>10}  {}",
+                "{:<27} {:>10} {:>12} {:>10} {:>10}  {}",
                 call.name,
                 per.cases,
                 per.with_the_rust,
                 per.written,
+                per.padded,
                 numbered(&per.numbers)
             );
         }
@@ -79,7 +97,8 @@ impl Tally {
             *all.entry(*number).or_default() += count;
         }
         let asked: u64 = self.calls.iter().map(|c| c.with_the_rust).sum();
-        println!("{:<27} {:>10} {:>12} {:>10}  {}", "all", self.total(), asked, "", numbered(&all));
+        let padded: u64 = self.calls.iter().map(|c| c.padded).sum();
+        println!("{:<27} {:>10} {:>12} {:>10} {padded:>10}  {}", "all", self.total(), asked, "", numbered(&all));
         println!("the Rust panicked, as foreseen, on {} of these; the rules alone decide there", self.panicked);
         println!("column states written by a call (0 to 3): {:?}", self.states_written);
         let refusals = (1..=9).filter(|number| !all.contains_key(number));
@@ -88,6 +107,10 @@ impl Tally {
             if !missed.is_empty() {
                 println!("NOT REACHED: {what} {missed:?}");
             }
+        }
+        let mixed = |per: &PerCall| per.padded > 0 && per.padded < per.written;
+        for (call, _) in CALLS.iter().zip(&self.calls).filter(|(call, per)| call.writes_rows() && !mixed(per)) {
+            println!("NOT REACHED: rows of {} that are marked as padded, and others", call.name);
         }
         println!("column states read by a call (0 to 3, above): {:?}", self.states_read);
         println!("values read (none, NULL, integer, real, text, blob): {:?}", self.values);

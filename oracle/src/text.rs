@@ -1,4 +1,4 @@
-//! A case as one line, to be printed and given back: `scan_region n=0,0 s=0301172a68,0002 l=8,8`. Bytes are in
+//! A case as one line, to be printed and given back: `scan_region n=0,0 s=0301172a68,0002 l=9,8`. Bytes are in
 //! hexadecimal; a run of equal bytes is written once with its length, as `(00x65530)`. Slices of words, where a call
 //! has them, are written `w=2,3/1x2`, the second of them with two words that are 1.
 

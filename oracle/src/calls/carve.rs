@@ -23,6 +23,7 @@ pub fn modes(limits: &Limits, case: &Case) -> Answer {
             percent: 0,
             confidence: carved.confidence,
             mode: carved.mode,
+            padded: carved.padded,
         };
         sheet.put(&row, &carved.entries)
     });

@@ -28,6 +28,7 @@ fn carve(limits: &Limits, sheet: &mut Sheet, page: &Page, table: &Table) -> bool
             percent: 0,
             confidence: found.suited as f32 / found.kinds.len() as f32 * limits.freed,
             mode: 4 * table.index as u64,
+            padded: found.padded,
         };
         sheet.put(&row, &entries(place, &found))
     })

@@ -32,6 +32,7 @@ fn write(limits: &Limits, sheet: &mut Sheet, rows: Vec<Carved>, start: usize, ta
             percent: (limits.percent)(confidence),
             confidence,
             mode: 4 * table.index as u64,
+            padded: carved.found.padded,
         };
         sheet.put(&row, &entries(place, &carved.found))
     })

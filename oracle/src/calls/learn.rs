@@ -93,6 +93,7 @@ pub fn carve(limits: &Limits, case: &Case) -> Answer {
             percent: carved.percent,
             confidence: carved.percent as f32 / 100.0,
             mode: 0,
+            padded: carved.padded,
         };
         sheet.put(&row, &carved.entries)
     });

@@ -1,6 +1,6 @@
 //! One attempt and the region scan.
 
-use super::sheet::{header, same_columns};
+use super::sheet::{header, same_columns, same_words, Row, SCANNED};
 use super::value::hint_of;
 use super::{all, held, Given};
 use crate::case::{Answer, Case};
@@ -33,9 +33,17 @@ fn parts(case: &Case) -> Parts<'_> {
 }
 
 fn write_row(answer: &mut Answer, base: u64, o: usize, columns: usize, found: &Found) {
-    let confidence = found.suited as f32 / columns as f32;
-    let row = [base + o as u64, found.consumed, 0, 0, 0, 0, u64::from(confidence.to_bits()), 0];
-    answer.lists[0].extend(row);
+    let row = Row {
+        offset: base + o as u64,
+        consumed: found.consumed,
+        id: None,
+        source: SCANNED,
+        percent: 0,
+        confidence: found.suited as f32 / columns as f32,
+        mode: 0,
+        padded: found.padded,
+    };
+    answer.lists[0].extend(row.words());
     answer.lists[1].extend(entries(o as u64, found));
 }
 
@@ -135,21 +143,21 @@ pub fn given_scan(case: &Case, answer: &Answer) -> Given {
 fn same_row(p: &Parts, start: usize, rust: &CarvedCandidate, answer: &Answer, i: usize) -> Given {
     let at = start + rust.byte_offset;
     let row = &answer.lists[0][i * WORDS_PER_ROW..][..WORDS_PER_ROW];
-    let expected = [
-        p.base + at as u64,
-        rust.bytes_consumed as u64,
-        u64::from(rust.row_id.is_some()),
-        0,
-        0,
-        0,
-        u64::from(rust.confidence.to_bits()),
-        0,
-    ];
+    let expected = Row {
+        offset: p.base + at as u64,
+        consumed: rust.bytes_consumed as u64,
+        id: rust.row_id.map(|id| id as u64),
+        source: SCANNED,
+        percent: 0,
+        confidence: rust.confidence,
+        mode: 0,
+        padded: false,
+    };
     let width = WORDS_PER_ENTRY * p.hints.len();
     let group = &answer.lists[1][i * width..][..width];
     let Some(header) = header(&p.region[at..], usize::MAX) else {
         return Given::Differs("the Rust's reader sees no header where the Rust has a row".into());
     };
     let columns = same_columns(p.region, at, &header, &rust.values, rust.bytes_consumed, group);
-    all([held("row", &expected[..], row), columns])
+    all([same_words(&expected, row), columns])
 }

@@ -4,13 +4,14 @@ use super::page::{refusal_of, same_end};
 use super::value::same_value;
 use super::{all, held, Given};
 use crate::case::Answer;
-use crate::rules::limits::{room, WORDS_PER_ENTRY, WORDS_PER_ROW};
+use crate::rules::limits::{room, WORDS_IN_THE_RUST, WORDS_PER_ENTRY, WORDS_PER_ROW};
 use crate::rules::value::read_entry;
 use crate::rules::walk::End;
 use given::record::{decode_serial_type, RecoveredRecord, SqlValue};
 use given::varint::read_varint;
 use given::EvidenceSource;
 
+pub const SCANNED: u64 = 0;
 pub const FREELIST: u64 = 1;
 pub const INTRA_PAGE: u64 = 2;
 pub const UNALLOCATED: u64 = 3;
@@ -27,13 +28,15 @@ pub struct Row {
     pub percent: u64,
     pub confidence: f32,
     pub mode: u64,
+    /// Whether a number of its header was padded.
+    pub padded: bool,
 }
 
 impl Row {
-    fn words(&self) -> [u64; WORDS_PER_ROW] {
+    pub fn words(&self) -> [u64; WORDS_PER_ROW] {
         let (has_id, id) = (u64::from(self.id.is_some()), self.id.unwrap_or(0));
-        let confidence = u64::from(self.confidence.to_bits());
-        [self.offset, self.consumed, has_id, id, self.source, self.percent, confidence, self.mode]
+        let (confidence, padded) = (u64::from(self.confidence.to_bits()), u64::from(self.padded));
+        [self.offset, self.consumed, has_id, id, self.source, self.percent, confidence, self.mode, padded]
     }
 }
 
@@ -114,6 +117,11 @@ pub fn same_rows(lent: &Lent, rust: &[Said], answer: &Answer) -> Given {
     all(rust.iter().zip(pairs).map(|(said, (row, group))| same_row(lent, said, row, group)))
 }
 
+/// A row of an answer, in all that the Rust has of it.
+pub fn same_words(rust: &Row, row: &[u64]) -> Given {
+    held("row", &rust.words()[..WORDS_IN_THE_RUST], &row[..WORDS_IN_THE_RUST])
+}
+
 fn same_row(lent: &Lent, said: &Said, row: &[u64], group: &[u64]) -> Given {
     let rust = &said.record;
     let (source, percent) = match rust.source {
@@ -126,7 +134,7 @@ fn same_row(lent: &Lent, said: &Said, row: &[u64], group: &[u64]) -> Given {
     // The Rust does not say how long a row is: that is held against its bodies.
     let (consumed, confidence) = (row[1], rust.confidence);
     let mode = said.mode + 4 * rust.table.parse().unwrap_or(0);
-    let expected = Row { offset: rust.offset, consumed, id, source, percent, confidence, mode };
+    let expected = Row { offset: rust.offset, consumed, id, source, percent, confidence, mode, padded: false };
     let (used, unused) = group.split_at(WORDS_PER_ENTRY * rust.values.len().min(lent.width));
     let at = (rust.offset - lent.base) as usize;
     let Some(header) = reread(said, &lent.bytes[at..]) else {
@@ -136,7 +144,7 @@ fn same_row(lent: &Lent, said: &Said, row: &[u64], group: &[u64]) -> Given {
     let lost = usize::from(matches!(said.header, Header::Lost(_)));
     let (before, used) = used.split_at(WORDS_PER_ENTRY * lost);
     all([
-        held("row", &expected.words()[..], row),
+        same_words(&expected, row),
         held("a lost column", (&LOST[..WORDS_PER_ENTRY * lost], lost), (before, nulls(&rust.values[..lost]))),
         same_columns(lent.bytes, at, &header, &rust.values[lost..], consumed as usize, used),
         held("unused entries", &UNUSED.repeat(unused.len() / WORDS_PER_ENTRY)[..], unused),

@@ -16,15 +16,16 @@ fn words(out: &[u64]) -> Answer {
 
 pub fn varint(limits: &Limits, case: &Case) -> Answer {
     match read(limits, &case.slices[0], case.numbers[0] as usize) {
-        Varint::Whole { value, width } => words(&[1, value, width as u64]),
-        Varint::Cut(_) => words(&[0, 0, 0]),
+        Varint::Whole(n) => words(&[1, n.value, n.width as u64, u64::from(n.padded)]),
+        Varint::Cut(_) => words(&[0; 4]),
     }
 }
 
+/// The Rust does not say whether it was padded.
 pub fn given_varint(case: &Case, answer: &Answer) -> Given {
     let rust = read_varint(&case.slices[0], case.numbers[0] as usize);
     let rust = rust.map_or([0; 3], |(value, width)| [1, value, width as u64]);
-    held("varint", &rust[..], &answer.out)
+    held("varint", &rust[..], &answer.out[..rust.len()])
 }
 
 pub fn body(_: &Limits, case: &Case) -> Answer {

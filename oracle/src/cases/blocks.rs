@@ -218,7 +218,7 @@ fn random_block(sink: &mut dyn Sink, random: &mut Random) {
     let base = random.any_width() >> 16;
     let rows = if random.once_in(5) { random.below(6) } else { payload.len().min(40) };
     let [r, c] = lists(rows, hints.len());
-    let room = [r + random.below(8), c + random.below(4 * hints.len())];
+    let room = [r + random.below(WORDS_PER_ROW), c + random.below(4 * hints.len())];
     both_ways(sink, Case::new(BLOCK, &[base], &[&payload, &hints], &room));
 }
 

@@ -243,7 +243,7 @@ fn random_slice(sink: &mut dyn Sink, random: &mut Random) {
     }
     let base = random.any_width() >> 16;
     let [r, c] = lists(random.below(7), hints.len());
-    let room = [r + random.below(8), c + random.below(4 * hints.len())];
+    let room = [r + random.below(WORDS_PER_ROW), c + random.below(4 * hints.len())];
     sink.put(Case::new(RECOVER_SLICE, &[head as u64, base], &[&page, &hints], &room));
 }
 

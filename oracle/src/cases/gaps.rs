@@ -353,7 +353,7 @@ fn random_page(sink: &mut dyn Sink, random: &mut Random) {
     let base = random.any_width() >> 16;
     let rows = if random.once_in(4) { random.below(6) } else { 24 };
     let [r, c] = lists(rows, hints.len());
-    let room = [r + random.below(8), c + random.below(4 * hints.len())];
+    let room = [r + random.below(WORDS_PER_ROW), c + random.below(4 * hints.len())];
     both_ways(sink, Case::new(GAP_SLICE, &[at as u64, base], &[&page, &hints], &room));
 }
 

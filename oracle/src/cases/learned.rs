@@ -225,7 +225,7 @@ fn random_region(sink: &mut dyn Sink, random: &mut Random) {
     let base = random.any_width() >> 16;
     let rows = if random.once_in(4) { random.below(records + 2) } else { records + 4 };
     let [r, c] = lists(rows, types.len());
-    let room = [r + random.below(8), c + random.below(4 * types.len())];
+    let room = [r + random.below(WORDS_PER_ROW), c + random.below(4 * types.len())];
     sink.put(Case::new(UNALLOC, &[base], &[&region], &room).with_words(&[&types]));
 }
 

@@ -188,7 +188,7 @@ fn random_case(sink: &mut dyn Sink, random: &mut Random, block: &[u8], columns: 
     let base = random.any_width() >> 16;
     let rows = if random.once_in(5) { random.below(4) } else { 8 };
     let [r, c] = lists(rows, columns);
-    let room = [r + random.below(8), c + random.below(4 * columns)];
+    let room = [r + random.below(WORDS_PER_ROW), c + random.below(4 * columns)];
     sink.put(Case::new(MODES, &[base, columns as u64], &[block], &room));
 }
 

@@ -139,7 +139,7 @@ fn random_region(sink: &mut dyn Sink, random: &mut Random) {
     // Mostly enough room, and lists whose ends are no ends of a row.
     let rows = if random.once_in(3) { random.below(records + 2) } else { records + 2 };
     let [r, c] = lists(rows, hints.len());
-    let room = [r + random.below(8), c + random.below(4 * hints.len())];
+    let room = [r + random.below(WORDS_PER_ROW), c + random.below(4 * hints.len())];
     let start = if random.once_in(6) { random.below(region.len() + 4) } else { 0 };
     sink.put(Case::new(SCAN, &[base, start as u64], &[&region, &hints], &room));
 }

@@ -115,7 +115,7 @@ fn widths(sink: &mut dyn Sink) {
 
 /// A case with its counts, roots and hints as they are given.
 fn raw(sink: &mut dyn Sink, db: &Database, roots: &[u64], counts: &[u64], hints: &[u8]) {
-    for lists in [[0, 0, 0, 0], [db.pages(), 4, 80, 4000]] {
+    for lists in [[0, 0, 0, 0], [db.pages(), 4, 10 * WORDS_PER_ROW, 4000]] {
         let case = Case::new(RECOVER, &[db.size as u64], &[&db.bytes, hints], &lists);
         sink.put(case.with_words(&[roots, counts]));
     }
@@ -278,7 +278,7 @@ pub fn random_case(sink: &mut dyn Sink, random: &mut Random, db: &Database, tabl
     let rows = if enough { 12 } else { random.below(6) };
     let [flags, stack, rows, entries] = lists(db, tables, stack, rows);
     let flags = if random.once_in(40) { random.below(flags + 1) } else { flags + random.below(3) };
-    sink.put(case(db, tables, [flags, stack, rows + random.below(8), entries + random.below(4)]));
+    sink.put(case(db, tables, [flags, stack, rows + random.below(WORDS_PER_ROW), entries + random.below(4)]));
 }
 
 /// Every room up to one row more than is needed, with every stack from one page less than is needed.

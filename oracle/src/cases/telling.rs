@@ -6,7 +6,7 @@ pub mod rows;
 pub mod values;
 pub mod wide;
 
-use super::learning;
+use super::{learning, padding};
 use crate::runner::Sink;
 
 pub fn all(sink: &mut dyn Sink) {
@@ -16,4 +16,5 @@ pub fn all(sink: &mut dyn Sink) {
     rebuilding::all(sink);
     wide::all(sink);
     learning::unused(sink);
+    padding::varints(sink);
 }

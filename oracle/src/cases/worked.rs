@@ -8,6 +8,7 @@ mod gaps;
 mod learned;
 mod making;
 mod modes;
+mod padding;
 mod pages;
 mod rebuilding;
 mod refusals;

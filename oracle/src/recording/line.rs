@@ -78,6 +78,7 @@ mod tests {
     use super::*;
     use crate::calls::{BODY_LENGTH, LEAVES, SCAN, SEARCH, STATEMENT};
     use crate::case::word_pattern;
+    use crate::rules::limits::WORDS_PER_ROW;
 
     fn search(written: Vec<u64>, lent: usize) -> String {
         let case = Case::new(SEARCH, &[], &[&[], &[]], &[lent]);
@@ -115,13 +116,13 @@ mod tests {
 
     #[test]
     fn rows_and_entries_are_in_groups() {
-        let case = Case::new(SCAN, &[0, 0], &[&[], &[2]], &[24, 8]);
-        let rows = (0..16).map(|i| if i == 8 { word_pattern(8) } else { i }).collect();
+        let case = Case::new(SCAN, &[0, 0], &[&[], &[2]], &[3 * WORDS_PER_ROW, 8]);
+        let rows = (0..18).map(|i| if i == 9 { word_pattern(9) } else { i }).collect();
         let answer = Answer { number: 9, out: vec![2, 6, 4], lists: vec![rows, vec![0, 15, 2, 1, 0, 15, 5, 1]] };
-        let due = "; rows 0 1 2 3 4 5 6 7 @9 9 10 11 12 13 14 15; entries 0 15 2 1 | 0 15 5 1\n";
+        let due = "; rows 0 1 2 3 4 5 6 7 8 @10 10 11 12 13 14 15 16 17; entries 0 15 2 1 | 0 15 5 1\n";
         assert_eq!(line("x", &case, &answer, true), format!("Rust  x: answers 9, out 2 6 4{due}"));
-        let rows: Vec<u64> = (0..9).collect();
-        assert_eq!(shown(Cell::Row, &rows), " 0 1 2 3 4 5 6 7 | 8");
+        let rows: Vec<u64> = (0..10).collect();
+        assert_eq!(shown(Cell::Row, &rows), " 0 1 2 3 4 5 6 7 8 | 9");
     }
 
     #[test]

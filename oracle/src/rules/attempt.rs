@@ -10,6 +10,8 @@ pub struct Found {
     pub kinds: Vec<u64>,
     pub suited: usize,
     pub consumed: u64,
+    /// Whether a number of its header was padded.
+    pub padded: bool,
 }
 
 pub struct Attempt {
@@ -36,43 +38,59 @@ pub fn attempt(limits: &Limits, region: &[u8], hints: &[u8], o: usize) -> Attemp
 
 /// An attempt at the first of so many bytes, of which all that it reads are given.
 pub fn attempt_on(limits: &Limits, front: &[u8], length: usize, hints: &[u8]) -> Attempt {
-    let (header, width) = match read(limits, front, 0) {
-        Varint::Whole { value, width } => (value, width),
+    let own = match read(limits, front, 0) {
+        Varint::Whole(own) => own,
         Varint::Cut(read) => return miss(read),
     };
+    let header = own.value;
     let passed = header >= limits.least_header && header <= limits.most_header && header <= length as u64;
     if !passed {
-        return miss(width);
+        return miss(own.width);
     }
-    match kinds(limits, front, width, header, usize::MAX) {
-        Ok((kinds, at)) => Attempt { read: at as u64, found: judge(length, limits.consumed, hints, header, kinds) },
-        Err(read) => miss(read),
-    }
+    let types = match types(limits, front, own.width, header, usize::MAX) {
+        Ok(types) => types,
+        Err(read) => return miss(read),
+    };
+    let read = types.end as u64;
+    let padded = (limits.marks.header)(own.padded, types.padded);
+    let found = judge(length, limits.consumed, hints, header, types);
+    Attempt { read, found: found.map(|found| Found { padded, ..found }) }
 }
 
-/// The types from a place on until one ends at `until` or behind it, or there are `most` of them, and where the last one
-/// ends; or how many bytes there are where one runs off.
-pub fn kinds(limits: &Limits, part: &[u8], from: usize, until: u64, most: usize) -> Result<(Vec<u64>, usize), usize> {
-    let mut kinds = Vec::new();
-    let mut at = from;
-    while (at as u64) < until && kinds.len() < most {
-        match read(limits, part, at) {
-            Varint::Whole { value, width } => {
-                kinds.push(value);
-                at += width;
+/// Types that were read, where the last of them ends, and whether one was padded.
+pub struct Types {
+    pub kinds: Vec<u64>,
+    pub end: usize,
+    pub padded: bool,
+}
+
+/// The types from a place on until one ends at `until` or behind it, or there are `most` of them; or how many bytes there are
+/// where one runs off.
+pub fn types(limits: &Limits, part: &[u8], from: usize, until: u64, most: usize) -> Result<Types, usize> {
+    let mut types = Types { kinds: Vec::new(), end: from, padded: false };
+    while (types.end as u64) < until && types.kinds.len() < most {
+        match read(limits, part, types.end) {
+            Varint::Whole(kind) => {
+                types.kinds.push(kind.value);
+                types.end += kind.width;
+                types.padded = (limits.marks.types)(types.padded, kind.padded);
             }
-            Varint::Cut(more) => return Err(at + more),
+            Varint::Cut(more) => return Err(types.end + more),
         }
     }
-    Ok((kinds, at))
+    if limits.marks.unread && types.kinds.len() == most {
+        types.padded |= self::types(limits, part, types.end, until, usize::MAX).is_ok_and(|rest| rest.padded);
+    }
+    Ok(types)
 }
 
 fn miss(read: usize) -> Attempt {
     Attempt { read: read as u64, found: None }
 }
 
-/// Whether the types make a row in so many bytes, of which it may take so many at most.
-pub fn judge(length: usize, most: u64, hints: &[u8], header: u64, kinds: Vec<u64>) -> Option<Found> {
+/// Whether the types make a row in so many bytes, of which it may take so many at most. Its mark is theirs.
+pub fn judge(length: usize, most: u64, hints: &[u8], header: u64, types: Types) -> Option<Found> {
+    let Types { kinds, padded, .. } = types;
     if kinds.len() != hints.len() {
         return None;
     }
@@ -82,7 +100,7 @@ pub fn judge(length: usize, most: u64, hints: &[u8], header: u64, kinds: Vec<u64
         end += u128::from(body_length(kind)?);
     }
     let fits = suited > 0 && end <= length as u128 && end <= u128::from(most);
-    fits.then_some(Found { header, kinds, suited, consumed: end as u64 })
+    fits.then_some(Found { header, kinds, suited, consumed: end as u64, padded })
 }
 
 /// What a scan comes to.

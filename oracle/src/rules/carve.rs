@@ -1,6 +1,6 @@
 //! The three modes in which a freed block is read: with its header, with its types alone, and with its first column lost.
 
-use crate::rules::attempt::kinds;
+use crate::rules::attempt::{types, Types};
 use crate::rules::limits::Limits;
 use crate::rules::value::decode;
 use crate::rules::varint::whole;
@@ -15,6 +15,7 @@ pub struct Carved {
     pub confidence: f32,
     pub consumed: usize,
     pub entries: Vec<u64>,
+    pub padded: bool,
 }
 
 /// Rows with their headers while there are any; where there is none at all, those of the other modes.
@@ -37,29 +38,31 @@ pub fn rows(limits: &Limits, block: &[u8], columns: usize) -> Vec<Carved> {
 
 fn normal(limits: &Limits, block: &[u8], at: usize, columns: usize) -> Option<Carved> {
     let part = &block[at..];
-    let (header, width) = whole(limits, part, 0)?;
-    if header < width as u64 || header > part.len() as u64 {
+    let own = whole(limits, part, 0)?;
+    let header = own.value;
+    if header < own.width as u64 || header > part.len() as u64 {
         return None;
     }
-    let (kinds, _) = kinds(limits, part, width, header, columns).ok()?;
-    let (entries, end) = bodies(block, at + header as usize, &kinds);
-    row(limits, NORMAL, at, kinds, entries, end)
+    let mut types = types(limits, part, own.width, header, columns).ok()?;
+    types.padded = (limits.marks.header)(own.padded, types.padded);
+    let (entries, end) = bodies(block, at + header as usize, &types.kinds);
+    row(limits, NORMAL, at, &types, entries, end)
 }
 
 /// Types without a header length, from a place on, and bodies behind the last of them.
 fn bare(limits: &Limits, block: &[u8], mode: u64, from: usize, most: usize) -> Option<Carved> {
-    let (kinds, first_body) = kinds(limits, block, from, block.len() as u64, most).ok()?;
-    let (mut entries, end) = bodies(block, first_body, &kinds);
+    let types = types(limits, block, from, block.len() as u64, most).ok()?;
+    let (mut entries, end) = bodies(block, types.end, &types.kinds);
     if mode == FIRST_COLUMN_MISSING {
         entries.splice(0..0, [2, 0, 0, 0]);
     }
-    row(limits, mode, 0, kinds, entries, end)
+    row(limits, mode, 0, &types, entries, end)
 }
 
 /// A row needs a type at least.
-fn row(limits: &Limits, mode: u64, at: usize, kinds: Vec<u64>, entries: Vec<u64>, end: usize) -> Option<Carved> {
-    let confidence = limits.modes[mode as usize - 1];
-    (!kinds.is_empty()).then_some(Carved { at, mode, confidence, consumed: end - at, entries })
+fn row(limits: &Limits, mode: u64, at: usize, types: &Types, entries: Vec<u64>, end: usize) -> Option<Carved> {
+    let (confidence, padded) = (limits.modes[mode as usize - 1], types.padded);
+    (!types.kinds.is_empty()).then_some(Carved { at, mode, confidence, consumed: end - at, entries, padded })
 }
 
 /// The entries of bodies one behind the other, and where the last ends. One that does not fit moves nothing.

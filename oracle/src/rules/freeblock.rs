@@ -16,5 +16,6 @@ fn row(limits: &Limits, page: &[u8], block: &Block, hints: &[u8]) -> Option<(usi
     let payload = page[..block.start + block.size].get(block.start + LINK..)?;
     let starts = 0..payload.len().min(limits.starts);
     let place = |v: usize| block.start + LINK + v;
-    starts.into_iter().find_map(|v| Some((place(v), attempt(limits, payload, hints, v).found?)))
+    let (at, found) = starts.into_iter().find_map(|v| Some((place(v), attempt(limits, payload, hints, v).found?)))?;
+    Some((at, Found { padded: found.padded && limits.marks.freed, ..found }))
 }

@@ -1,6 +1,6 @@
 //! Rows out of a page's gap and of the cells in its free blocks.
 
-use crate::rules::attempt::{attempt, attempt_on, judge, kinds, scan, Found};
+use crate::rules::attempt::{attempt, attempt_on, judge, scan, types, Found};
 use crate::rules::limits::{Limits, EXACT};
 use crate::rules::page::number;
 use crate::rules::varint::{whole, written};
@@ -110,8 +110,11 @@ pub fn block_rows(limits: &Limits, payload: &[u8], sought: Sought) -> Vec<Carved
     });
     let cells: HashSet<usize> = rows.iter().map(|row| row.at).collect();
     for at in (0..payload.len()).filter(|at| !cells.contains(at)) {
-        let found = rebuilt(limits, &payload[at..], sought.hints);
-        rows.extend(found.map(|found| Carved { at, origin: Origin::Rebuilt, found }));
+        let Some(mut found) = rebuilt(limits, &payload[at..], sought.hints) else {
+            continue;
+        };
+        found.padded |= limits.marks.made_up;
+        rows.push(Carved { at, origin: Origin::Rebuilt, found });
     }
     rows
 }
@@ -121,6 +124,8 @@ pub struct Cell {
     pub length: u64,
     pub id: u64,
     pub start: usize,
+    /// Whether it marks its row.
+    pub padded: bool,
 }
 
 /// Hands over each cell that is looked at, and its row if it has one. A row's payload is stepped over.
@@ -140,32 +145,38 @@ pub fn each_cell(limits: &Limits, payload: &[u8], hints: &[u8], mut with: impl F
 }
 
 fn cell(limits: &Limits, payload: &[u8], at: usize) -> Option<Cell> {
-    let (length, width) = whole(limits, payload, at)?;
-    let (id, id_width) = whole(limits, payload, at + width)?;
-    (length > 0).then_some(Cell { length, id, start: at + width + id_width })
+    let length = whole(limits, payload, at)?;
+    let id = whole(limits, payload, at + length.width)?;
+    let padded = limits.marks.payload_length && length.padded || limits.marks.row_id && id.padded;
+    let start = at + length.width + id.width;
+    (length.value > 0).then_some(Cell { length: length.value, id: id.value, start, padded })
 }
 
 /// The row of just a cell's bytes. Its length is compared with what is left: the sum of both may pass the largest number.
 fn row_of(limits: &Limits, payload: &[u8], cell: &Cell, hints: &[u8]) -> Option<Found> {
     let rest = &payload[cell.start..];
     let own = (cell.length <= rest.len() as u64).then(|| &rest[..cell.length as usize])?;
-    attempt(limits, own, hints, 0).found
+    let found = attempt(limits, own, hints, 0).found?;
+    Some(Found { padded: found.padded || cell.padded, ..found })
 }
 
 /// An attempt on a made-up byte and these: the byte says that it and as many more as there are columns are the header.
 /// Places here count without that byte.
 fn one_byte(limits: &Limits, part: &[u8], hints: &[u8]) -> Option<Found> {
     let header = hints.len() as u64;
-    let (kinds, _) = kinds(limits, part, 0, header, usize::MAX).ok()?;
-    judge(part.len(), limits.rebuilt_consumed, hints, header, kinds)
+    let types = types(limits, part, 0, header, usize::MAX).ok()?;
+    judge(part.len(), limits.rebuilt_consumed, hints, header, types)
 }
 
 /// An attempt on a made-up length and these, of which as many types as there are columns are the rest of the header. Places here
-/// count without that length's own bytes.
+/// count without that length's own bytes, and the mark is that of the types alone.
 fn exact(limits: &Limits, part: &[u8], hints: &[u8]) -> Option<Found> {
     let mut types = 0;
+    let mut padded = false;
     for _ in hints {
-        types += whole(limits, part, types)?.1;
+        let kind = whole(limits, part, types)?;
+        types += kind.width;
+        padded = (limits.marks.types)(padded, kind.padded);
         if types > limits.type_bytes {
             return None;
         }
@@ -174,5 +185,5 @@ fn exact(limits: &Limits, part: &[u8], hints: &[u8]) -> Option<Found> {
     let front = [&own, &part[..types]].concat();
     let found = attempt_on(limits, &front, own.len() + part.len(), hints).found?;
     let behind = |place: u64| place - own.len() as u64;
-    Some(Found { header: behind(found.header), consumed: behind(found.consumed), ..found })
+    Some(Found { header: behind(found.header), consumed: behind(found.consumed), padded, ..found })
 }

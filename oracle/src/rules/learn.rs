@@ -1,6 +1,6 @@
 //! Types learned from rows, and rows carved by them.
 
-use crate::rules::attempt::kinds;
+use crate::rules::attempt::types;
 use crate::rules::limits::Limits;
 use crate::rules::value::{body_length, read_entry, Value, BLOB, INTEGER, REAL, TEXT};
 use crate::rules::varint::whole;
@@ -12,8 +12,8 @@ const UNUSED: u64 = 3;
 pub fn row(group: &[u64], bytes: &[u8]) -> Option<Vec<Value>> {
     let entries: Vec<[u64; 4]> = group.chunks_exact(4).map(|e| [e[0], e[1], e[2], e[3]]).collect();
     let used = entries.iter().take_while(|e| e[0] != UNUSED).count();
-    let padded = entries[used..].iter().all(|e| e[0] == UNUSED);
-    entries[..used].iter().map(|&e| read_entry(e, bytes)).collect::<Option<_>>().filter(|_| padded)
+    let unused = entries[used..].iter().all(|e| e[0] == UNUSED);
+    entries[..used].iter().map(|&e| read_entry(e, bytes)).collect::<Option<_>>().filter(|_| unused)
 }
 
 /// The type that a value counts as, whatever type it was stored with.
@@ -64,34 +64,37 @@ pub struct Carved {
     pub percent: u64,
     pub consumed: usize,
     pub entries: Vec<u64>,
+    pub padded: bool,
 }
 
-pub fn rows(limits: &Limits, region: &[u8], types: &[u64]) -> Vec<Carved> {
+pub fn rows(limits: &Limits, region: &[u8], learned: &[u64]) -> Vec<Carved> {
     let mut rows = Vec::new();
     let mut at = 0;
-    while at + limits.before_types + types.len() <= region.len() {
-        let found = attempt(limits, region, types, at);
+    while at + limits.before_types + learned.len() <= region.len() {
+        let found = attempt(limits, region, learned, at);
         at += found.as_ref().map_or(1, |row| row.consumed);
         rows.extend(found);
     }
     rows
 }
 
-fn attempt(limits: &Limits, region: &[u8], types: &[u64], at: usize) -> Option<Carved> {
+fn attempt(limits: &Limits, region: &[u8], learned: &[u64], at: usize) -> Option<Carved> {
     let part = &region[at..];
-    let (header, width) = whole(limits, part, 0)?;
-    if header < width as u64 || header > part.len() as u64 || header > limits.most_header {
+    let own = whole(limits, part, 0)?;
+    let header = own.value;
+    if header < own.width as u64 || header > part.len() as u64 || header > limits.most_header {
         return None;
     }
-    let (kinds, _) = kinds(limits, part, width, header, types.len()).ok()?;
-    let matched = kinds.iter().zip(types).filter(|(kind, learned)| matches(**kind, **learned)).count();
+    let types = types(limits, part, own.width, header, learned.len()).ok()?;
+    let padded = (limits.marks.header)(own.padded, types.padded);
+    let matched = types.kinds.iter().zip(learned).filter(|(kind, learned)| matches(**kind, **learned)).count();
     let mut end = at + header as usize;
     let mut entries = Vec::new();
-    for kind in kinds {
+    for kind in types.kinds {
         let length = body_length(kind).filter(|&length| length <= (region.len() - end) as u64)?;
         entries.extend([0, kind, end as u64, length]);
         end += length as usize;
     }
-    let percent = (limits.matched)(matched, types.len());
-    (matched > 0).then_some(Carved { at, percent, consumed: end - at, entries })
+    let percent = (limits.matched)(matched, learned.len());
+    (matched > 0).then_some(Carved { at, percent, consumed: end - at, entries, padded })
 }

@@ -1,5 +1,7 @@
 //! The numbers of the rules. They stand in a value so that the oracle's own test can change one.
 
+use crate::rules::varint::written;
+
 #[derive(Clone, Debug)]
 pub struct Limits {
     pub columns: usize,
@@ -58,13 +60,35 @@ pub struct Limits {
     pub matched: fn(usize, usize) -> u64,
     /// How many bytes a learned attempt needs before those of its types.
     pub before_types: usize,
+    pub marks: Marks,
+}
+
+/// Which padded numbers mark a row.
+#[derive(Clone, Debug)]
+pub struct Marks {
+    /// Whether a number that was read from so many bytes is padded: there are fewer that have its value.
+    pub padded: fn(u64, usize) -> bool,
+    /// The mark of a header, out of that of its length and that of its types.
+    pub header: fn(bool, bool) -> bool,
+    /// The mark of types, out of that of those before the last and that of the last.
+    pub types: fn(bool, bool) -> bool,
+    /// Whether rows of freed blocks have their mark.
+    pub freed: bool,
+    /// Whether what stands before a cell's record counts.
+    pub payload_length: bool,
+    pub row_id: bool,
+    /// Whether types count that are in the header and are not read, and a length that is made up.
+    pub unread: bool,
+    pub made_up: bool,
 }
 
 /// The codes of the ways in which headers are rebuilt.
 pub const ONE_BYTE: u64 = 1;
 pub const EXACT: u64 = 2;
 
-pub const WORDS_PER_ROW: usize = 8;
+/// Nothing else knows these numbers. The last word of a row is not in the Rust.
+pub const WORDS_PER_ROW: usize = 9;
+pub const WORDS_IN_THE_RUST: usize = WORDS_PER_ROW - 1;
 pub const WORDS_PER_ENTRY: usize = 4;
 
 impl Limits {
@@ -107,6 +131,16 @@ impl Limits {
             tie: u64::min,
             matched: |matched, columns| (matched * 100 / columns) as u64,
             before_types: 1,
+            marks: Marks {
+                padded: |value, width| width > 1 && written(value).len() < width,
+                header: |length, types| length || types,
+                types: |before, last| before || last,
+                freed: true,
+                payload_length: false,
+                row_id: false,
+                unread: false,
+                made_up: false,
+            },
         }
     }
 

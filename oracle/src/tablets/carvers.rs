@@ -1,5 +1,6 @@
 //! The calls that look for rows, on real pages.
 
+use super::padding::{cells, Cell};
 use super::rows::{of_answer, Lent, Row};
 use super::{Leaf, Way};
 use crate::calls::scan::entries;
@@ -13,7 +14,6 @@ use crate::random::Random;
 use crate::rules::attempt::attempt;
 use crate::rules::limits::{Limits, EXACT, ONE_BYTE, WORDS_PER_ENTRY, WORDS_PER_ROW};
 use crate::rules::page::{chain, number};
-use crate::rules::varint::whole;
 use crate::runner::{Runner, Sink};
 
 /// Of the one table; page 1 holds the schema.
@@ -32,7 +32,7 @@ pub struct File<'a> {
 }
 
 impl File<'_> {
-    fn leaves(&self) -> impl Iterator<Item = &Leaf<'_>> {
+    pub fn leaves(&self) -> impl Iterator<Item = &Leaf<'_>> {
         self.pages.iter().filter(|page| page.bytes[page.header] == LEAF)
     }
 }
@@ -223,17 +223,12 @@ pub fn learn(runner: &mut Runner, lent: &Lent, file: &File) -> Vec<u64> {
 
 /// The entries of the rows that a leaf's cell pointers lead to, in the database.
 fn live(lent: &Lent, page: &Leaf) -> Vec<u64> {
-    let limits = &Limits::of_the_rules();
-    let cells = number(page.bytes, page.header + 3, 2).unwrap_or(0);
-    let row = |i: usize| {
-        let at = number(page.bytes, page.header + limits.leaf_header + 2 * i, 2)?;
-        let (length, width) = whole(limits, page.bytes, at)?;
-        let (_, id_width) = whole(limits, page.bytes, at + width)?;
-        let start = at + width + id_width;
-        let payload = page.bytes.get(start..start + length as usize)?;
-        Some(entries((page.at + start) as u64, &attempt(limits, payload, &lent.hints, 0).found?))
+    let row = |cell: Cell| {
+        let payload = &page.bytes[cell.record..cell.end];
+        let found = attempt(&Limits::of_the_rules(), payload, &lent.hints, 0).found?;
+        Some(entries((page.at + cell.record) as u64, &found))
     };
-    (0..cells).filter_map(row).flatten().collect()
+    cells(page).filter_map(row).flatten().collect()
 }
 
 /// What learned types find on each page; nothing where nothing was learned.

@@ -5,6 +5,7 @@ use crate::calls::{ATTEMPT, SCAN};
 use crate::case::Case;
 use crate::cases::blocks::block;
 use crate::cases::regions::{attempt, lists, scan};
+use crate::rules::limits::{WORDS_PER_ENTRY, WORDS_PER_ROW};
 use crate::runner::Sink;
 
 /// An Integer and a Text, and a row of both.
@@ -157,13 +158,15 @@ fn starts(sink: &mut dyn Sink) {
 /// Three rows, and lists that take as many, that are a cell or a row short, and longer.
 fn rooms(sink: &mut dyn Sink) {
     let region = [ROW; 3].concat();
-    for size in [0, 7, 8, 16, 23, 24, 25] {
-        for room in [[size, 32], [32, size], [size, size]] {
+    let (row, group) = (WORDS_PER_ROW, WORDS_PER_ENTRY * HINTS.len());
+    let sizes = |one: usize| [0, one - 1, one, 2 * one, 3 * one - 1, 3 * one, 3 * one + 1];
+    for (r, c) in sizes(row).into_iter().zip(sizes(group)) {
+        for room in [[r, 4 * group], [4 * row, c], [r, c]] {
             sink.put(Case::new(SCAN, &[0, 0], &[&region, &HINTS], &room));
         }
     }
     // One attempt, where there is a row and where none asks for room.
-    for room in [[0, 0], [7, 8], [8, 7], [8, 8]] {
+    for room in [[0, 0], [row - 1, group], [row, group - 1], [row, group]] {
         for offset in [0, 1] {
             sink.put(Case::new(ATTEMPT, &[0, offset], &[&region, &HINTS], &room));
         }

@@ -3,6 +3,7 @@
 use super::making::*;
 use super::tablet::{one_leaf, tablet, SIZE};
 use super::Worked;
+use crate::rules::limits::WORDS_PER_ROW;
 
 pub fn all() -> Vec<Worked> {
     [one_byte(), pages(), exact(), padded(), long_rows(), counts(), codes()].into_iter().flatten().collect()
@@ -93,7 +94,7 @@ fn long_rows() -> Vec<Worked> {
 
 /// So many columns, and as many zeros, each the type of a NULL.
 fn nulls(name: &str, code: u64, columns: usize) -> Worked {
-    with_lists(block(name, code, times(0, columns), 0, times(ANY, columns), 1), &[8, 2044])
+    with_lists(block(name, code, times(0, columns), 0, times(ANY, columns), 1), &[WORDS_PER_ROW, 2044])
 }
 
 fn counts() -> Vec<Worked> {

@@ -1,14 +1,16 @@
 //! Section 5, 5.1 to 5.3: rows and columns as words, and room.
 
 use super::making::*;
+use super::padding;
 use super::tablet::{one_leaf, SIZE};
 use super::Worked;
+use crate::rules::limits::WORDS_PER_ROW;
 
 /// Three rows of two columns.
 const THREE: &str = "03 08 09 03 09 08 03 08 08";
 
 pub fn all() -> Vec<Worked> {
-    [sources(), tables_of_rows(), groups(), rooms()].into_iter().flatten().collect()
+    [sources(), tables_of_rows(), padding::rows(), groups(), rooms()].into_iter().flatten().collect()
 }
 
 fn sources() -> Vec<Worked> {
@@ -43,7 +45,7 @@ fn tables_of_rows() -> Vec<Worked> {
     let space = Space { flags: 1, stack: 1, rows: 2 };
     let two = tables(&[1, 1], &[1, 1], "0000");
     vec![
-        heading("5.1 The table's index, four times, in the last word"),
+        heading("5.1 The table's index, four times, in the word of the mode"),
         recover("tables 0 and 1", one_leaf("0208"), SIZE, &two, space),
         recover("table 1023, the last of 1024", one_leaf("0208"), SIZE, &last_of(1024), space),
     ]
@@ -72,11 +74,11 @@ fn rooms() -> Vec<Worked> {
         with_lists(scan(name, THREE, "0000", 0, 0, 0), &[rows, entries])
     };
     vec![
-        heading("5.3 Room: whole rows of 8 cells, and whole groups, here of 8 cells"),
-        lent(16, 16, 2),
-        lent(15, 16, 1),
-        lent(16, 15, 1),
-        lent(24, 16, 2),
-        lent(16, 24, 2),
+        heading(&format!("5.3 Room: whole rows of {WORDS_PER_ROW} cells, and whole groups, here of 8 cells")),
+        lent(2 * WORDS_PER_ROW, 16, 2),
+        lent(2 * WORDS_PER_ROW - 1, 16, 1),
+        lent(2 * WORDS_PER_ROW, 15, 1),
+        lent(3 * WORDS_PER_ROW, 16, 2),
+        lent(2 * WORDS_PER_ROW, 24, 2),
     ]
 }

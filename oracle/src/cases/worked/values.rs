@@ -1,15 +1,16 @@
 //! Section 2: varints and values.
 
 use super::making::*;
+use super::padding;
 use super::Worked;
 
 pub fn all() -> Vec<Worked> {
-    [varints(), lengths(), integers(), values(), places()].into_iter().flatten().collect()
+    [varints(), lengths(), integers(), values(), places(), padding::varints()].into_iter().flatten().collect()
 }
 
 fn varints() -> Vec<Worked> {
     vec![
-        heading("2.1, 2.2 Varints: there is one, its value, its bytes"),
+        heading("2.1, 2.2 Varints: there is one, its value, its bytes, whether it was padded"),
         varint("127, the largest of one byte", "7f", 0),
         varint("128, the smallest that needs two", "8100", 0),
         varint("5 in two bytes", "8005", 0),

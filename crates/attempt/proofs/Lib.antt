@@ -3,6 +3,7 @@ mod Bodies
 pub mod Fuel
 pub mod Judging
 pub mod Laws
+pub mod Marks
 pub mod ReadBack
 pub mod Shifts
 pub mod Skipping

@@ -3,6 +3,7 @@ pub mod Carving
 mod Cases
 pub mod Entries
 pub mod Fuel
+pub mod Marks
 pub mod ReadBack
 pub mod Reading
 mod Running

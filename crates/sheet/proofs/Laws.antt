@@ -9,7 +9,8 @@ use native.Mathlib.Numerals.{add-one}
 use native.Mathlib.Omega.{arith}
 use borrow.Author.Tests.{leb-true, ltb-false, not-false, ne-eqb, le-leb, lt-leb, le-ltb, lt-ltb}
 use lib.Dec.{leb, eqb, lit≤}
-use lib.ListN.{length, drop, set, getD, length-append, length-drop}
+use lib.Ieee.{Float}
+use lib.ListN.{length, take, drop, set, getD, length-append, length-drop}
 use lib.Seq.{sets, sets-eq, take-append-seam, drop-append-add, drop-cons, drop-drop}
 use Rattle.record.proofs.Numbers.{by-order}
 use Rattle.record.specs.Entry.{badNumber}
@@ -28,7 +29,10 @@ use Rattle.sheet.specs.declared.refusal.Checked.{Checked}
 use Rattle.sheet.specs.declared.refusal.Checked.the-variants.{Passed, Refused}
 use Rattle.sheet.specs.declared.refusal.Refusal.{Refusal}
 use Rattle.sheet.specs.declared.refusal.Refusal.the-variants.{ColumnCount, Malformed, TooLarge, BaseTooFar, PageSize, NoSuchPage, NoColumnList, WalkSpace, NoRoom}
+use Rattle.sheet.specs.declared.row.Mode.{Mode}
 use Rattle.sheet.specs.declared.row.Row.{Row}
+use Rattle.sheet.specs.declared.row.RowId.{RowId}
+use Rattle.sheet.specs.declared.row.Source.{Source}
 
 -- of two tests that do not hold together, neither does
 pub neither : (a b : Bool) → (a || b) ≡ false → (a ≡ false) × (b ≡ false)
@@ -113,6 +117,14 @@ row-words-length r = refl
 pub row-words-offset : (r : Row) → rowWords r ≡ r .offset ∷ drop 1 (rowWords r)
 unfolding rowWords
 row-words-offset r = refl
+
+-- THE LAW: the mark is the ninth word, and no other
+pub row-words-mark : (offset consumed : ℕ) (id : RowId) (source : Source) (confidence : Float) (mode : Mode) (table : ℕ) (p q : Bool) →
+    let row : Bool → Row =
+    λ m. record { offset = offset; consumed = consumed; id = id; source = source; confidence = confidence; mode = mode; table = table; padded = m } in
+    (take 8 (rowWords (row p)) ≡ take 8 (rowWords (row q))) × (drop 8 (rowWords (row p)) ≡ cond p 1 0 ∷ [])
+unfolding rowWords
+row-words-mark offset consumed id source confidence mode table p q = (refl, refl)
 
 pub column-words-length : (c : Column) → length (columnWords c) ≡ wordsPerEntry
 unfolding columnWords

@@ -81,7 +81,7 @@ pub data Tried : Type 0 where
   miss : Tried
   hit : Found → Tried
 
--- Rule 4.6: a row takes at most 65,536 bytes, from its offset to the end of its last body
+-- Rule 4.6: a row takes at most 65,536 bytes, from its offset to the end of its last body; p is its header's mark, which decides nothing
 abbrev pub sized : ℕ → ℕ → Bool → Bodies → Tried
 sized o n p unfit = miss
 sized o n p (laid cs end) =

@@ -31,7 +31,7 @@ firstColMissing = record { source = Freelist; confidence = ofBits binary32 0x3e9
 
 -- ---- one row
 
--- a row has one type at the least
+-- a row has one type at the least; p is its header's mark, which decides nothing
 abbrev pub rowOf : Style → ℕ → ℕ → Bool → List ℕ → Tried
 rowOf style o start p [] = miss
 rowOf style o start p (t ∷ ts) = hit (record { style = style; at = o; start = start; types = t ∷ ts; padded = p })

@@ -68,7 +68,7 @@ allThere [] = true
 allThere (c ∷ cs) = isThere c && allThere cs
 
 -- Rule 14.3: of types in a header of h bytes at o, one matches, so there is one at the least, and every body fits; the bodies start at
--- the header's end
+-- the header's end, and p is its mark, which decides nothing
 unfoldable pub judged : List ℕ → List ℕ → ℕ → ℕ → Bool → List ℕ → Tried
 judged s ls o h p ts =
     cond (ltb 0 (matched ls ts) && allThere (columnsFrom (length s) (o + h) ts))

@@ -194,8 +194,8 @@ pub fn judge(
     padded: bool,
 ) -> Verdict
     requires { ⌜ Headed (now bytes) o head (from .at) ⌝ }
-    requires { ⌜ WholeIs (now bytes) (now hints) (headerTypes (now bytes) o head (from .at)) (headerPadded head (now bytes) from (o + head))
-        (length (now hints)) matched total end padded ⌝ }
+    requires { ⌜ WholeIs (now bytes) (now hints) (headerTypes (now bytes) o head (from .at))
+        (headerPadded head (now bytes) from (o + head)) (length (now hints)) matched total end padded ⌝ }
     ensures { λ r. ⌜ Judged (now (bytes .entry)) (now (hints .entry)) o head from r ⌝ }
 {
     let read = end - o;

@@ -1,7 +1,7 @@
 mod Attempting
 mod Cases
 pub mod Fuel
-mod Marks
+pub mod Marks
 pub mod Matching
 pub mod ReadBack
 mod Reading

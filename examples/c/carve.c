@@ -14,9 +14,10 @@
  *
  * A row is printed if its confidence is at least 0.85, it is not all NULL, and it stands where a cell can: behind its length and
  * its row id, or behind the link that overwrote these. Such links are left in freed blocks, also in joined ones, and in the gap of
- * a page from whose end rows were deleted. -a prints the rest, of which most are none. -w scans whole pages instead of their free
- * space: that is the call for a table that was cleared, and it lists rows that are not deleted, too. The free space may hold old
- * copies of such rows as well, where SQLite moved them.
+ * a page from whose end rows were deleted. -a prints the rest, of which most are none. A padded row has a number in its header that
+ * takes more bytes than it needs: SQLite writes none so. -w scans whole pages instead of their free space: that is the call for a
+ * table that was cleared, and it lists rows that are not deleted, too. The free space may hold old copies of such rows as well,
+ * where SQLite moved them.
  *
  * wrapper/examples/carve prints the same, to the byte.
  */
@@ -206,7 +207,8 @@ static uint64_t print_row(const struct job *job, const uint64_t *row, const uint
     uint64_t refusal = PHS_OK;
     int64_t id;
 
-    printf("%" PRIu64 " %" PRIu64 " %.3f ", job->base / job->size + 1, row[PHS_ROW_OFFSET], confidence(row));
+    printf("%" PRIu64 " %" PRIu64 " %.3f %s ", job->base / job->size + 1, row[PHS_ROW_OFFSET], confidence(row),
+           row[PHS_ROW_PADDED] ? "yes" : "no");
     memcpy(&id, &row[PHS_ROW_ID], sizeof id);
     if (row[PHS_ROW_HAS_ID])
         printf("%" PRId64, id);
@@ -600,7 +602,7 @@ static int carve_file(struct job *job)
         return no_file(job);
     if (!find_page_size(job))
         return 1;
-    printf("page offset confidence id values\n");
+    printf("page offset confidence padded id values\n");
     do {
         read_page(job, job->size);
         if (ferror(job->file))

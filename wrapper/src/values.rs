@@ -71,6 +71,7 @@ impl<'a> Value<'a> {
 
 /// A varint that was read.
 #[derive(Clone, Copy, Debug, PartialEq, Eq, Hash)]
+#[non_exhaustive]
 pub struct Varint {
     /// Its value.
     pub value: u64,

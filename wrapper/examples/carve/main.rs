@@ -8,9 +8,10 @@
 //!
 //! A row is printed if its confidence is at least 0.85, it is not all NULL, and it stands where a cell can: behind its length and
 //! its row id, or behind the link that overwrote these. Such links are left in freed blocks, also in joined ones, and in the gap of
-//! a page from whose end rows were deleted. -a prints the rest, of which most are none. -w scans whole pages instead of their free
-//! space: that is the call for a table that was cleared, and it lists rows that are not deleted, too. The free space may hold old
-//! copies of such rows as well, where SQLite moved them.
+//! a page from whose end rows were deleted. -a prints the rest, of which most are none. A padded row has a number in its header that
+//! takes more bytes than it needs: SQLite writes none so. -w scans whole pages instead of their free space: that is the call for a
+//! table that was cleared, and it lists rows that are not deleted, too. The free space may hold old copies of such rows as well,
+//! where SQLite moved them.
 //!
 //! examples/c/carve.c at the repository's top prints the same, to the byte.
 
@@ -238,7 +239,7 @@ fn not_written(_: io::Error) -> String {
 impl Carving<'_> {
     fn new(job: &Job, size: usize) -> Result<Carving<'_>, String> {
         let mut out = BufWriter::new(io::stdout().lock());
-        writeln!(out, "page offset confidence id values").map_err(not_written)?;
+        writeln!(out, "page offset confidence padded id values").map_err(not_written)?;
         Ok(Carving {
             job,
             out,
@@ -384,10 +385,11 @@ impl Carving<'_> {
             .collect();
         writeln!(
             self.out,
-            "{} {} {:.3} {} {}",
+            "{} {} {:.3} {} {} {}",
             page.base / self.size as u64 + 1,
             row.offset,
             row.confidence,
+            if row.padded { "yes" } else { "no" },
             row.id.map_or("-".to_string(), |id| id.to_string()),
             values.join(" | ")
         )

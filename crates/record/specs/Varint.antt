@@ -46,7 +46,7 @@ taken at Short = Nothing
 unfoldable pub readVarint : List ℕ → ℕ → Read
 readVarint s at = taken at (varintAt s at)
 
--- ---- Rule 2.10, from the format: n bytes are the shortest form of v if no varint of fewer bytes, in any slice, has that value. A number is
--- marked just where this fails: `shortest-is` and `longer-is` (`proofs/Shortest.antt`).
+-- ---- Rule 2.10, from the format: n bytes are the shortest form of v if no varint of fewer bytes, in any slice, has that value. A number
+-- is marked just where this fails: `shortest-is` and `longer-is` (`proofs/Shortest.antt`).
 abbrev pub Shortest : ℕ → ℕ → Type 0
 Shortest v n = (s : List ℕ) (at : ℕ) (c : Cursor) → varintAt s at ≡ Value v c → n ≤ c .at - at

@@ -11,6 +11,7 @@ const OFFSET: usize = 0;
 const CONSUMED: usize = 1;
 const CONFIDENCE: usize = 6;
 const MODE: usize = 7;
+const PADDED: usize = 8;
 const FIRST_COLUMN_MISSING: u64 = 3;
 /// From this confidence on a row is kept, and in freed blocks, where it is times 0.6, from that on.
 const KEPT: f32 = 0.85;
@@ -41,6 +42,7 @@ pub struct Row {
     span: (u64, u64),
     /// How many values are not NULL.
     values: usize,
+    padded: bool,
 }
 
 #[derive(Clone, Copy, Debug, Default, PartialEq, Eq)]
@@ -58,6 +60,9 @@ pub struct Back {
     pub kept: Counts,
     /// Kept, and no piece of another row that is.
     pub apart: Counts,
+    /// Of all, and of those that are kept, the padded ones.
+    pub padded: Counts,
+    pub padded_kept: Counts,
 }
 
 impl Lent {
@@ -71,7 +76,14 @@ impl Back {
         let all = rows.map(|rows| Counts::of(lines, rows.iter()));
         let kept: Vec<&Row> = rows.unwrap_or_default().iter().filter(|row| row.is_kept(way)).collect();
         let apart = kept.iter().copied().filter(|row| !kept.iter().any(|other| row.is_piece_of(other)));
-        Back { all, kept: Counts::of(lines, kept.iter().copied()), apart: Counts::of(lines, apart) }
+        let padded = rows.unwrap_or_default().iter().filter(|row| row.padded);
+        Back {
+            all,
+            kept: Counts::of(lines, kept.iter().copied()),
+            apart: Counts::of(lines, apart),
+            padded: Counts::of(lines, padded),
+            padded_kept: Counts::of(lines, kept.iter().copied().filter(|row| row.padded)),
+        }
     }
 }
 
@@ -89,6 +101,12 @@ impl Counts {
             }
         }
         Counts { deleted: seen.len(), ..counts }
+    }
+
+    pub fn add(&mut self, other: Counts) {
+        self.deleted += other.deleted;
+        self.live += other.live;
+        self.none += other.none;
     }
 }
 
@@ -128,6 +146,7 @@ fn one(lent: &Lent, slice: &[u8], at: usize, row: &[u64], group: &[u64]) -> Row 
         mode: row[MODE] % 4,
         span: (row[OFFSET], row[OFFSET] + row[CONSUMED]),
         values: tags.iter().filter(|&&tag| tag != value::NULL).count(),
+        padded: row[PADDED] == 1,
     }
 }
 

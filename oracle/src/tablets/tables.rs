@@ -69,6 +69,7 @@ pub fn print(measured: &Measured) {
     print_values(measured);
     print_logs(measured);
     print_wide(measured);
+    print_padded(measured);
     print_behind_the_key(measured);
     print_losses(measured);
 }
@@ -159,6 +160,37 @@ fn print_wide(measured: &Measured) {
                 line(&[columns.to_string(), note.to_string(), page.to_string()], &cells);
             }
         }
+    }
+}
+
+/// What the mark tells: how many are padded of the table's rows, deleted or not, and of those that are none, over all databases.
+fn print_padded(measured: &Measured) {
+    println!("\nPadded rows\n");
+    println!("| By | The table's rows | Rows that are none | Those of them that are kept |");
+    println!("|{}", "---|".repeat(4));
+    let ways = [
+        (Way::Scan, "the scan"),
+        (Way::Offsets, "every offset"),
+        (Way::Freed, "freed blocks"),
+        (Way::OneByte, "free space, one byte"),
+        (Way::Exact, "free space, exact"),
+        (Way::Modes, "three modes"),
+        (Way::Learned, "learned types"),
+    ];
+    for (way, by) in ways {
+        let (mut padded, mut all, mut padded_kept, mut kept) = <(Counts, Counts, Counts, Counts)>::default();
+        let of_way = |of: &Of| of.way == way && WHOLE.contains(&of.list) && !of.kind.ends_with("frames");
+        for (_, back) in measured.back.iter().filter(|(of, _)| of_way(of)) {
+            padded.add(back.padded);
+            all.add(back.all.unwrap_or_default());
+            padded_kept.add(back.padded_kept);
+            kept.add(back.kept);
+        }
+        let share = |padded: usize, of: usize| format!("{padded} of {of}");
+        let table = share(padded.deleted + padded.live, all.deleted + all.live);
+        // Of the three modes none is kept for its confidence.
+        let kept = if way == Way::Modes { "-".into() } else { share(padded_kept.none, kept.none) };
+        line(&[by.into()], &[table, share(padded.none, all.none), kept]);
     }
 }
 

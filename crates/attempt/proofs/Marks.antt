@@ -19,30 +19,21 @@ marked q miss = miss
 marked q (hit x) = hit (record { consumed = x .consumed; matched = x .matched; columns = x .columns; padded = q })
 
 module _ (q : Bool) where
+  tested : (b : Bool) (t : Tried) {u : Tried} → marked q t ≡ u → marked q (cond b t miss) ≡ cond b u miss
+  tested true t e = e
+  tested false t e = refl
+
   sized-marked : (o n : ℕ) (p : Bool) (b : Bodies) → marked q (sized o n p b) ≡ sized o n q b
   sized-marked o n p unfit = refl
-  sized-marked o n p (laid cs end) = go (leb (end - o) mostBytes)
-    where
-      go : (b : Bool) → marked q (cond b (hit (record { consumed = end - o; matched = n; columns = cs; padded = p })) miss)
-          ≡ cond b (hit (record { consumed = end - o; matched = n; columns = cs; padded = q })) miss
-      go true = refl
-      go false = refl
+  sized-marked o n p (laid cs end) = tested (leb (end - o) mostBytes) _ refl
 
   judged-marked : (len : ℕ) (hints : List ℕ) (o h : ℕ) (p : Bool) (ts : List ℕ) → marked q (judged len hints o h p ts) ≡ judged len hints o h q ts
   unfolding judged
-  judged-marked len hints o h p ts = go (eqb (length ts) (length hints) && ltb 0 (suited hints ts))
-    where
-      go : (b : Bool) → marked q (cond b (sized o (suited hints ts) p (bodiesFrom len (o + h) ts)) miss)
-          ≡ cond b (sized o (suited hints ts) q (bodiesFrom len (o + h) ts)) miss
-      go true = sized-marked o (suited hints ts) p (bodiesFrom len (o + h) ts)
-      go false = refl
+  judged-marked len hints o h p ts =
+      tested (eqb (length ts) (length hints) && ltb 0 (suited hints ts)) _ (sized-marked o (suited hints ts) p (bodiesFrom len (o + h) ts))
 
-  pub whole-marked : (len : ℕ) (hints : List ℕ) (o h : ℕ) (p : Bool) (ts : Types) → marked q (judgedWhole len hints o h p ts) ≡ judgedWhole len hints o h q ts
-  whole-marked len hints o h p ts = go (isWhole ts)
-    where
-      go : (b : Bool) → marked q (cond b (judged len hints o h p (kinds ts)) miss) ≡ cond b (judged len hints o h q (kinds ts)) miss
-      go true = judged-marked len hints o h p (kinds ts)
-      go false = refl
+  whole-marked : (len : ℕ) (hints : List ℕ) (o h : ℕ) (p : Bool) (ts : Types) → marked q (judgedWhole len hints o h p ts) ≡ judgedWhole len hints o h q ts
+  whole-marked len hints o h p ts = tested (isWhole ts) _ (judged-marked len hints o h p (kinds ts))
 
   -- an attempt whose every row has the mark q: what it finds knows of no padded number
   abbrev pub markedWith : List ℕ → List ℕ → ℕ → Varint → Tried
@@ -56,9 +47,5 @@ module _ (q : Bool) where
     where
       by-length : (v : Varint) → marked q (attemptWith s hints o v) ≡ markedWith s hints o v
       by-length Short = refl
-      by-length (Value h c) = go (headerFits (length s) o h)
-        where
-          go : (b : Bool) → marked q (cond b (judgedWhole (length s) hints o h (headerPadded h s c (o + h)) (typesFrom h s (c .at) (o + h))) miss)
-              ≡ cond b (judgedWhole (length s) hints o h q (typesFrom h s (c .at) (o + h))) miss
-          go true = whole-marked (length s) hints o h (headerPadded h s c (o + h)) (typesFrom h s (c .at) (o + h))
-          go false = refl
+      by-length (Value h c) =
+          tested (headerFits (length s) o h) _ (whole-marked (length s) hints o h (headerPadded h s c (o + h)) (typesFrom h s (c .at) (o + h)))

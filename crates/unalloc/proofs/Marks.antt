@@ -2,45 +2,35 @@
 -- Assumes nothing.
 use Prim.Native.Nat.{ℕ, _+_, _-_}
 use mathlib.Core.Path.{_≡_, refl}
-use mathlib.Core.Bool.{Bool, true, false, cond, _&&_}
+use mathlib.Core.Bool.{Bool, cond, _&&_}
 use mathlib.Core.List.{List}
 use lib.Dec.{ltb}
 use lib.ListN.{length}
-use Rattle.modes.proofs.Marks.{marked}
-use Rattle.modes.specs.Found.{Types, cut, read, typesFrom, columnsFrom, Tried, miss, hit}
+use Rattle.modes.proofs.Marks.{marked, tested}
+use Rattle.modes.specs.Found.{Types, cut, read, typesFrom, columnsFrom, Tried, miss}
 use Rattle.record.specs.Places.{headerPadded}
 use Rattle.record.specs.Varint.{varintAt}
 use Rattle.record.specs.declared.varint.Varint.{Varint}
 use Rattle.record.specs.declared.varint.Varint.the-variants.{Value, Short}
-use Rattle.unalloc.specs.Learned.{matched, learnedStyle, allThere, headerFits, judged, judgedTypes, attemptWith, attemptAt}
+use Rattle.unalloc.specs.Learned.{matched, allThere, headerFits, judged, judgedTypes, attemptWith, attemptAt}
 
 module _ (q : Bool) (s ls : List ℕ) (o : ℕ) where
   judged-marked : (h : ℕ) (p : Bool) (ts : Types) → marked q (judgedTypes s ls o h p ts) ≡ judgedTypes s ls o h q ts
   unfolding judged
   judged-marked h p cut = refl
-  judged-marked h p (read ts end) = go (ltb 0 (matched ls ts) && allThere (columnsFrom (length s) (o + h) ts))
-    where
-      row : Bool → Tried
-      row m = hit (record { style = learnedStyle (matched ls ts) (length ls); at = o; start = o + h; types = ts; padded = m })
+  judged-marked h p (read ts end) = tested q (ltb 0 (matched ls ts) && allThere (columnsFrom (length s) (o + h) ts)) _ refl
 
-      go : (b : Bool) → marked q (cond b (row p) miss) ≡ cond b (row q) miss
-      go true = refl
-      go false = refl
-
-  -- THE LAW: an attempt, but for the mark, is the one in which every row has the mark q
+  -- an attempt whose every row has the mark q
   abbrev pub markedWith : Varint → Tried
   markedWith (Value h c) = cond (headerFits (length s) o (c .at - o) h) (judgedTypes s ls o h q (typesFrom (length ls) s (c .at) (o + h))) miss
   markedWith Short = miss
 
+  -- THE LAW: an attempt is that one, but for the mark
   pub attempt-marked : marked q (attemptAt s ls o) ≡ markedWith (varintAt s o)
   unfolding attemptAt
   attempt-marked = by-length (varintAt s o)
     where
       by-length : (v : Varint) → marked q (attemptWith s ls o v) ≡ markedWith v
       by-length Short = refl
-      by-length (Value h c) = go (headerFits (length s) o (c .at - o) h)
-        where
-          go : (b : Bool) → marked q (cond b (judgedTypes s ls o h (headerPadded (length ls) s c (o + h)) (typesFrom (length ls) s (c .at) (o + h))) miss)
-              ≡ cond b (judgedTypes s ls o h q (typesFrom (length ls) s (c .at) (o + h))) miss
-          go true = judged-marked h (headerPadded (length ls) s c (o + h)) (typesFrom (length ls) s (c .at) (o + h))
-          go false = refl
+      by-length (Value h c) =
+          tested q (headerFits (length s) o (c .at - o) h) _ (judged-marked h (headerPadded (length ls) s c (o + h)) (typesFrom (length ls) s (c .at) (o + h)))

@@ -10,7 +10,7 @@ use lib.ListN.{length, length-append}
 use borrow.Author.Tests.{le-leb, leb-true}
 use Rattle.record.proofs.Laws.{varint-lies, varint-reach, places-length, places-are, places-count}
 use Rattle.record.proofs.Numbers.{by-order, by-test}
-use Rattle.record.specs.Places.{placesFrom, stopOf, varintPlaces, typePlaces}
+use Rattle.record.specs.Places.{placesFrom, stopOf, varintPlaces, typePlaces, headerPadded}
 use Rattle.record.specs.Varint.{varintAt}
 use Rattle.record.specs.declared.varint.Cursor.{Cursor}
 use Rattle.record.specs.declared.varint.Varint.the-variants.{Value, Short}
@@ -126,7 +126,7 @@ module _ (s hints : List ℕ) (o : ℕ) where
         let n = length-append (varintPlaces s o) [] in
         record { misses = rw (e, f); counts = rw (e, f) (omega (arith, n, places-count s o)); few = omega (arith, varint-lies s o h c e .nine) }
 
-    pub attempt-is : headerFits (length s) o h ≡ true → attemptAt s hints o ≡ judgedHeader s hints o h c
+    pub attempt-is : headerFits (length s) o h ≡ true → attemptAt s hints o ≡ judgedHeader s hints o h (c .at) (headerPadded h s c (o + h))
     unfolding attemptAt
     attempt-is f = simp (e, f)
 

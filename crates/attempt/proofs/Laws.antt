@@ -125,7 +125,7 @@ module _ (s hints : List ℕ) (o : ℕ) (x : Found) where
       with-length Short r e = never e
       with-length (Value h c) r e = go (headerFits (length s) o h) refl e
         where
-          go : (b : Bool) → headerFits (length s) o h ≡ b → cond b (judgedHeader s hints o h c) miss ≡ hit x
+          go : (b : Bool) → headerFits (length s) o h ≡ b → cond b (judgedHeader s hints o h (c .at) (headerPadded h s c (o + h))) miss ≡ hit x
               → HitFrom s hints o x
           go false f e = never e
           go true f e =

@@ -123,7 +123,7 @@ laid-moved by len at ts cs end all h =
 
 -- ---- a header of h bytes that has no number of its own: its types stand where it begins
 abbrev pub given : List ℕ → List ℕ → ℕ → ℕ → Tried
-given s hints o h = judgedHeader s hints o h (record { at = o; padded = false })
+given s hints o h = judgedHeader s hints o h o (typesPadded h s o (o + h))
 
 abbrev pub movedTried : ℕ → Tried → Tried
 movedTried by miss = miss

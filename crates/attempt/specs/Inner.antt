@@ -14,11 +14,10 @@ use Rattle.attempt.specs.declared.inner.Verdict.{Verdict}
 use Rattle.attempt.specs.declared.inner.Verdict.the-variants.{Hit, Miss}
 use Rattle.attempt.specs.declared.inner.Walk.{Walk}
 use Rattle.attempt.specs.declared.inner.Walk.the-variants.{Whole, Cut}
-use Rattle.record.specs.Places.{placesFrom, typePlaces, headerPadded}
+use Rattle.record.specs.Places.{placesFrom, typePlaces}
 use Rattle.record.specs.Value.{bodyLength}
 use Rattle.record.specs.declared.record.Length.{Length}
 use Rattle.record.specs.declared.record.Length.the-variants.{Bytes, Reserved}
-use Rattle.record.specs.declared.varint.Cursor.{Cursor}
 use Rattle.sheet.specs.declared.columns.Column.{Column}
 use Rattle.sheet.specs.declared.columns.Column.the-variants.{Body}
 use Rattle.sheet.specs.Limits.{mostHeader}
@@ -127,10 +126,11 @@ abbrev pub Tells : List ℕ → List ℕ → ℕ → Tried → List ℕ → Verd
 Tells s hints o t p (Miss read) = MissIs t p read
 Tells s hints o t p (Hit x) = HitIs s hints o t p x
 
--- types from c on, with their header's mark, make what `judgedWhole` says; its places are those of its own number and of the types
-abbrev pub judgedHeader : List ℕ → List ℕ → ℕ → ℕ → Cursor → Tried
-judgedHeader s hints o h c = judgedWhole (length s) hints o h (headerPadded h s c (o + h)) (headerTypes s o h (c .at))
+-- what a header makes whose types stand behind `from` and whose mark is p
+abbrev pub judgedHeader : List ℕ → List ℕ → ℕ → ℕ → ℕ → Bool → Tried
+judgedHeader s hints o h from p = judgedWhole (length s) hints o h p (headerTypes s o h from)
 
-abbrev pub Judged : List ℕ → List ℕ → ℕ → ℕ → Cursor → Verdict → Type 0
-Judged s hints o h c v =
-    Tells s hints o (judgedHeader s hints o h c) (placesFrom o (c .at - o) ++ typePlaces h s (c .at) (o + h)) v
+-- its places are those of its own number and of the types
+abbrev pub Judged : List ℕ → List ℕ → ℕ → ℕ → ℕ → Bool → Verdict → Type 0
+Judged s hints o h from p v =
+    Tells s hints o (judgedHeader s hints o h from p) (placesFrom o (from - o) ++ typePlaces h s from (o + h)) v

@@ -18,15 +18,16 @@ use sheet::hint::REAL;
 use sheet::hint::TEXT;
 use sheet::inner::put_column;
 ghost use mathlib.Core.Path.{_≡_};
+ghost use mathlib.Core.Bool.{_||_};
 ghost use Prim.Native.Nat.{_+_, _*_, _≤_, min};
 ghost use lib.ListN.{length};
 ghost use lib.Seq.{sets};
-ghost use Rattle.attempt.specs.Attempt.{kinds, attemptAt};
+ghost use Rattle.attempt.specs.Attempt.{kinds, headerFits, attemptAt};
 ghost use Rattle.attempt.specs.Hints.{isInteger, isReal, isText, isBlob, suits as suitsHint};
 ghost use Rattle.attempt.specs.Inner.{suitsAt, tooLong, bodySize, sizes, columnsAt, headerTypes, Headed, WholeIs, Walked};
 ghost use Rattle.attempt.specs.Inner.{Judged, Tells};
 ghost use Rattle.attempt.specs.Places.{attemptPlaces};
-ghost use Rattle.record.specs.Places.{headerPadded};
+ghost use Rattle.record.specs.Places.{typesPadded};
 ghost use Rattle.sheet.specs.Limits.{wordsPerEntry, largestRegion};
 ghost use Rattle.sheet.specs.Sheet.{columnsWords};
 
@@ -150,14 +151,14 @@ pub fn add_body(total: usize, kind: u64) -> usize
 }
 
 // Reads the types that stand behind `from` in the header of `head` bytes at o.
-fn walk_types(bytes: &[u8], hints: &[u8], o: usize, head: usize, from: Cursor) -> Walk
-    requires { ⌜ Headed (now bytes) o head (from .at) ⌝ }
-    ensures { λ r. ⌜ Walked (now (bytes .entry)) (now (hints .entry)) (headerTypes (now (bytes .entry)) o head (from .at))
-        (headerPadded head (now (bytes .entry)) from (o + head)) r ⌝ }
+fn walk_types(bytes: &[u8], hints: &[u8], o: usize, head: usize, from: usize, own: bool) -> Walk
+    requires { ⌜ Headed (now bytes) o head from ⌝ }
+    ensures { λ r. ⌜ Walked (now (bytes .entry)) (now (hints .entry)) (headerTypes (now (bytes .entry)) o head from)
+        (own || typesPadded head (now (bytes .entry)) from (o + head)) r ⌝ }
 {
     let stop = o + head;
-    let mut at = from.at;
-    let mut padded = from.padded;
+    let mut at = from;
+    let mut padded = own;
     let mut count: usize = 0;
     let mut matched: u16 = 0;
     let mut total: usize = 0;
@@ -187,16 +188,16 @@ pub fn judge(
     hints: &[u8],
     o: usize,
     head: usize,
-    from: Cursor,
+    from: usize,
     matched: u16,
     total: usize,
     end: usize,
     padded: bool,
 ) -> Verdict
-    requires { ⌜ Headed (now bytes) o head (from .at) ⌝ }
-    requires { ⌜ WholeIs (now bytes) (now hints) (headerTypes (now bytes) o head (from .at))
-        (headerPadded head (now bytes) from (o + head)) (length (now hints)) matched total end padded ⌝ }
-    ensures { λ r. ⌜ Judged (now (bytes .entry)) (now (hints .entry)) o head from r ⌝ }
+    requires { ⌜ Headed (now bytes) o head from ⌝ }
+    requires { ⌜ WholeIs (now bytes) (now hints) (headerTypes (now bytes) o head from) padded
+        (length (now hints)) matched total end padded ⌝ }
+    ensures { λ r. ⌜ Judged (now (bytes .entry)) (now (hints .entry)) o head from padded r ⌝ }
 {
     let read = end - o;
     if matched == 0 {
@@ -211,7 +212,7 @@ pub fn judge(
     }
     Verdict::Hit(Find {
         head,
-        from: from.at,
+        from,
         consumed,
         matched,
         read,
@@ -219,15 +220,23 @@ pub fn judge(
     })
 }
 
-// Whether the types that stand behind `from` in the header of `head` bytes at o make a row; its own number need not stand there.
-pub fn given_header(bytes: &[u8], hints: &[u8], o: usize, head: usize, from: Cursor) -> Verdict
-    requires { ⌜ Headed (now bytes) o head (from .at) ⌝ }
-    ensures { λ r. ⌜ Judged (now (bytes .entry)) (now (hints .entry)) o head from r ⌝ }
+// Whether the types that stand behind `from` in the header of `head` bytes at o make a row; its own number, which is padded or not, need
+// not stand there.
+pub fn given_header(
+    bytes: &[u8],
+    hints: &[u8],
+    o: usize,
+    head: usize,
+    from: usize,
+    own: bool,
+) -> Verdict
+    requires { ⌜ Headed (now bytes) o head from ⌝ }
+    ensures { λ r. ⌜ Judged (now (bytes .entry)) (now (hints .entry)) o head from
+        (own || typesPadded head (now (bytes .entry)) from (o + head)) r ⌝ }
 {
     // Most headers that fail have too few types or too many, which is seen before one is decoded.
-    let at = from.at;
-    if miscounted(hints.len(), bytes, o, head, at) {
-        return Verdict::Miss(types_end(bytes, o, head, at) - o);
+    if miscounted(hints.len(), bytes, o, head, from) {
+        return Verdict::Miss(types_end(bytes, o, head, from) - o);
     }
     let Walk::Whole {
         count,
@@ -235,7 +244,7 @@ pub fn given_header(bytes: &[u8], hints: &[u8], o: usize, head: usize, from: Cur
         total,
         end,
         padded,
-    } = walk_types(bytes, hints, o, head, from)
+    } = walk_types(bytes, hints, o, head, from, own)
     else {
         return Verdict::Miss(bytes.len() - o);
     };
@@ -243,6 +252,13 @@ pub fn given_header(bytes: &[u8], hints: &[u8], o: usize, head: usize, from: Cur
         return Verdict::Miss(end - o);
     }
     judge(bytes, hints, o, head, from, matched, total, end, padded)
+}
+
+fn header_fits(len: usize, o: usize, h: u64) -> bool
+    requires { ⌜ o ≤ len ⌝ }
+    ensures { λ r. ⌜ r ≡ headerFits len o h ⌝ }
+{
+    2 <= h && (h <= MOST_HEADER && h <= (len - o) as u64)
 }
 
 pub fn attempt(bytes: &[u8], hints: &[u8], o: usize) -> Verdict
@@ -257,18 +273,12 @@ pub fn attempt(bytes: &[u8], hints: &[u8], o: usize) -> Verdict
     let Varint::Value(h, next) = c.header_length(bytes) else {
         return Verdict::Miss(bytes.len() - o);
     };
-    let own = next.at - o;
-    if h < 2 {
-        return Verdict::Miss(own);
+    let from = next.at;
+    if header_fits(bytes.len(), o, h) {
+        return given_header(bytes, hints, o, h as usize, from, next.padded);
     }
-    if h > MOST_HEADER {
-        return Verdict::Miss(own);
-    }
-    let head = h as usize;
-    if head > bytes.len() - o {
-        return Verdict::Miss(own);
-    }
-    given_header(bytes, hints, o, head, next)
+    let read = from - o;
+    Verdict::Miss(read)
 }
 
 // Writes the columns whose types stand behind `from` in the header of `head` bytes at o; the bodies start at its end. The bytes lie `by`

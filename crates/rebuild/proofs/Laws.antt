@@ -24,6 +24,7 @@ use Rattle.record.proofs.Laws.{varint-low, varint-two}
 use Rattle.record.proofs.Numbers.{by-order}
 use Rattle.record.proofs.Shifts.{part-rest}
 use Rattle.record.proofs.Widths.{width-least}
+use Rattle.record.specs.Places.{typesPadded}
 use Rattle.record.specs.Varint.{widthOf, varintAt}
 use Rattle.record.specs.declared.varint.Varint.the-variants.{Value}
 use Rattle.sheet.specs.Limits.{mostHeader}
@@ -106,7 +107,7 @@ module _ (d hints : List ℕ) (v : ℕ) (start : v ≤ length d) (t : ℕ) (some
       rebuilt-miss e = rebuilt-with ∙ (behind-is h ∙ rw e)
 
       -- THE LAW: what such a header tells, and with it the made-up bytes
-      pub rebuilt-told : (verdict : Verdict) → Judged d hints v t (record { at = v; padded = false }) verdict → RebuiltIs how d hints v (shortBy (ownBytes t) verdict)
+      pub rebuilt-told : (verdict : Verdict) → Judged d hints v t v (typesPadded t d v (v + t)) verdict → RebuiltIs how d hints v (shortBy (ownBytes t) verdict)
       rebuilt-told (Miss read) m = rebuilt-miss (m .misses)
       rebuilt-told (Hit x) f = go (leb (ownBytes t + x .consumed) mostBytes) refl
         where

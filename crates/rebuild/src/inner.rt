@@ -10,7 +10,6 @@ use attempt::inner::MOST_BYTES;
 use attempt::inner::Verdict;
 use attempt::inner::given_header;
 use attempt::inner::judge;
-use record::varint::Cursor;
 ghost use mathlib.Core.Path.{_≡_};
 ghost use Prim.Native.Nat.{_≤_};
 ghost use lib.ListN.{length};
@@ -56,13 +55,9 @@ fn one_byte(payload: &[u8], hints: &[u8], v: usize) -> Rebuilt
     if types > payload.len() - v {
         return Rebuilt::Nothing;
     }
-    let from = Cursor {
-        at: v,
-        padded: false,
-    };
     short_by(
         own_bytes(types),
-        given_header(payload, hints, v, types, from),
+        given_header(payload, hints, v, types, v, false),
     )
 }
 
@@ -81,13 +76,9 @@ fn exact(payload: &[u8], hints: &[u8], v: usize) -> Rebuilt
         return Rebuilt::Nothing;
     };
     let types = end - v;
-    let from = Cursor {
-        at: v,
-        padded: false,
-    };
     short_by(
         own_bytes(types),
-        judge(payload, hints, v, types, from, matched, total, end, padded),
+        judge(payload, hints, v, types, v, matched, total, end, padded),
     )
 }
 

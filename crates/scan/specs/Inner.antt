@@ -15,10 +15,10 @@ pub record Fit (s hints : List ℕ) (base : ℕ) : Type 0 where
   pub few : length hints ≤ mostColumns
   pub near : base ≤ largestBase
 
--- there is room for the row n
-pub record RoomFor (n columns rows cols : ℕ) : Type 0 where
+-- there is room for the row n, and for its entries from k on
+pub record RoomFor (n k columns rows cols : ℕ) : Type 0 where
   pub row : n * wordsPerRow + wordsPerRow ≤ rows
-  pub group : n * (wordsPerEntry * columns) + wordsPerEntry * columns ≤ cols
+  pub group : k + wordsPerEntry * columns ≤ cols
 
 -- what a scan leaves
 pub record Ran (s hints : List ℕ) (base start room : ℕ) (rows cols : List ℕ) (x : ScanOutcome) : Type 0 where

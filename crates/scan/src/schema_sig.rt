@@ -94,7 +94,7 @@ impl Scanned {
     }
 }
 
-// Writes the row at o as the row n of both lists.
+// Writes the row at o as the row n, and its entries from k on.
 fn put_found(
     bytes: &[u8],
     columns: usize,
@@ -102,6 +102,7 @@ fn put_found(
     o: usize,
     find: Find,
     n: usize,
+    k: usize,
     rows: &mut [u64],
     cols: &mut [u64],
 )
@@ -109,10 +110,10 @@ fn put_found(
     requires { ⌜ Headed (now bytes) o (find .head) (find .from) ⌝ }
     requires { ⌜ o + find .head + sizes (kinds (findTypes (now bytes) o find)) ≤ length (now bytes) ⌝ }
     requires { ⌜ length (kinds (findTypes (now bytes) o find)) ≡ columns ⌝ }
-    requires { ⌜ RoomFor n columns (length (now rows)) (length (now cols)) ⌝ }
+    requires { ⌜ RoomFor n k columns (length (now rows)) (length (now cols)) ⌝ }
     ensures rows { λ _. ⌜ now (rows .exit) ≡ sets (now (rows .entry)) (n * wordsPerRow)
         (rowWords (rowOf base columns o (foundAt (now (bytes .entry)) o find))) ⌝ }
-    ensures cols { λ _. ⌜ now (cols .exit) ≡ sets (now (cols .entry)) (n * (wordsPerEntry * columns))
+    ensures cols { λ _. ⌜ now (cols .exit) ≡ sets (now (cols .entry)) k
         (columnsWords (foundAt (now (bytes .entry)) o find .columns)) ⌝ }
 {
     let row = Row {
@@ -126,15 +127,7 @@ fn put_found(
         padded: find.padded,
     };
     put_row(rows, n, row);
-    put_columns(
-        bytes,
-        o,
-        find.head,
-        find.from,
-        0,
-        cols,
-        n * (WORDS_PER_ENTRY * columns),
-    );
+    put_columns(bytes, o, find.head, find.from, 0, cols, k);
 }
 
 fn run(
@@ -180,7 +173,8 @@ fn run(
                         read,
                     };
                 }
-                put_found(bytes, hints.len(), base, at, find, n, rows, cols);
+                let k = n * (WORDS_PER_ENTRY * hints.len());
+                put_found(bytes, hints.len(), base, at, find, n, k, rows, cols);
                 n = n + 1;
                 read = read + find.read;
                 o = at + find.consumed;
@@ -236,7 +230,7 @@ fn once(
     if room == 0 {
         return Filled::Full(0);
     }
-    put_found(bytes, hints.len(), base, o, find, 0, rows, cols);
+    put_found(bytes, hints.len(), base, o, find, 0, 0, rows, cols);
     Filled::Done(1)
 }
 

@@ -4,10 +4,12 @@ use Prim.Native.Nat.{_≤_}
 use mathlib.Core.Path.{_≡_, sym, _∙_}
 use native.Mathlib.Omega.{arith}
 use denote.Ref.{now}
+use lib.ListN.{length}
 use Rattle.record.proofs.Laws.{varint-lies}
 use Rattle.record.specs.Varint.{varintAt}
 use Rattle.record.specs.declared.varint.Varint.the-variants.{Value}
-use Rattle.attempt.proofs.Judging.{fits, fits-not, attempt-short, attempt-bad, attempt-is, places-is, headed}
+use Rattle.attempt.specs.Attempt.{headerFits}
+use Rattle.attempt.proofs.Judging.{fits-is, attempt-short, attempt-bad, attempt-is, places-is, headed}
 use borrow.Author.Needs.{needs}
 use Rattle.attempt.proofs.inner.attempt.Statement.{statement}
 use Rattle.attempt.proofs.inner.attempt.Tie as tie
@@ -36,29 +38,31 @@ read c = sym (c .before .before .before .header-length .ensures) ∙ c .before .
 past : (c : tie.After-known-told) → c .before .before .before .before .before .before .args .o ≤ c .before .h .given .0 .1 .0 .at
 past c = omega (arith, varint-lies _ _ _ _ (read c) .past)
 
-sub-own : tie.Need-sub-own
-sub-own c = past (c .before)
+header-fits-requires : tie.Need-header-fits-requires
+header-fits-requires c κs = search needs
 
-returns-2 : tie.Need-returns-2
-returns-2 c = attempt-bad _ _ _ _ _ (read (c .before .before)) (fits-not _ _ _ (λ p q r. omega arith))
-
-returns-3 : tie.Need-returns-3
-returns-3 c = attempt-bad _ _ _ _ _ (read (c .before .before .before)) (fits-not _ _ _ (λ p q r. omega arith))
-
-sub-if3 : tie.Need-sub-if3
-sub-if3 c = search needs
-
-returns-4 : tie.Need-returns-4
-returns-4 c = attempt-bad _ _ _ _ _ (read (c .before .before .before .before)) (fits-not _ _ _ (λ p q r. omega arith))
+-- whether it fits is what the definition says
+fitting : (c : tie.After-header-fits) →
+    let a = c .before .before .before .before .before .before .before .args in
+    c .header-fits .result ≡ headerFits (length (now (a .bytes))) (a .o) (c .before .before .h .given .0 .0)
+fitting c = c .header-fits .ensures
 
 given-header-requires : tie.Need-given-header-requires
-given-header-requires c κs = headed _ _ _ _ (read (c .before .before .before .before)) (omega arith) (omega arith) (c .if3 .left) (omega arith)
+given-header-requires c κs =
+    let f = fits-is _ _ _ (sym (fitting (c .before)) ∙ c .if1 .taken) in
+    headed _ _ _ _ (read (c .before .before)) (f .0) (f .1) (f .2) (omega arith)
 
-returns-5 : tie.Need-returns-5
-returns-5 c =
-    let o = c .before .before .before .before .before in
-    let fit = fits _ _ _ (c .before .before .before .if1 .left) (c .before .before .if2 .left) (c .before .if3 .left) in
-    rw (attempt-is _ _ _ _ _ (read o) fit, places-is _ _ _ _ (read o) fit) (c .given-header .ensures)
+returns-2 : tie.Need-returns-2
+returns-2 c =
+    let o = c .before .before in
+    let fit = sym (fitting o) ∙ c .before .if1 .taken in
+    rw (attempt-is _ _ _ _ _ (read (o .before)) fit, places-is _ _ _ _ (read (o .before)) fit) (c .given-header .ensures)
+
+sub-read : tie.Need-sub-read
+sub-read c = past (c .before .before)
+
+returns-3 : tie.Need-returns-3
+returns-3 c = attempt-bad _ _ _ _ _ (read (c .before .before)) (sym (fitting (c .before)) ∙ c .if1 .left)
 
 pub attempt-spec : {M : Type 1} → statement M
 attempt-spec =
@@ -69,10 +73,8 @@ attempt-spec =
     enum-told
     sub-t11
     returns
-    sub-own
-    returns-2
-    returns-3
-    sub-if3
-    returns-4
+    header-fits-requires
     given-header-requires
-    returns-5)
+    returns-2
+    sub-read
+    returns-3)

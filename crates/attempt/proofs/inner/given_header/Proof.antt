@@ -2,9 +2,10 @@
 -- Assumes nothing.
 use Prim.Native.Nat.{_+_, _≤_}
 use mathlib.Core.Path.{sym, _∙_}
+use mathlib.Core.Bool.{_||_}
 use native.Mathlib.Omega.{arith}
 use denote.Ref.{now}
-use Rattle.record.specs.Places.{headerPadded}
+use Rattle.record.specs.Places.{typesPadded}
 use Rattle.attempt.specs.Inner.{headerTypes, WholeIs}
 use Rattle.attempt.proofs.Bodies.{miss-count}
 use Rattle.attempt.proofs.Judging.{read-all, end-past, judge-cut, judge-never, judge-miss}
@@ -48,7 +49,7 @@ returns-2 c =
 walked : (c : tie.After-known-told) →
     let a = c .before .before .before .before .before .before .before .before .args in
     let w = c .before .count .given .0 in
-    WholeIs (now (a .bytes)) (now (a .hints)) (headerTypes (now (a .bytes)) (a .o) (a .head) (a .from .at)) (headerPadded (a .head) (now (a .bytes)) (a .from) (a .o + a .head))
+    WholeIs (now (a .bytes)) (now (a .hints)) (headerTypes (now (a .bytes)) (a .o) (a .head) (a .from)) (a .own || typesPadded (a .head) (now (a .bytes)) (a .from) (a .o + a .head))
     (w .0) (w .1 .0) (w .1 .1 .0) (w .1 .1 .1 .0) (w .1 .1 .1 .1 .0)
 walked c = rw (c .before .count .given .1) at (c .before .before .before .walk-types .ensures)
 
@@ -72,10 +73,11 @@ returns-3 c =
 judge-requires : tie.Need-judge-requires
 judge-requires c κs =
     let o = c .before in
-    (o .before .before .before .before .before .before .before .before .pre, rw (c .if2 .left) at (walked o))
+    let w = walked o in
+    (o .before .before .before .before .before .before .before .before .pre, rw (c .if2 .left, w .marks) at w)
 
 returns-4 : tie.Need-returns-4
-returns-4 c = search needs
+returns-4 c = rw (walked (c .before .before) .marks) (c .judge .ensures)
 
 pub given-header-spec : {M : Type 1} → statement M
 given-header-spec =

@@ -23,8 +23,8 @@ bounds c = end-past _ _ _ _ _ (c .pre .0) _ _ _ _ _ _ (c .pre .1)
 over : (c : tie.Start) →
     let a = c .args in
     (a .head + a .total ≤ length (now (a .bytes)) - a .o → a .head + a .total ≤ mostBytes → ⊥)
-    → MissIs (judgedHeader (now (a .bytes)) (now (a .hints)) (a .o) (a .head) (a .from))
-    (placesFrom (a .o) (a .from .at - a .o) ++ typePlaces (a .head) (now (a .bytes)) (a .from .at) (a .o + a .head)) (a .end - a .o)
+    → MissIs (judgedHeader (now (a .bytes)) (now (a .hints)) (a .o) (a .head) (a .from) (a .padded))
+    (placesFrom (a .o) (a .from - a .o) ++ typePlaces (a .head) (now (a .bytes)) (a .from) (a .o + a .head)) (a .end - a .o)
 over c no′ = judge-miss _ _ _ _ _ (c .pre .0) _ _ _ _ _ _ (c .pre .1) (miss-total _ _ _ _ _ _ (c .pre .0 .inside) (rw (c .pre .1 .totals) no′))
 
 sub-read : tie.Need-sub-read

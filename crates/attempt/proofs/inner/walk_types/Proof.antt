@@ -16,12 +16,12 @@ use Rattle.attempt.proofs.inner.walk_types.Statement.{statement}
 use Rattle.attempt.proofs.inner.walk_types.Tie as tie
 
 abbrev Inv-loop : tie.InvT-loop
-Inv-loop bytes hints o head stop at₀ padded₀ count₀ matched₀ total₀ at padded count matched total =
+Inv-loop bytes hints o head from own stop at₀ padded₀ count₀ matched₀ total₀ at padded count matched total =
     (at₀ + count ≤ at) × (matched ≤ count) × (total ≤ tooLong)
     × Left bytes hints (headerTypes bytes o head at₀) (padded₀ || typesPadded head bytes at₀ stop) at stop count matched total padded
 
 abbrev μ-loop : tie.MeasureT-loop
-μ-loop bytes hints o head stop at₀ padded₀ count₀ matched₀ total₀ at padded count matched total = stop - at
+μ-loop bytes hints o head from own stop at₀ padded₀ count₀ matched₀ total₀ at padded count matched total = stop - at
 
 -- the type that was read, and where it ends
 read : (c : tie.After-known-told Inv-loop μ-loop) →

@@ -1,5 +1,6 @@
 -- `rebuild::inner::exact` meets its contract: a header that ends where the last of as many types as columns does, with its length made up.
 -- Assumes nothing.
+use mathlib.Core.Path.{_∙_}
 use native.Mathlib.Omega.{arith}
 use denote.Ref.{now}
 use Rattle.rebuild.specs.Inner.{Taken}
@@ -38,7 +39,7 @@ judge-requires : tie.Need-judge-requires
 judge-requires c κs =
     let t = taken (c .before) in
     let start = c .before .before .before .before .before .before .before .pre .0 .0 in
-    (taken-headed _ _ _ _ _ _ _ start t, rw (taken-header _ _ _ _ _ _ _ start t, taken-mark _ _ _ _ _ _ _ start t) (t .whole))
+    (taken-headed _ _ _ _ _ _ _ start t, rw (taken-header _ _ _ _ _ _ _ start t) (rw (t .whole .marks) at (t .whole)))
 
 short-by-requires : tie.Need-short-by-requires
 short-by-requires c κs = search needs
@@ -48,8 +49,9 @@ returns-2 c =
     let s = c .before .before .before .before .before .before .before .before .before in
     let t = taken (c .before .before .before) in
     let start = s .pre .0 .0 in
+    let mark = taken-mark _ _ _ _ _ _ _ start t ∙ t .whole .marks in
     rw (c .short-by .ensures, c .before .before .own-bytes .ensures .0)
-    (rebuilt-told (now (s .args .payload)) (now (s .args .hints)) _ start _ (omega (arith, t .past)) (omega (arith, t .near)) _ (taken-guess _ _ _ _ _ _ _ start t) (omega (arith, taken-inside _ _ _ _ _ _ _ start t)) (c .before .judge .result) (c .before .judge .ensures))
+    (rebuilt-told (now (s .args .payload)) (now (s .args .hints)) _ start _ (omega (arith, t .past)) (omega (arith, t .near)) _ (taken-guess _ _ _ _ _ _ _ start t) (omega (arith, taken-inside _ _ _ _ _ _ _ start t)) (c .before .judge .result) (rw mark (c .before .judge .ensures)))
 
 pub exact-spec : {M : Type 1} → statement M
 exact-spec =

@@ -62,7 +62,7 @@ put-found-requires c κs =
             h .columns,
             record {
               row = room-rows _ _ _ _ (rw (p .1) at n);
-              group = room-cols _ _ _ _ (rw (p .1) at n);
+              group = rw zero-mul at (room-cols _ _ _ 0 (rw (p .1) at n));
             },
           ),
         ),
@@ -83,7 +83,7 @@ returns-4 c =
     let h = found k in
     let q = c .before .before .before .before .put-found in
     let n : 0 < a .room = omega (arith, c .before .before .before .before .before .before .before .if2 .left) in
-    once-found _ _ _ _ _ _ _ (h .hits) _ _ (rw (p .1) at n) (q .ensures .0) (rw zero-mul at (q .ensures .1))
+    once-found _ _ _ _ _ _ _ (h .hits) _ _ (rw (p .1) at n) (q .ensures .0) (q .ensures .1)
 
 pub once-spec : {M : Type 1} → statement M
 once-spec =

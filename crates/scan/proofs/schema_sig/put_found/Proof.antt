@@ -5,8 +5,8 @@ use borrow.Author.Needs.{needs}
 use Rattle.scan.proofs.schema_sig.put_found.Statement.{statement}
 use Rattle.scan.proofs.schema_sig.put_found.Tie as tie
 
-add-t11 : tie.Need-add-t11
-add-t11 c = search needs
+add-t12 : tie.Need-add-t12
+add-t12 c = search needs
 
 cast-suited-share : tie.Need-cast-suited-share
 cast-suited-share c = search needs
@@ -16,12 +16,6 @@ suited-share-requires c κs = search needs
 
 put-row-requires : tie.Need-put-row-requires
 put-row-requires c κs = search needs
-
-mul-put-columns : tie.Need-mul-put-columns
-mul-put-columns c = search needs
-
-mul-put-columns-2 : tie.Need-mul-put-columns-2
-mul-put-columns-2 c = search needs
 
 put-columns-requires : tie.Need-put-columns-requires
 put-columns-requires c κs = search needs
@@ -39,12 +33,10 @@ pub put-found-spec : {M : Type 1} → statement M
 put-found-spec =
     tie.close
     (tie.spec
-    add-t11
+    add-t12
     cast-suited-share
     suited-share-requires
     put-row-requires
-    mul-put-columns
-    mul-put-columns-2
     put-columns-requires
     same-length
     same-length-2

@@ -85,8 +85,8 @@ next-row-requires c κs = let p = start c .pre .0 in ((omega (arith, c .before .
 enum-known-r : tie.Need-enum-known-r Inv-loop μ-loop
 enum-known-r c = search needs
 
-add-t21 : tie.Need-add-t21 Inv-loop μ-loop
-add-t21 c =
+add-t22 : tie.Need-add-t22 Inv-loop μ-loop
+add-t22 c =
     let t = through c in
     let l = c .before .before .before .before .loop in
     let p = start (c .before .before .before .before) .pre .0 in
@@ -126,6 +126,16 @@ returns-2 c =
     let p = start (k .before .before .before .before) .pre in
     let r = room-all _ _ _ _ (rw (p .1) at (k .before .before .before .before .loop .inv .0)) in
     on-full _ _ _ _ _ _ _ _ _ _ _ _ (r .0) (r .1) _ (taken k .0) (found k .found .hits) (c .if1 .taken) (there k)
+
+mul-k : tie.Need-mul-k Inv-loop μ-loop
+mul-k c = search needs
+
+mul-k-2 : tie.Need-mul-k-2 Inv-loop μ-loop
+mul-k-2 c =
+    let l = c .before .before .before .before .before in
+    let s = start l in
+    let n : l .loop .n < _ = c .if1 .left in
+    omega (arith, room-cols _ _ _ _ (rw (s .pre .1) at n), s .good .1 .1 .1 .1 .1 .1 .0 .0)
 
 put-found-requires : tie.Need-put-found-requires Inv-loop μ-loop
 put-found-requires c κs =
@@ -176,7 +186,7 @@ loop-again c =
       omega (arith, t .2, t .5, t .6),
       omega (arith, t .0, t .5, t .6),
       on-found _ _ _ _ _ _ _ _ _ _ _ _ _ _ _ _ (t .0) (h .hits) (r .if1 .left) (omega (arith, t .2)) (h .counts)
-          (columns-at-length (x .0 + x .1 .0 .head) (kinds (findTypes (now (start (k .before .before .before .before) .args .bytes)) (x .0) (x .1 .0))) ∙ h .columns) (q .ensures .0) (q .ensures .1) (q .kept .1 .1 .1 .1 .1 .1 .0) (q .kept .1 .1 .1 .1 .1 .1 .1 .0) (there k),
+          (columns-at-length (x .0 + x .1 .0 .head) (kinds (findTypes (now (start (k .before .before .before .before) .args .bytes)) (x .0) (x .1 .0))) ∙ h .columns) (q .ensures .0) (q .ensures .1) (q .kept .1 .1 .1 .1 .1 .1 .1 .0) (q .kept .1 .1 .1 .1 .1 .1 .1 .1 .0) (there k),
       f .run-is,
     )
 
@@ -190,7 +200,7 @@ run-spec =
     loop-holds
     next-row-requires
     enum-known-r
-    add-t21
+    add-t22
     same-length
     same-length-2
     returns
@@ -199,6 +209,8 @@ run-spec =
     same-length-3
     same-length-4
     returns-2
+    mul-k
+    mul-k-2
     put-found-requires
     add-n
     add-read-2

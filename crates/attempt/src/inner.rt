@@ -170,8 +170,11 @@ fn walk_types(bytes: &[u8], hints: &[u8], o: usize, head: usize, from: usize, ow
         matched = matched + suits_at(hints, count, kind);
         total = add_body(total, kind);
         count = count + 1;
-        padded = padded | next.padded;
         at = next.at;
+        // A branch, since a type of one byte is known not to be padded and so costs nothing.
+        if next.padded {
+            padded = true;
+        }
     }
     Walk::Whole {
         count,

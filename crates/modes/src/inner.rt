@@ -80,8 +80,11 @@ pub fn read_types(bytes: &[u8], from: usize, stop: usize, most: usize) -> TypesR
             return TypesRead::Cut;
         };
         count = count + 1;
-        padded = padded | next.padded;
         at = next.at;
+        // A branch, since a type of one byte is known not to be padded and so costs nothing.
+        if next.padded {
+            padded = true;
+        }
     }
     TypesRead::Whole {
         count,

@@ -2,7 +2,7 @@
 -- Assumes nothing.
 use Prim.Native.Nat.{ℕ, zero, suc, _≤_, _<_}
 use mathlib.Core.Path.{_≡_, refl, sym, ap, _∙_}
-use mathlib.Core.Bool.{Bool, false, _||_, or-assoc, or-false}
+use mathlib.Core.Bool.{Bool, true, false, _||_, or-assoc, or-false, or-true}
 use mathlib.Core.List.{List, [], _++_}
 use borrow.Author.Tests.{lt-ltb, le-ltb}
 use Rattle.record.specs.Places.{varintPlaces, typePlaces, typesPadded}
@@ -46,6 +46,14 @@ padded-end zero s at stop h = refl
 padded-end (suc f) s at stop h = simp (le-ltb at stop h)
 
 -- ---- p is the mark of all, and `mark` that of those that have been read
+
+-- a mark that is set where one is padded, and else left as it was
+pub mark-set : (mark b : Bool) → b ≡ true → (mark || b) ≡ true
+mark-set mark b e = ap (λ x. mark || x) e ∙ or-true mark
+
+pub mark-left : (mark b : Bool) → b ≡ false → (mark || b) ≡ mark
+mark-left mark b e = ap (λ x. mark || x) e ∙ or-false mark
+
 module _ (f : ℕ) (s : List ℕ) (at stop : ℕ) where
   -- THE LAW: one more was read,
   pub marked-step : (t : ℕ) (c : Cursor) (p mark : Bool) → at < stop → varintAt s at ≡ Value t c → p ≡ (mark || typesPadded (suc f) s at stop)

@@ -136,8 +136,11 @@ fn read_and_match(region: &[u8], types: &[u64], from: usize, stop: usize) -> Rea
         matched = matched + matches_at(types, count, kind);
         end = behind(end, column);
         count = count + 1;
-        padded = padded | next.padded;
         at = next.at;
+        // A branch, since a type of one byte is known not to be padded and so costs nothing.
+        if next.padded {
+            padded = true;
+        }
     }
     Reading::Whole {
         count,

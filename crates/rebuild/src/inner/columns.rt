@@ -45,11 +45,14 @@ pub fn walk_columns(payload: &[u8], hints: &[u8], v: usize) -> Columns
         matched = matched + suits_at(hints, count, kind);
         total = add_body(total, kind);
         count = count + 1;
-        padded = padded | next.padded;
         at = next.at;
         // Bodies that pass the payload make no row, whatever types are left.
         if total > payload.len() - at {
             return Columns::Nothing;
+        }
+        // A branch, since a type of one byte is known not to be padded and so costs nothing.
+        if next.padded {
+            padded = true;
         }
     }
     if at > last {

@@ -2,11 +2,12 @@
 -- Assumes nothing.
 use Prim.Native.Nat.{_+_, _-_, _<_, _≤_}
 use mathlib.Core.Path.{_≡_, refl, sym, _∙_}
-use mathlib.Core.Bool.{_||_}
+use mathlib.Core.Bool.{Bool, true, _||_}
 use native.Mathlib.Omega.{arith}
 use denote.Ref.{now}
 use borrow.Author.Needs.{needs}
 use Rattle.record.proofs.Laws.{varint-lies}
+use Rattle.record.proofs.Types.{mark-set, mark-left}
 use Rattle.record.specs.Places.{typesPadded}
 use Rattle.record.specs.Varint.{varintAt}
 use Rattle.record.specs.declared.varint.Varint.the-variants.{Value}
@@ -62,20 +63,39 @@ add-body-requires c κs = search needs
 add-count : tie.Need-add-count Inv-loop μ-loop
 add-count c = search needs
 
+-- a type more was read, and m is the mark with it
+again : (c : tie.After-add-body Inv-loop μ-loop) (m : Bool) →
+    let o = c .before .before in
+    let l = o .before .before .before .before .before .loop in
+    let a = o .before .before .before .before .before .before .before .before .args in
+    let next = o .before .kind .given .0 .1 .0 in
+    let matched = l .matched + c .before .suits-at .result in
+    (l .padded || next .padded) ≡ m
+    → (a .from + (l .count + 1) ≤ next .at) × (matched ≤ l .count + 1) × (c .add-body .result ≤ tooLong)
+    × Left (now (a .bytes)) (now (a .hints)) (headerTypes (now (a .bytes)) (a .o) (a .head) (a .from)) (a .own || typesPadded (a .head) (now (a .bytes)) (a .from) (a .o + a .head))
+    (next .at) (a .o + a .head) (l .count + 1) matched (c .add-body .result) m
+again c m e =
+    let o = c .before .before in
+    let l = o .before .before .before .before .before .loop in
+    let p = past o in (
+      omega arith,
+      omega (arith, c .before .suits-at .ensures .1),
+      omega (arith, c .add-body .ensures),
+      rw (c .before .suits-at .ensures .0, c .add-body .ensures)
+          (rw e at (left-step _ _ _ _ _ _ _ _ _ _ _ _ (o .before .before .before .before .loop-test .taken) p (read o) (l .inv .3))),
+    )
+
 loop-less : tie.Need-loop-less Inv-loop μ-loop
 loop-less c = omega (arith, past (c .before .before .before))
 
 loop-again : tie.Need-loop-again Inv-loop μ-loop
-loop-again c =
-    let b = c .before in
-    let o = b .before .before in
-    let l = o .before .before .before .before .before .loop in
-    let p = past o in (
-      omega arith,
-      omega (arith, b .before .suits-at .ensures .1),
-      omega (arith, b .add-body .ensures),
-      rw (b .before .suits-at .ensures .0, b .add-body .ensures) (left-step _ _ _ _ _ _ _ _ _ _ _ _ (o .before .before .before .before .loop-test .taken) p (read o) (l .inv .3)),
-    )
+loop-again c = again (c .before) true (mark-set (c .before .before .before .before .before .before .before .before .loop .padded) _ (c .if1 .taken))
+
+loop-less-2 : tie.Need-loop-less-2 Inv-loop μ-loop
+loop-less-2 c = omega (arith, past (c .before .before .before))
+
+loop-again-2 : tie.Need-loop-again-2 Inv-loop μ-loop
+loop-again-2 c = again (c .before) _ (mark-left (c .before .before .before .before .before .before .before .before .loop .padded) _ (c .if1 .left))
 
 returns-2 : tie.Need-returns-2 Inv-loop μ-loop
 returns-2 c = left-end _ _ _ _ _ _ _ _ _ _ (c .loop-test .left) (c .before .loop .inv .3)
@@ -98,4 +118,6 @@ walk-types-spec =
     add-count
     loop-less
     loop-again
+    loop-less-2
+    loop-again-2
     returns-2)

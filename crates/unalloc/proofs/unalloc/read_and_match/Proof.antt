@@ -1,13 +1,15 @@
 -- `unalloc::unalloc::read_and_match` meets its contract: what the loop has read, with what is left, comes to the whole (`ReadSoFar`).
 -- Assumes nothing.
-use Prim.Native.Nat.{_-_, _≤_}
+use Prim.Native.Nat.{_+_, _-_, _≤_}
 use mathlib.Core.Path.{_≡_, sym, _∙_}
+use mathlib.Core.Bool.{Bool, true, _||_}
 use native.Mathlib.Omega.{arith}
 use borrow.Author.Needs.{needs}
 use borrow.Author.Tests.{not-true, not-false}
 use denote.Ref.{now}
 use lib.ListN.{length}
 use Rattle.modes.specs.Found.{typesFrom}
+use Rattle.record.proofs.Types.{mark-set, mark-left}
 use Rattle.record.specs.Places.{typesPadded}
 use Rattle.record.specs.Varint.{varintAt}
 use Rattle.record.specs.declared.varint.Varint.the-variants.{Value}
@@ -75,19 +77,37 @@ behind-requires c κs = omega (arith, c .before .before .before .column-at .ensu
 add-count : tie.Need-add-count Inv-loop μ-loop
 add-count c = search needs
 
+-- a type more was read, and m is the mark with it
+again : (c : tie.After-behind Inv-loop μ-loop) (m : Bool) →
+    let o = turn (c .before .before .before .before .before) in
+    let a = start o .args in
+    let l = o .before .loop in
+    let next = c .before .before .before .before .before .before .kind .given .0 .1 .0 in
+    (l .padded || next .padded) ≡ m
+    → ReadSoFar (now (a .region)) (now (a .types)) (a .stop) (typesFrom (length (now (a .types))) (now (a .region)) (a .from) (a .stop))
+    (typesPadded (length (now (a .types))) (now (a .region)) (a .from) (a .stop)) (next .at) m (c .behind .result) (l .count + 1) (l .matched + c .before .matches-at .result)
+again c m e =
+    let kind = c .before .before .before .before .before in
+    let x = c .before .before .before .before .column-at in
+    let w = c .before .matches-at in
+    rw (c .behind .ensures, x .ensures .0)
+    (rw e at (reading-on _ _ _ _ _ _ _ _ _ _ (turn kind .before .loop .inv .1) (turn kind .loop-test .taken) (kind .before .before .before .before .if1 .left) _ _ (read kind) (rw (x .ensures .0) at (sym (c .before .before .before .is-there .ensures) ∙ not-false _ (c .before .before .if2 .left))) _ (w .ensures .0) (w .ensures .1)))
+
 loop-less : tie.Need-loop-less Inv-loop μ-loop
 loop-less c = search needs
 
 loop-again : tie.Need-loop-again Inv-loop μ-loop
 loop-again c =
-    let moved = c .before in
-    let kind = moved .before .before .before .before .before in
-    let x = moved .before .before .before .before .column-at in
-    let m = moved .before .matches-at in (
-      search needs,
-      rw (moved .behind .ensures, x .ensures .0)
-          (reading-on _ _ _ _ _ _ _ _ _ _ (turn kind .before .loop .inv .1) (turn kind .loop-test .taken) (kind .before .before .before .before .if1 .left) _ _ (read kind) (rw (x .ensures .0) at (sym (moved .before .before .before .is-there .ensures) ∙ not-false _ (moved .before .before .if2 .left))) _ (m .ensures .0) (m .ensures .1)),
-    )
+    let t = turn (c .before .before .before .before .before .before) in
+    (search needs, again (c .before) true (mark-set (t .before .loop .padded) _ (c .if3 .taken)))
+
+loop-less-2 : tie.Need-loop-less-2 Inv-loop μ-loop
+loop-less-2 c = search needs
+
+loop-again-2 : tie.Need-loop-again-2 Inv-loop μ-loop
+loop-again-2 c =
+    let t = turn (c .before .before .before .before .before .before) in
+    (search needs, again (c .before) _ (mark-left (t .before .loop .padded) _ (c .if3 .left)))
 
 returns-4 : tie.Need-returns-4 Inv-loop μ-loop
 returns-4 c = reading-all _ _ _ _ _ _ _ _ _ _ (c .before .loop .inv .1) (c .loop-test .left)
@@ -113,4 +133,6 @@ read-and-match-spec =
     add-count
     loop-less
     loop-again
+    loop-less-2
+    loop-again-2
     returns-4)

@@ -2,13 +2,14 @@
 -- Assumes nothing.
 use Prim.Native.Nat.{_+_, _-_, _≤_}
 use mathlib.Core.Path.{_≡_, sym, _∙_}
-use mathlib.Core.Bool.{_||_}
+use mathlib.Core.Bool.{Bool, true, _||_}
 use native.Mathlib.Omega.{arith}
 use denote.Ref.{now}
 use lib.ListN.{length}
 use Rattle.attempt.specs.Inner.{tooLong}
 use Rattle.rebuild.proofs.Reading.{Reading, reading-start, reading-step, reading-cut, reading-over, reading-long, reading-end}
 use Rattle.record.proofs.Laws.{varint-lies}
+use Rattle.record.proofs.Types.{mark-set, mark-left}
 use Rattle.record.specs.Varint.{varintAt}
 use Rattle.record.specs.declared.varint.Varint.the-variants.{Value}
 use borrow.Author.Needs.{needs}
@@ -84,13 +85,33 @@ one-more c =
     (reading-step _ _ _ _ _ _ _ _ (t .before .loop .inv .4) _ _ (t .loop-test .taken) (o .before .before .before .before .if1 .left) (read o))
 
 sub-if2 : tie.Need-sub-if2 Inv-loop μ-loop
-sub-if2 c = varint-lies _ _ _ _ (read (c .before .before .before)) .inside
+sub-if2 c = varint-lies _ _ _ _ (read (c .before .before)) .inside
 
 returns-3 : tie.Need-returns-3 Inv-loop μ-loop
 returns-3 c =
-    let o = c .before .before in
+    let o = c .before in
     let p = start (turn (o .before .before)) .pre in
     reading-long _ _ _ _ _ _ _ _ (one-more o) (p .0 .0) (p .1 .0) (p .1 .1) (varint-lies _ _ _ _ (read (o .before .before)) .inside) (omega (arith, o .add-body .ensures)) (c .if2 .taken)
+
+-- and all that holds then, where m is the mark with it
+again : (c : tie.After-add-body Inv-loop μ-loop) (m : Bool) →
+    let a = start (turn (c .before .before)) .args in
+    let l = turn (c .before .before) .before .loop in
+    let next = c .before .before .before .kind .given .0 .1 .0 in
+    let matched = l .matched + c .before .suits-at .result in
+    (l .padded || next .padded) ≡ m
+    → (a .v + (l .count + 1) ≤ next .at) × (next .at ≤ length (now (a .payload))) × (matched ≤ l .count + 1) × (c .add-body .result ≤ tooLong)
+    × Reading (now (a .payload)) (now (a .hints)) (a .v) (next .at) (l .count + 1) matched (c .add-body .result) m
+again c m e =
+    let o = c .before .before in
+    let l = turn o .before .loop in
+    let z = varint-lies _ _ _ _ (read o) in (
+      omega (arith, z .past, l .inv .0),
+      z .inside,
+      omega (arith, c .before .suits-at .ensures .1, l .inv .2),
+      omega (arith, c .add-body .ensures),
+      rw e at (one-more c),
+    )
 
 loop-less : tie.Need-loop-less Inv-loop μ-loop
 loop-less c = search needs
@@ -98,22 +119,23 @@ loop-less c = search needs
 loop-again : tie.Need-loop-again Inv-loop μ-loop
 loop-again c =
     let o = c .before .before in
-    let l = turn (o .before .before) .before .loop in
-    let z = varint-lies _ _ _ _ (read (o .before .before)) in (
-      omega (arith, z .past, l .inv .0),
-      z .inside,
-      omega (arith, o .before .suits-at .ensures .1, l .inv .2),
-      omega (arith, o .add-body .ensures),
-      one-more o,
-    )
+    again o true (mark-set (turn (o .before .before) .before .loop .padded) _ (c .if3 .taken))
+
+loop-less-2 : tie.Need-loop-less-2 Inv-loop μ-loop
+loop-less-2 c = search needs
+
+loop-again-2 : tie.Need-loop-again-2 Inv-loop μ-loop
+loop-again-2 c =
+    let o = c .before .before in
+    again o _ (mark-left (turn (o .before .before) .before .loop .padded) _ (c .if3 .left))
 
 returns-4 : tie.Need-returns-4 Inv-loop μ-loop
-returns-4 c = reading-over _ _ _ _ _ _ _ _ (c .before .before .loop .inv .4) (c .if3 .taken)
+returns-4 c = reading-over _ _ _ _ _ _ _ _ (c .before .before .loop .inv .4) (c .if4 .taken)
 
 returns-5 : tie.Need-returns-5 Inv-loop μ-loop
 returns-5 c =
     let l = c .before .before .loop in
-    reading-end _ _ _ _ _ _ _ _ (l .inv .4) (c .before .loop-test .left) (c .before .before .before .before .before .pre .1 .0) (l .inv .0) (c .if3 .left)
+    reading-end _ _ _ _ _ _ _ _ (l .inv .4) (c .before .loop-test .left) (c .before .before .before .before .before .pre .1 .0) (l .inv .0) (c .if4 .left)
 
 pub walk-columns-spec : {M : Type 1} → statement M
 walk-columns-spec =
@@ -136,5 +158,7 @@ walk-columns-spec =
     returns-3
     loop-less
     loop-again
+    loop-less-2
+    loop-again-2
     returns-4
     returns-5)

@@ -12,7 +12,7 @@
  *
  * Stack. The calls on freed blocks and free space (phs_recover_.., phs_scan_page_.., phs_scan_single_page_gap and
  * phs_parse_cells_from_freeblock) take at most 67,300 bytes of it, phs_learn_signatures 24,800, phs_boyer_moore_search
- * 2,200 and any other call 900, whatever they are lent: the frames of the archive along the deepest chain of calls come to no
+ * 2,200 and any other call 1,000, whatever they are lent: the frames of the archive along the deepest chain of calls come to no
  * more, and a stack that was painted before the calls showed no more. What memcpy and memset take comes on top.
  *
  * Answers. Each call but phs_version returns a refusal number, 0 for none, and puts the rest of its answer into `out`,

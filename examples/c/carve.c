@@ -38,6 +38,7 @@ static const char USAGE[] =
     "or a digit, its code from 0 to 5. An INTEGER PRIMARY KEY has N. A REAL column that may hold whole numbers has A:\n"
     "they are stored as integers.\n"
     "PAGE is the page size, if it is not to be the one that the file's header names.\n"
+    "A row that is padded has a number in its header that takes more bytes than it needs: SQLite writes none so.\n"
     "-a, --all    all that reads as a row: most are none\n"
     "-w, --whole  whole pages, for a table that was cleared: rows that are not deleted are listed, too\n";
 

@@ -150,7 +150,7 @@ pub fn add_body(total: usize, kind: u64) -> usize
     total + n
 }
 
-// Reads the types that stand behind `from` in the header of `head` bytes at o.
+// Reads the types that stand behind `from` in the header of `head` bytes at o, whose own number is padded or not.
 fn walk_types(bytes: &[u8], hints: &[u8], o: usize, head: usize, from: usize, own: bool) -> Walk
     requires { ⌜ Headed (now bytes) o head from ⌝ }
     ensures { λ r. ⌜ Walked (now (bytes .entry)) (now (hints .entry)) (headerTypes (now (bytes .entry)) o head from)

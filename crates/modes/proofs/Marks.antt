@@ -2,12 +2,13 @@
 -- Assumes nothing.
 use Prim.Native.Nat.{ℕ, _+_, _-_}
 use mathlib.Core.Path.{_≡_, refl}
-use mathlib.Core.Bool.{Bool, true, false, cond}
+use mathlib.Core.Bool.{Bool, cond}
 use mathlib.Core.List.{List, [], _∷_}
 use lib.ListN.{length}
 use Rattle.modes.specs.Found.{Types, cut, read, typesFrom, Tried, miss, hit}
 use Rattle.modes.specs.Modes.{normal, rowOf, lengthFits, headedRow, normalWith, normalAt, headlessRow, headlessIn}
 use Rattle.modes.specs.declared.inner.Style.{Style}
+use Rattle.record.proofs.Numbers.{tested}
 use Rattle.record.specs.Places.{typesPadded, headerPadded}
 use Rattle.record.specs.Varint.{varintAt}
 use Rattle.record.specs.declared.varint.Varint.{Varint}
@@ -19,10 +20,6 @@ marked q miss = miss
 marked q (hit x) = hit (record { style = x .style; at = x .at; start = x .start; types = x .types; padded = q })
 
 module _ (q : Bool) where
-  pub tested : (b : Bool) (t : Tried) {u : Tried} → marked q t ≡ u → marked q (cond b t miss) ≡ cond b u miss
-  tested true t e = e
-  tested false t e = refl
-
   row-marked : (style : Style) (o start : ℕ) (p : Bool) (ts : List ℕ) → marked q (rowOf style o start p ts) ≡ rowOf style o start q ts
   row-marked style o start p [] = refl
   row-marked style o start p (t ∷ ts) = refl
@@ -48,7 +45,7 @@ module _ (q : Bool) where
       by-length : (v : Varint) → marked q (normalWith s columns o v) ≡ markedWith s columns o v
       by-length Short = refl
       by-length (Value h c) =
-          tested (lengthFits (length s) o (c .at - o) h) _ (headed-marked o h (headerPadded columns s c (o + h)) (typesFrom columns s (c .at) (o + h)))
+          tested (marked q) (lengthFits (length s) o (c .at - o) h) _ miss (headed-marked o h (headerPadded columns s c (o + h)) (typesFrom columns s (c .at) (o + h))) refl
 
   -- and so are the other two
   pub headless-marked : (style : Style) (s : List ℕ) (from most : ℕ) → marked q (headlessIn style s from most) ≡ headlessRow style q (typesFrom most s from (length s))

@@ -22,6 +22,11 @@ pub by-test : {C : Type 0} (b : Bool) → (b ≡ true → C) → (b ≡ false �
 by-test true f g = f refl
 by-test false f g = g refl
 
+-- what a function makes of either way of a test, it makes of the test
+pub tested : {A B : Type 0} (f : A → B) (b : Bool) (x y : A) {u v : B} → f x ≡ u → f y ≡ v → f (cond b x y) ≡ cond b u v
+tested f true x y p q = p
+tested f false x y p q = q
+
 -- a bool as a number
 pub bool-word : (b : Bool) → boolByte b ≡ cond b 1 0
 bool-word true = refl

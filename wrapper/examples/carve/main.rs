@@ -33,6 +33,7 @@ HINTS has a letter for each column: I integer, R real, T text, B blob, N null, A
 or a digit, its code from 0 to 5. An INTEGER PRIMARY KEY has N. A REAL column that may hold whole numbers has A:
 they are stored as integers.
 PAGE is the page size, if it is not to be the one that the file's header names.
+A row that is padded has a number in its header that takes more bytes than it needs: SQLite writes none so.
 -a, --all    all that reads as a row: most are none
 -w, --whole  whole pages, for a table that was cleared: rows that are not deleted are listed, too";
 

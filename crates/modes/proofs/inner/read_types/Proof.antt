@@ -42,13 +42,13 @@ add-count : tie.Need-add-count Inv-loop μ-loop
 add-count c = search needs
 
 -- a type more was read, and m is the mark with it
-on : (c : tie.After-known-told Inv-loop μ-loop) (m : Bool) →
+again : (c : tie.After-known-told Inv-loop μ-loop) (m : Bool) →
     let next = c .before .next .given .0 .1 .0 in
     let l = c .before .before .before .before .before .before in
     let a = l .before .before .args in
     (l .loop .padded || next .padded) ≡ m
     → Counted (now (a .bytes)) (a .stop) (typesFrom (a .most) (now (a .bytes)) (a .from) (a .stop)) (typesPadded (a .most) (now (a .bytes)) (a .from) (a .stop)) (a .most) (next .at) m (l .loop .count + 1)
-on c m e =
+again c m e =
     let known = c .before in
     let turn = known .before .before .before .before in
     rw e at (counted-on _ _ _ _ _ _ _ _ (turn .before .loop .inv .1) (turn .loop-test .taken) (known .before .before .before .if1 .left) _ _ (sym (known .before .before .serial-type .ensures) ∙ known .next .given .1))
@@ -57,13 +57,13 @@ loop-less : tie.Need-loop-less Inv-loop μ-loop
 loop-less c = search needs
 
 loop-again : tie.Need-loop-again Inv-loop μ-loop
-loop-again c = (search needs, on (c .before) true (mark-set (c .before .before .before .before .before .before .before .loop .padded) _ (c .if2 .taken)))
+loop-again c = (search needs, again (c .before) true (mark-set (c .before .before .before .before .before .before .before .loop .padded) _ (c .if2 .taken)))
 
 loop-less-2 : tie.Need-loop-less-2 Inv-loop μ-loop
 loop-less-2 c = search needs
 
 loop-again-2 : tie.Need-loop-again-2 Inv-loop μ-loop
-loop-again-2 c = (search needs, on (c .before) _ (mark-left (c .before .before .before .before .before .before .before .loop .padded) _ (c .if2 .left)))
+loop-again-2 c = (search needs, again (c .before) _ (mark-left (c .before .before .before .before .before .before .before .loop .padded) _ (c .if2 .left)))
 
 returns-3 : tie.Need-returns-3 Inv-loop μ-loop
 returns-3 c = counted-all _ _ _ _ _ _ _ _ (c .before .loop .inv .1) (c .loop-test .left)

@@ -31,7 +31,7 @@ use Rattle.record.specs.declared.varint.Cursor.{Cursor}
 use Rattle.record.specs.declared.varint.Varint.{Varint}
 use Rattle.record.specs.declared.varint.Varint.the-variants.{Value, Short}
 use Rattle.record.proofs.Numbers.{by-order}
-use Rattle.record.proofs.Values.{fits-inside, decoded}
+use Rattle.record.proofs.Values.{fits-inside, value-past, decoded}
 use Rattle.record.proofs.Widths.{width-some}
 use Rattle.record.proofs.Varints.{at-end, at-ninth, at-last, at-more, grown, over}
 
@@ -221,11 +221,9 @@ decoded-ends t s at v n h e = let d = decoded t s at v n e in fits-inside t n s 
 -- THE LAW: of types from 12 up the even ones are blobs and the odd ones texts, of as many bytes as the type says
 pub long-value : {C : Type 0} (t : ℕ) (s : List ℕ) (at n : ℕ) → 12 ≤ t → bodyLength t ≡ Bytes n →
     (t ≡ 12 + 2 * n → valueOf t s at n ≡ Blob at n → C) → (t ≡ 13 + 2 * n → valueOf t s at n ≡ Text at n → C) → C
-unfolding bodyLength valueOf
+unfolding bodyLength
 long-value t s at n big l blob text =
-    let no0 = ne-eqb t 0 (λ z. omega arith) in
-    let no7 = ne-eqb t 7 (λ z. omega arith) in
-    let ge7 = le-ltb t 7 (omega arith) in
+    let past = value-past t s at n (omega arith) in
     let ge10 = le-ltb t 10 (omega arith) in
     let ge12 = le-ltb t 12 (omega arith) in
     by-cases (ℕ-discrete (t % 2) 0)
@@ -233,12 +231,12 @@ long-value t s at n big l blob text =
     let q = eq-eqb (t % 2) 0 even in
     let z : Bytes ((t - 12) / 2) ≡ Bytes n = simp (ge10, ge12, q) at l in
     let y : (t - 12) / 2 ≡ n = cc in
-    blob (omega arith) (simp (no0, ge7, no7, ge10, q)))
+    blob (omega arith) (simp (past, q)))
     (λ odd.
     let q = ne-eqb (t % 2) 0 odd in
     let z : Bytes ((t - 13) / 2) ≡ Bytes n = simp (ge10, ge12, q) at l in
     let y : (t - 13) / 2 ≡ n = cc in
-    text (omega arith) (simp (no0, ge7, no7, ge10, q)))
+    text (omega arith) (simp (past, q)))
 
 -- ---- entries
 module _ (e : Entry) (all : ℕ) where

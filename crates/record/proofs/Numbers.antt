@@ -1,7 +1,7 @@
 -- Going by cases; numbers made of groups of bits, over the group's width; and two's complement.
 -- Assumes nothing.
-use Prim.Native.Nat.{ℕ, zero, suc, _+_, _-_, _*_, _^_, _<_, _≤_}
-use mathlib.Core.Path.{_≡_, refl, ap}
+use Prim.Native.Nat.{ℕ, zero, suc, _+_, _-_, _*_, _/_, _^_, _<_, _≤_}
+use mathlib.Core.Path.{_≡_, refl, _∙_, ap}
 use mathlib.Core.Bool.{Bool, true, false, cond}
 use mathlib.Core.Logic.{by-cases}
 use native.Mathlib.Decide.{decLt}
@@ -45,19 +45,24 @@ one-more w n v b lt h =
     let d : (v + 1) * 2 ^ w ≡ v * 2 ^ w + 2 ^ w = rw (add-mul, one-mul) in
     rw (i, e) (omega arith)
 
--- -1 - k, as a program writes a negative number
+-- v - w and -1 - k, as programs write negative numbers
+pub below-zero : (v w : ℕ) → v < w → pos v -ℤ pos w ≡ negsuc (w - suc v)
+below-zero v zero h = absurd (omega arith)
+below-zero v (suc w) h = simp (lt-ltb v (suc w) h)
+
 pub minus-one : (k : ℕ) → negsuc 0 -ℤ pos k ≡ negsuc k
 minus-one zero = refl
 minus-one (suc k) = ap (λ (n : ℕ). negsuc (suc n)) (zero-add k)
 
--- two's complement of numbers below 2 * half
-module _ (bits half v : ℕ) (whole : half + half ≡ 2 ^ bits) where
-  pub below-half : v < half → twosComplement bits v ≡ pos v
+-- two's complement of numbers below `whole`, two to the width
+module _ (bits whole v : ℕ) (two : whole ≡ 2 ^ bits) where
+  pub below-half : v < whole / 2 → twosComplement bits v ≡ pos v
   unfolding twosComplement
   below-half h = simp (lt-ltb (v + v) (2 ^ bits) (omega arith))
 
-  pub from-half : half ≤ v → v < half + half → twosComplement bits v ≡ negsuc (half - 1 - (v - half))
+  pub from-half : 0 < bits → whole / 2 ≤ v → v < whole → twosComplement bits v ≡ negsuc (whole - suc v)
   unfolding twosComplement
-  from-half h lt =
-      let e : 2 ^ bits - suc v ≡ half - 1 - (v - half) = omega arith in
-      simp (le-ltb (v + v) (2 ^ bits) (omega arith), lt-ltb v (2 ^ bits) (omega arith), e)
+  from-half some h lt =
+      let i : bits ≡ bits - 1 + 1 = omega arith in
+      let e : 2 ^ bits ≡ 2 ^ (bits - 1) * 2 = ap (2 ^_) i ∙ pow-add 2 (bits - 1) 1 in
+      simp (le-ltb (v + v) (2 ^ bits) (omega arith), lt-ltb v (2 ^ bits) (omega arith), two)

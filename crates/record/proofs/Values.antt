@@ -2,14 +2,14 @@
 -- Assumes nothing.
 use Prim.Native.Nat.{ℕ, zero, suc, zero-le, _+_, _%_, _≤_, _<_}
 use mathlib.Core.Path.{_≡_, refl, sym, ap, _∙_}
-use mathlib.Core.Bool.{true, false, or-true}
+use mathlib.Core.Bool.{true, false, cond, or-true}
 use mathlib.Core.List.{List, [], _∷_}
 use native.Mathlib.Omega.{arith}
 use lib.Dec.{T, leb, ltb, eqb, leb→le, lit<}
 use lib.Ieee.{binary64, ofBits}
 use lib.IntN.{ℤ}
 use lib.ListN.{length, getD}
-use borrow.Author.Tests.{lt-ltb, le-leb, ne-eqb, leb-true, eqb-true, ltb-false}
+use borrow.Author.Tests.{lt-ltb, le-ltb, le-leb, ne-eqb, leb-true, eqb-true, ltb-false}
 use Rattle.record.specs.Value.{smallLengths, bodyLength, bodyFits, bigEndian, valueOf, decodeAt}
 use Rattle.record.specs.declared.record.Decoded.the-variants.{Of, Nothing}
 use Rattle.record.specs.declared.record.Length.{Length}
@@ -93,6 +93,12 @@ value-cases P t s at n null int real blob text =
     rw big
     (let ge = ltb-false t 10 big in
     by-test (eqb (t % 2) 0) (λ h. rw h (blob ge)) (λ h. rw h (text ge))))))
+
+-- past the table there are blobs and texts
+pub value-past : (t : ℕ) (s : List ℕ) (at n : ℕ) → 10 ≤ t → valueOf t s at n ≡ cond (eqb (t % 2) 0) (Blob at n) (Text at n)
+unfolding valueOf
+value-past t s at n h =
+    simp (ne-eqb t 0 (λ e. omega arith), le-ltb t 7 (omega arith), ne-eqb t 7 (λ e. omega arith), le-ltb t 10 h)
 
 -- ---- `decodeAt`
 module _ (t : ℕ) (s : List ℕ) (at : ℕ) where

@@ -91,33 +91,30 @@ pub fn body_length(kind: u64) -> Length
     Length::Bytes(((kind - 13) / 2) as usize)
 }
 
-// Of an integer's type: half of what its bytes can say.
-fn half_range(kind: u64) -> u64
-    requires { ⌜ (1 ≤ kind) × (kind ≤ 6) ⌝ }
-    ensures { λ r. ⌜ r + r ≡ 2 ^ (8 * getD smallLengths kind 0) ⌝ }
-{
-    match kind {
-        1 => 0x80,
-        2 => 0x8000,
-        3 => 0x80_0000,
-        4 => 0x8000_0000,
-        5 => 0x8000_0000_0000,
-        _ => 0x8000_0000_0000_0000,
-    }
-}
-
-// The signed number that n bytes are: from half up, v stands for v - 2 * half.
-fn int_at(bytes: &[u8], at: usize, n: usize, half: u64) -> i64
+// The integer that n bytes are: v, less two to its width, `whole`, where the top bit is set.
+fn int_at(bytes: &[u8], at: usize, n: usize, whole: u64) -> i64
     requires { ⌜ at + n ≤ length (now bytes) ⌝ }
-    requires { ⌜ n ≤ 8 ⌝ }
-    requires { ⌜ half + half ≡ 2 ^ (8 * n) ⌝ }
+    requires { ⌜ (1 ≤ n) × (n < 8) × (whole ≡ 2 ^ (8 * n)) ⌝ }
     ensures { λ r. ⌜ r ≡ twosComplement (8 * n) (bigEndian (now (bytes .entry)) at n) ⌝ }
 {
     let v = big_endian(bytes, at, n);
-    if v < half {
+    if v < whole / 2 {
         return v as i64;
     }
-    -1 - ((half - 1 - (v - half)) as i64)
+    v as i64 - whole as i64
+}
+
+// Eight bytes by the same rule, though two to their width fits no word.
+fn long_at(bytes: &[u8], at: usize) -> i64
+    requires { ⌜ at + 8 ≤ length (now bytes) ⌝ }
+    ensures { λ r. ⌜ r ≡ twosComplement (8 * 8) (bigEndian (now (bytes .entry)) at 8) ⌝ }
+{
+    let v = big_endian(bytes, at, 8);
+    if v < 0x8000_0000_0000_0000 {
+        return v as i64;
+    }
+    // v - 2^64
+    -1 - ((0xffff_ffff_ffff_ffff - v) as i64)
 }
 
 // The float of a pattern. `from_bits` is not defined at a NaN's, so that one is made by a division.
@@ -136,22 +133,22 @@ fn value_of(kind: u64, bytes: &[u8], at: usize, n: usize) -> Value
     requires { ⌜ bodyFits kind n (now bytes) at ≡ true ⌝ }
     ensures { λ r. ⌜ r ≡ valueOf kind (now (bytes .entry)) at n ⌝ }
 {
-    if kind == 0 {
-        return Value::Null;
+    match kind {
+        0 => Value::Null,
+        1 => Value::Int(int_at(bytes, at, 1, 0x100)),
+        2 => Value::Int(int_at(bytes, at, 2, 0x1_0000)),
+        3 => Value::Int(int_at(bytes, at, 3, 0x100_0000)),
+        4 => Value::Int(int_at(bytes, at, 4, 0x1_0000_0000)),
+        5 => Value::Int(int_at(bytes, at, 6, 0x1_0000_0000_0000)),
+        6 => Value::Int(long_at(bytes, at)),
+        7 => Value::Real(float_of(big_endian(bytes, at, 8))),
+        8 => Value::Int(0),
+        9 => Value::Int(1),
+        _ => match kind % 2 {
+            0 => Value::Blob { start: at, len: n },
+            _ => Value::Text { start: at, len: n },
+        },
     }
-    if kind < 7 {
-        return Value::Int(int_at(bytes, at, n, half_range(kind)));
-    }
-    if kind == 7 {
-        return Value::Real(float_of(big_endian(bytes, at, n)));
-    }
-    if kind < 10 {
-        return Value::Int((kind - 8) as i64);
-    }
-    if kind % 2 == 0 {
-        return Value::Blob { start: at, len: n };
-    }
-    Value::Text { start: at, len: n }
 }
 
 // Types 0, 8 and 9 have no body, so any place will do.

@@ -1,118 +1,155 @@
--- `record::record::value_of` meets its contract: each way out rewrites `valueOf` by the tests on the way.
+-- `record::record::value_of` meets its contract: at each arm's type `valueOf` computes.
 -- Assumes nothing.
-use Prim.Native.Nat.{_+_, _-_, _^_, _<_, _≤_}
-use mathlib.Core.Path.{_≡_, sym, _∙_, ap}
+use Prim.Native.Nat.{ℕ, zero-le, _+_, _%_, _<_, _≤_}
+use mathlib.Core.Path.{_≡_, refl, sym, _∙_, ap}
+use mathlib.Core.Bool.{cond}
 use native.Mathlib.Omega.{arith}
+use lib.Dec.{eqb, lit<}
 use lib.ListN.{length, getD}
 use lib.Ieee.{binary64, ofBits}
 use denote.Ref.{now}
 use mir.Syntax.{w64}
-use mir.Facts.{toZ-pos, toZ-ofZ}
+use mir.Facts.{toZ-ofZ}
 use borrow.Author.Needs.{needs}
-use borrow.Author.Tests.{lt-ltb, le-ltb, eq-eqb, ne-eqb, leb-true}
+use borrow.Author.Tests.{eq-eqb, ne-eqb, leb-true}
 use Rattle.record.specs.Value.{smallLengths, valueOf}
-use Rattle.record.proofs.Values.{small-length, eight-most, fits-by-place}
+use Rattle.record.specs.declared.record.Value.the-variants.{Text, Blob}
+use Rattle.record.proofs.Values.{small-length, fits-by-place, value-past}
 use Rattle.record.proofs.record.value_of.Statement.{statement}
 use Rattle.record.proofs.record.value_of.Tie as tie
 
--- an integer or a float: its body lies in the slice, and is as long as the table says
-body : (c : tie.Else1) → c .before .before .args .kind < 8 →
-    let a = c .before .before .args in
-    (a .at + a .n ≤ length (now (a .bytes))) × (a .n ≤ 8) × (a .n ≡ getD smallLengths (a .kind) 0)
-body c h =
-    let a = c .before .before .args in
-    let p = c .before .before .pre in
-    let l = small-length (a .kind) (a .n) (omega arith) (p .0) in (
-      leb-true _ _ (sym (fits-by-place _ _ _ _ (c .if1 .left) (λ e. omega arith) (λ e. omega arith)) ∙ p .1),
-      omega (arith, eight-most (a .kind)),
-      l,
-    )
+-- the body of an integer or a float is as long as the table says, and lies in the slice
+module _ (c : tie.After-shared-slice-known) (k : ℕ) (is : c .before .args .kind ≡ k) (some : 0 < k) (number : k < 8) where
+  long : c .before .args .n ≡ getD smallLengths k 0
+  long = small-length _ _ (omega arith) (c .before .pre .0) ∙ ap (λ (t : ℕ). getD smallLengths t 0) is
 
-returns : tie.Need-returns
-unfolding valueOf
-returns c = simp (eq-eqb _ _ (c .if1 .taken))
+  inside : c .before .args .at + getD smallLengths k 0 ≤ length (now (c .before .args .bytes))
+  inside =
+      let p : c .before .args .at + c .before .args .n ≤ length (now (c .before .args .bytes)) = leb-true _ _ (sym (fits-by-place _ _ _ _ (λ e. omega arith) (λ e. omega arith) (λ e. omega arith)) ∙ c .before .pre .1) in
+      rw long at p
 
-half-range-requires : tie.Need-half-range-requires
-half-range-requires c κs = search needs
+-- a type that is none of the table's ten is past them
+past : (k t : ℕ) {P : Type 0} → (P → k ≤ t) → P × (t ≡ k → ⊥) → k + 1 ≤ t
+past k t before p = let h = before (p .0) in let no = p .1 in omega arith
+
+large : (c : tie.At-match-rest) → let a = c .before .before .args in
+    valueOf (a .kind) (now (a .bytes)) (a .at) (a .n) ≡ cond (eqb (a .kind % 2) 0) (Blob (a .at) (a .n)) (Text (a .at) (a .n))
+large c =
+    value-past _ _ _ _
+    (past 9 _ (past 8 _ (past 7 _ (past 6 _ (past 5 _ (past 4 _ (past 3 _ (past 2 _ (past 1 _ (past 0 _ (λ u. zero-le)))))))))) (c .match .rest))
 
 int-at-requires : tie.Need-int-at-requires
-int-at-requires c κs =
-    let b = body (c .before .before) (omega arith) in
-    (b .0, (b .1, rw (b .2) (c .half-range .ensures)))
+int-at-requires c κs = (inside (c .before) 1 (c .match .keys2) (lit< tt) (lit< tt), (lit< tt, lit< tt, refl))
 
-returns-2 : tie.Need-returns-2
-unfolding valueOf
-returns-2 c =
-    let same = toZ-ofZ {w = w64} (record { sfits = c .int-at .ok }) ∙ c .int-at .ensures in
-    simp (same, ne-eqb _ _ (c .before .before .before .if1 .left), lt-ltb _ _ (c .before .before .if2 .taken))
+int-at-requires-2 : tie.Need-int-at-requires-2
+int-at-requires-2 c κs = (inside (c .before) 2 (c .match .keys3) (lit< tt) (lit< tt), (lit< tt, lit< tt, refl))
+
+int-at-requires-3 : tie.Need-int-at-requires-3
+int-at-requires-3 c κs = (inside (c .before) 3 (c .match .keys4) (lit< tt) (lit< tt), (lit< tt, lit< tt, refl))
+
+int-at-requires-4 : tie.Need-int-at-requires-4
+int-at-requires-4 c κs = (inside (c .before) 4 (c .match .keys5) (lit< tt) (lit< tt), (lit< tt, lit< tt, refl))
+
+int-at-requires-5 : tie.Need-int-at-requires-5
+int-at-requires-5 c κs = (inside (c .before) 5 (c .match .keys6) (lit< tt) (lit< tt), (lit< tt, lit< tt, refl))
+
+long-at-requires : tie.Need-long-at-requires
+long-at-requires c κs = inside (c .before) 6 (c .match .keys7) (lit< tt) (lit< tt)
 
 big-endian-requires : tie.Need-big-endian-requires
-big-endian-requires c κs = let b = body (c .before .before) (omega arith) in (b .0, b .1)
+big-endian-requires c κs = (inside (c .before) 7 (c .match .keys8) (lit< tt) (lit< tt), lit< tt)
 
 float-of-requires : tie.Need-float-of-requires
 float-of-requires c κs = search needs
 
+returns : tie.Need-returns
+unfolding valueOf
+returns c = rw (c .match .keys1)
+
+returns-2 : tie.Need-returns-2
+unfolding valueOf
+returns-2 c =
+    let o = c .before in
+    let same = toZ-ofZ {w = w64} (record { sfits = c .int-at .ok }) ∙ c .int-at .ensures in
+    simp (same, o .match .keys2, long (o .before) 1 (o .match .keys2) (lit< tt) (lit< tt))
+
 returns-3 : tie.Need-returns-3
 unfolding valueOf
 returns-3 c =
-    let o = c .before .before in
-    let same = c .float-of .ensures ∙ ap (ofBits binary64) (c .before .big-endian .ensures .0) in
-    simp (same, ne-eqb _ _ (o .before .before .if1 .left), le-ltb _ _ (o .before .if2 .left), eq-eqb _ _ (o .if3 .taken))
-
-sub-t10 : tie.Need-sub-t10
-sub-t10 c = search needs
-
-cast-t11 : tie.Need-cast-t11
-cast-t11 c = search needs
+    let o = c .before in
+    let same = toZ-ofZ {w = w64} (record { sfits = c .int-at2 .ok }) ∙ c .int-at2 .ensures in
+    simp (same, o .match .keys3, long (o .before) 2 (o .match .keys3) (lit< tt) (lit< tt))
 
 returns-4 : tie.Need-returns-4
 unfolding valueOf
 returns-4 c =
-    let k = c .before .before .before .before .before .args .kind in
-    let small : k - 8 < 2 ^ 63 = omega arith in
-    simp (
-      toZ-pos w64 small,
-      ne-eqb _ _ (c .before .before .before .if1 .left),
-      le-ltb _ _ (c .before .before .if2 .left),
-      ne-eqb _ _ (c .before .if3 .left),
-      lt-ltb _ _ (c .if4 .taken),
-    )
+    let o = c .before in
+    let same = toZ-ofZ {w = w64} (record { sfits = c .int-at3 .ok }) ∙ c .int-at3 .ensures in
+    simp (same, o .match .keys4, long (o .before) 3 (o .match .keys4) (lit< tt) (lit< tt))
 
 returns-5 : tie.Need-returns-5
 unfolding valueOf
 returns-5 c =
-    simp (
-      ne-eqb _ _ (c .before .before .before .before .if1 .left),
-      le-ltb _ _ (c .before .before .before .if2 .left),
-      ne-eqb _ _ (c .before .before .if3 .left),
-      le-ltb _ _ (c .before .if4 .left),
-      eq-eqb _ _ (c .if5 .taken),
-    )
+    let o = c .before in
+    let same = toZ-ofZ {w = w64} (record { sfits = c .int-at4 .ok }) ∙ c .int-at4 .ensures in
+    simp (same, o .match .keys5, long (o .before) 4 (o .match .keys5) (lit< tt) (lit< tt))
 
 returns-6 : tie.Need-returns-6
 unfolding valueOf
 returns-6 c =
-    simp (
-      ne-eqb _ _ (c .before .before .before .before .if1 .left),
-      le-ltb _ _ (c .before .before .before .if2 .left),
-      ne-eqb _ _ (c .before .before .if3 .left),
-      le-ltb _ _ (c .before .if4 .left),
-      ne-eqb _ _ (c .if5 .left),
-    )
+    let o = c .before in
+    let same = toZ-ofZ {w = w64} (record { sfits = c .int-at5 .ok }) ∙ c .int-at5 .ensures in
+    simp (same, o .match .keys6, long (o .before) 5 (o .match .keys6) (lit< tt) (lit< tt))
+
+returns-7 : tie.Need-returns-7
+unfolding valueOf
+returns-7 c =
+    let o = c .before in
+    let same = toZ-ofZ {w = w64} (record { sfits = c .long-at .ok }) ∙ c .long-at .ensures in
+    simp (same, o .match .keys7, long (o .before) 6 (o .match .keys7) (lit< tt) (lit< tt))
+
+returns-8 : tie.Need-returns-8
+unfolding valueOf
+returns-8 c =
+    let o = c .before .before in
+    let same = c .float-of .ensures ∙ ap (ofBits binary64) (c .before .big-endian .ensures .0) in
+    simp (same, o .match .keys8, long (o .before) 7 (o .match .keys8) (lit< tt) (lit< tt))
+
+returns-9 : tie.Need-returns-9
+unfolding valueOf
+returns-9 c = rw (c .match .keys9)
+
+returns-10 : tie.Need-returns-10
+unfolding valueOf
+returns-10 c = rw (c .match .keys10)
+
+returns-11 : tie.Need-returns-11
+returns-11 c = simp (large (c .before), eq-eqb _ 0 (c .match2 .keys1))
+
+returns-12 : tie.Need-returns-12
+returns-12 c = simp (large (c .before), ne-eqb _ 0 (c .match2 .rest .1))
 
 pub value-of-spec : {M : Type 1} → statement M
 value-of-spec =
     tie.close
     (tie.spec
-    returns
-    half-range-requires
     int-at-requires
-    returns-2
+    int-at-requires-2
+    int-at-requires-3
+    int-at-requires-4
+    int-at-requires-5
+    long-at-requires
     big-endian-requires
     float-of-requires
+    returns
+    returns-2
     returns-3
-    sub-t10
-    cast-t11
     returns-4
     returns-5
-    returns-6)
+    returns-6
+    returns-7
+    returns-8
+    returns-9
+    returns-10
+    returns-11
+    returns-12)

@@ -236,14 +236,21 @@ fn statements(all: &mut Vec<Measure>) {
     }
 }
 
+/// Every type of an integer that has a body.
+const INTEGERS: [(&str, u64); 6] = [("1 byte", 1), ("2 bytes", 2), ("3 bytes", 3), ("4 bytes", 4), ("6 bytes", 5), ("8 bytes", 6)];
+
 fn values(all: &mut Vec<Measure>) {
     for name in ["text", "random", "high"] {
         let kind = kind(name);
         add(all, READ_VARINT, format!("{name}/64K"), move || every_offset(READ_VARINT, &[0], kind));
     }
-    for (name, kind) in [("1 byte", 1), ("8 bytes", 6), ("a real", 7), ("20 letters", 53), ("20-byte blob", 52)] {
+    for (name, kind) in INTEGERS {
+        add(all, DECODE, format!("{name} below 0/64K"), move || every_offset(DECODE, &[kind, 0], Kind::High));
+    }
+    let others = [("a real", 7), ("20 letters", 53), ("20-byte blob", 52)];
+    for (name, kind) in INTEGERS.into_iter().chain(others) {
         add(all, DECODE, format!("{name}/64K"), move || every_offset(DECODE, &[kind, 0], Kind::Text));
-        let length = if kind > 11 { (kind - 12) / 2 } else { [0, 1, 0, 0, 0, 0, 8, 8][kind as usize] };
+        let length = if kind > 11 { (kind - 12) / 2 } else { [0, 1, 2, 3, 4, 6, 8, 8][kind as usize] };
         add(all, READ_ENTRY, format!("{name}/64K"), move || {
             let work = every_offset(READ_ENTRY, &[0, kind, 0, length], Kind::Text);
             Work { values: 0..work.values.end - length, ..work }

@@ -5,9 +5,9 @@ use mathlib.Core.Path.{_≡_, refl}
 use mathlib.Core.Bool.{true, false}
 use mathlib.Core.List.{List, [], _∷_, _++_, map}
 use lib.Count.{leadingZeros}
-use lib.IntN.{pos, negsuc}
+use lib.IntN.{ℤ, pos, negℤ}
 use lib.Ieee.{nan, inf, fin, ofBits}
-use lib.ListN.{replicate}
+use lib.ListN.{length, replicate}
 use Rattle.record.specs.Entry.{badWithin, readEntry}
 use Rattle.record.specs.Value.{bodyLength, bigEndian, twosComplement, valueOf, bodyFits, decodeAt}
 use Rattle.record.specs.Varint.{widthOf, varintFrom, varintAt, readVarint}
@@ -44,16 +44,13 @@ computed (entry e s a) = seen (readEntry e s)
 unfoldable pub words : ℕ → ℕ → ℕ → ℕ → Entry
 words a b c d = record { state = a; kind = b; start = c; len = d }
 
--- marked P
+-- marked P, but for those on integers
 unfoldable pub marked : List Case
 marked =
     varint (0x81 ∷ 0x00 ∷ []) (Number 128 2 false)
     ∷ varint (0x80 ∷ 0x02 ∷ []) (Number 2 2 true)
     ∷ varint (replicate 9 0xff) (Number (2 ^ 64 - 1) 9 false)
     ∷ varint (0x81 ∷ []) None
-    ∷ value 1 (0x80 ∷ []) (Of (Int (negsuc 127)) 1)
-    ∷ value 3 (0x80 ∷ 0 ∷ 0 ∷ []) (Of (Int (negsuc 8388607)) 3)
-    ∷ value 5 (0xff ∷ 0xff ∷ 0xff ∷ 0xff ∷ 0xff ∷ 0xfe ∷ []) (Of (Int (negsuc 1)) 6)
     ∷ value 10 (0 ∷ 0 ∷ 0 ∷ []) Nothing
     ∷ []
 
@@ -64,10 +61,6 @@ worked =
     ∷ varint (replicate 8 0x80 ++ (0xff ∷ [])) (Number 255 9 true)
     ∷ varint (replicate 8 0xff) None
     ∷ value 0 [] (Of Null 0)
-    ∷ value 2 (0x7f ∷ 0xff ∷ []) (Of (Int (pos 32767)) 2)
-    ∷ value 4 (0x80 ∷ 0 ∷ 0 ∷ 0 ∷ []) (Of (Int (negsuc 2147483647)) 4)
-    ∷ value 6 (replicate 8 0xff) (Of (Int (negsuc 0)) 8)
-    ∷ value 6 (0x80 ∷ replicate 7 0) (Of (Int (negsuc 9223372036854775807)) 8)
     ∷ value 7 (0x3f ∷ 0xf0 ∷ replicate 6 0) (Of (Real (fin false 1 (pos 0))) 8)
     ∷ value 7 (0xff ∷ 0xf0 ∷ replicate 6 0) (Of (Real (inf true)) 8)
     ∷ value 7 (0x7f ∷ 0xf0 ∷ 0 ∷ 0 ∷ 0 ∷ 0 ∷ 0 ∷ 1 ∷ []) (Of (Real nan) 8)
@@ -78,6 +71,43 @@ worked =
     ∷ value 17 (0x68 ∷ 0x69 ∷ []) (Of (Text 0 2) 2)
     ∷ value 18 (1 ∷ 2 ∷ []) Nothing
     ∷ value 2 (0x80 ∷ []) Nothing
+    ∷ []
+
+-- an integer that takes all of the bytes
+unfoldable pub int : ℕ → List ℕ → ℤ → Case
+int t s z = value t s (Of (Int z) (length s))
+
+unfoldable pub minus : ℕ → ℤ
+minus n = negℤ (pos n)
+
+-- of every width the lowest value, -1, 0 and the highest, and -2 of six bytes; this and the lowest of one and of three bytes are marked P
+unfoldable pub integers : List Case
+integers =
+    int 1 (0x80 ∷ []) (minus 128)
+    ∷ int 1 (0xff ∷ []) (minus 1)
+    ∷ int 1 (0x00 ∷ []) (pos 0)
+    ∷ int 1 (0x7f ∷ []) (pos 127)
+    ∷ int 2 (0x80 ∷ 0x00 ∷ []) (minus 32768)
+    ∷ int 2 (replicate 2 0xff) (minus 1)
+    ∷ int 2 (replicate 2 0x00) (pos 0)
+    ∷ int 2 (0x7f ∷ 0xff ∷ []) (pos 32767)
+    ∷ int 3 (0x80 ∷ replicate 2 0x00) (minus 8388608)
+    ∷ int 3 (replicate 3 0xff) (minus 1)
+    ∷ int 3 (replicate 3 0x00) (pos 0)
+    ∷ int 3 (0x7f ∷ replicate 2 0xff) (pos 8388607)
+    ∷ int 4 (0x80 ∷ replicate 3 0x00) (minus 2147483648)
+    ∷ int 4 (replicate 4 0xff) (minus 1)
+    ∷ int 4 (replicate 4 0x00) (pos 0)
+    ∷ int 4 (0x7f ∷ replicate 3 0xff) (pos 2147483647)
+    ∷ int 5 (0x80 ∷ replicate 5 0x00) (minus 140737488355328)
+    ∷ int 5 (replicate 5 0xff ++ (0xfe ∷ [])) (minus 2)
+    ∷ int 5 (replicate 6 0xff) (minus 1)
+    ∷ int 5 (replicate 6 0x00) (pos 0)
+    ∷ int 5 (0x7f ∷ replicate 5 0xff) (pos 140737488355327)
+    ∷ int 6 (0x80 ∷ replicate 7 0x00) (minus 9223372036854775808)
+    ∷ int 6 (replicate 8 0xff) (minus 1)
+    ∷ int 6 (replicate 8 0x00) (pos 0)
+    ∷ int 6 (0x7f ∷ replicate 7 0xff) (pos 9223372036854775807)
     ∷ []
 
 -- numbers that are padded and that are not: of each width the first and the last in the bytes that they need, written out
@@ -130,8 +160,8 @@ entries =
     ∷ []
 
 unfoldable pub cases : List Case
-cases = marked ++ worked ++ shortest ++ longer ++ entries
+cases = marked ++ worked ++ integers ++ shortest ++ longer ++ entries
 
 pub table : map computed cases ≡ map expected cases
-unfolding cases marked worked shortest longer entries words computed expected readVarint varintAt varintFrom widthOf leadingZeros decodeAt bodyFits bodyLength valueOf twosComplement bigEndian ofBits readEntry badWithin
+unfolding cases marked worked integers int minus shortest longer entries words computed expected readVarint varintAt varintFrom widthOf leadingZeros decodeAt bodyFits bodyLength valueOf twosComplement bigEndian ofBits readEntry badWithin
 table = refl

@@ -1,16 +1,16 @@
 -- The cases of the definitions on values, each from facts on the numbers.
 -- Assumes nothing.
-use Prim.Native.Nat.{ℕ, zero, suc, zero-le, _+_, _%_, _≤_, _<_}
+use Prim.Native.Nat.{ℕ, zero, suc, _+_, _*_, _%_, _≤_, _<_}
 use mathlib.Core.Path.{_≡_, refl, sym, ap, _∙_}
 use mathlib.Core.Bool.{true, false, cond, or-true}
-use mathlib.Core.List.{List, [], _∷_}
+use mathlib.Core.List.{List}
 use native.Mathlib.Omega.{arith}
-use lib.Dec.{T, leb, ltb, eqb, leb→le, lit<}
+use lib.Dec.{leb, ltb, eqb, lit<}
 use lib.Ieee.{binary64, ofBits}
 use lib.IntN.{ℤ}
 use lib.ListN.{length, getD}
 use borrow.Author.Tests.{lt-ltb, le-ltb, le-leb, ne-eqb, leb-true, eqb-true, ltb-false}
-use Rattle.record.specs.Value.{smallLengths, bodyLength, bodyFits, bigEndian, valueOf, decodeAt}
+use Rattle.record.specs.Value.{smallLengths, bodyLength, bodyFits, bigEndian, twosComplement, valueOf, decodeAt}
 use Rattle.record.specs.declared.record.Decoded.the-variants.{Of, Nothing}
 use Rattle.record.specs.declared.record.Length.{Length}
 use Rattle.record.specs.declared.record.Length.the-variants.{Bytes, Reserved}
@@ -18,7 +18,7 @@ use Rattle.record.specs.declared.record.Value.{Value}
 use Rattle.record.specs.declared.record.Value.the-variants.{Null, Int, Real, Text, Blob}
 use Rattle.record.proofs.Numbers.{by-order, by-test}
 
--- types below 10 are as long as the table says, which is at most 8
+-- types below 10 are as long as the table says
 pub small-length : (t n : ℕ) → t < 10 → bodyLength t ≡ Bytes n → n ≡ getD smallLengths t 0
 unfolding bodyLength
 small-length t n h e = let z : Bytes (getD smallLengths t 0) ≡ Bytes n = simp (lt-ltb t 10 h) at e in cc
@@ -37,18 +37,6 @@ six-seven t lo hi = by-order t 7 (λ lt. let e : t ≡ 6 = omega arith in rw e) 
 
 pub eight-nine : (t : ℕ) → 8 ≤ t → t < 10 → _≡_ {A = ℕ} 0 (getD smallLengths t 0)
 eight-nine t lo hi = by-order t 9 (λ lt. let e : t ≡ 8 = omega arith in rw e) (λ ge. let e : t ≡ 9 = omega arith in rw e)
-
-abbrev AllMost : ℕ → List ℕ → Type 0
-AllMost m [] = Unit
-AllMost m (x ∷ xs) = T (leb x m) × AllMost m xs
-
-all-most : (m : ℕ) (l : List ℕ) (i : ℕ) → AllMost m l → getD l i 0 ≤ m
-all-most m [] i a = zero-le
-all-most m (x ∷ xs) zero a = leb→le x m (a .0)
-all-most m (x ∷ xs) (suc i) a = all-most m xs i (a .1)
-
-pub eight-most : (t : ℕ) → getD smallLengths t 0 ≤ 8
-eight-most t = all-most 8 smallLengths t (tt, (tt, (tt, (tt, (tt, (tt, (tt, (tt, (tt, (tt, tt))))))))))
 
 -- ---- `bodyFits`
 module _ (t n : ℕ) (s : List ℕ) (at : ℕ) where
@@ -93,6 +81,11 @@ value-cases P t s at n null int real blob text =
     rw big
     (let ge = ltb-false t 10 big in
     by-test (eqb (t % 2) 0) (λ h. rw h (blob ge)) (λ h. rw h (text ge))))))
+
+-- the types 1 to 6 are integers
+pub value-integer : (t : ℕ) (s : List ℕ) (at n : ℕ) → 0 < t → t < 7 → valueOf t s at n ≡ Int (twosComplement (8 * n) (bigEndian s at n))
+unfolding valueOf
+value-integer t s at n some h = simp (ne-eqb t 0 (λ e. omega arith), lt-ltb t 7 h)
 
 -- past the table there are blobs and texts
 pub value-past : (t : ℕ) (s : List ℕ) (at n : ℕ) → 10 ≤ t → valueOf t s at n ≡ cond (eqb (t % 2) 0) (Blob at n) (Text at n)

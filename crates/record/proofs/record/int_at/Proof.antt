@@ -1,12 +1,12 @@
--- `record::record::int_at` meets its contract: below half of two to the width the number is v, and from there up v less that.
+-- `record::record::int_at` meets its contract: below half of `whole` the number is v, and from there up v - whole.
 -- Assumes nothing.
-use Prim.Native.Nat.{ℕ, suc, _+_, _-_, _*_, _/_, _^_, _<_, _≤_}
+use Prim.Native.Nat.{suc, _-_, _*_, _^_, _<_, _≤_}
 use mathlib.Core.Path.{_≡_, sym, _∙_, ap}
 use native.Mathlib.Omega.{arith}
 use lib.IntN.{negsuc, _-ℤ_}
 use lib.Pow.{pow-mono}
 use mir.Syntax.{w64}
-use mir.Val.{SFits, toZ}
+use mir.Val.{toZ}
 use mir.Facts.{toZ-pos, toZ-ofZ}
 use borrow.Author.Needs.{needs}
 use Rattle.record.specs.Value.{twosComplement}
@@ -20,7 +20,7 @@ limit c =
     let p : 2 ^ (8 * c .before .before .args .n) ≤ 2 ^ 56 = pow-mono {j = 56} (omega arith) in
     (omega (arith, c .big-endian .ensures .1), omega arith)
 
--- what a negative number has in the machine
+-- v - whole, as the machine takes it
 negative : (c : tie.Else1) → let v = c .before .big-endian .result in let w = c .before .before .before .args .whole in
     toZ w64 v -ℤ toZ w64 w ≡ negsuc (w - suc v)
 negative c =

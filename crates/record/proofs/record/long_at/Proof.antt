@@ -1,12 +1,12 @@
--- `record::record::long_at` meets its contract.
+-- `record::record::long_at` meets its contract: from half of 2^64 up, -1 - (2^64 - 1 - v) is v - 2^64.
 -- Assumes nothing.
-use Prim.Native.Nat.{ℕ, suc, _+_, _-_, _*_, _^_, _<_, _≤_}
+use Prim.Native.Nat.{suc, _-_, _^_, _<_}
 use mathlib.Core.Path.{_≡_, refl, sym, _∙_, ap}
 use native.Mathlib.Omega.{arith}
 use lib.Dec.{lit<}
 use lib.IntN.{ℤ, negsuc, _-ℤ_}
 use mir.Syntax.{w64}
-use mir.Val.{SFits, toZ}
+use mir.Val.{toZ}
 use mir.Facts.{toZ-pos, toZ-ofZ}
 use borrow.Author.Needs.{needs}
 use Rattle.record.specs.Value.{twosComplement}
@@ -14,7 +14,6 @@ use Rattle.record.proofs.Numbers.{minus-one, below-half, from-half}
 use Rattle.record.proofs.record.long_at.Statement.{statement}
 use Rattle.record.proofs.record.long_at.Tie as tie
 
--- -1 - (2^64 - 1 - v) is v - 2^64
 rest-small : (c : tie.Else1) → 2 ^ 64 - 1 - c .before .big-endian .result < 2 ^ 63
 rest-small c = omega (arith, c .if1 .left)
 

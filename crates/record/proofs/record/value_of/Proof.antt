@@ -1,34 +1,45 @@
--- `record::record::value_of` meets its contract: at each arm's type `valueOf` computes.
+-- `record::record::value_of` meets its contract: of a number's type the body is as long as the table says and lies in the slice, and past the table there are blobs and texts.
 -- Assumes nothing.
-use Prim.Native.Nat.{ℕ, zero-le, _+_, _%_, _<_, _≤_}
+use Prim.Native.Nat.{ℕ, zero-le, _+_, _*_, _%_, _<_, _≤_}
 use mathlib.Core.Path.{_≡_, refl, sym, _∙_, ap}
 use mathlib.Core.Bool.{cond}
 use native.Mathlib.Omega.{arith}
 use lib.Dec.{eqb, lit<}
+use lib.IntN.{ℤ}
 use lib.ListN.{length, getD}
 use lib.Ieee.{binary64, ofBits}
 use denote.Ref.{now}
 use mir.Syntax.{w64}
+use mir.Val.{SFits, toZ, ofZ}
 use mir.Facts.{toZ-ofZ}
 use borrow.Author.Needs.{needs}
 use borrow.Author.Tests.{eq-eqb, ne-eqb, leb-true}
-use Rattle.record.specs.Value.{smallLengths, valueOf}
-use Rattle.record.specs.declared.record.Value.the-variants.{Text, Blob}
-use Rattle.record.proofs.Values.{small-length, fits-by-place, value-past}
+use Rattle.record.specs.Value.{smallLengths, bigEndian, twosComplement, valueOf}
+use Rattle.record.specs.declared.record.Value.the-variants.{Int, Text, Blob}
+use Rattle.record.proofs.Values.{small-length, fits-by-place, value-integer, value-past}
 use Rattle.record.proofs.record.value_of.Statement.{statement}
 use Rattle.record.proofs.record.value_of.Tie as tie
 
--- the body of an integer or a float is as long as the table says, and lies in the slice
+-- of the types 1 to 7
 module _ (c : tie.After-shared-slice-known) (k : ℕ) (is : c .before .args .kind ≡ k) (some : 0 < k) (number : k < 8) where
   long : c .before .args .n ≡ getD smallLengths k 0
   long = small-length _ _ (omega arith) (c .before .pre .0) ∙ ap (λ (t : ℕ). getD smallLengths t 0) is
 
   inside : c .before .args .at + getD smallLengths k 0 ≤ length (now (c .before .args .bytes))
   inside =
-      let p : c .before .args .at + c .before .args .n ≤ length (now (c .before .args .bytes)) = leb-true _ _ (sym (fits-by-place _ _ _ _ (λ e. omega arith) (λ e. omega arith) (λ e. omega arith)) ∙ c .before .pre .1) in
-      rw long at p
+      let placed = fits-by-place (c .before .args .kind) _ _ _ (λ e. omega arith) (λ e. omega arith) (λ e. omega arith) in
+      rw long at (leb-true (c .before .args .at + c .before .args .n) _ (sym placed ∙ c .before .pre .1))
 
--- a type that is none of the table's ten is past them
+  -- of the types 1 to 6: a signed word holds the number
+  integer : k < 7 → (z : ℤ) → SFits w64 z →
+      let a = c .before .args in
+      let n = getD smallLengths k 0 in
+      z ≡ twosComplement (8 * n) (bigEndian (now (a .bytes)) (a .at) n) → Int (toZ w64 (ofZ w64 z)) ≡ valueOf (a .kind) (now (a .bytes)) (a .at) (a .n)
+  integer small z fits e =
+      ap Int (toZ-ofZ fits ∙ e ∙ ap (λ (n : ℕ). twosComplement (8 * n) (bigEndian (now (c .before .args .bytes)) (c .before .args .at) n)) (sym long))
+      ∙ sym (value-integer _ _ _ _ (omega arith) (omega arith))
+
+-- a type that is none of those before k, and not k
 past : (k t : ℕ) {P : Type 0} → (P → k ≤ t) → P × (t ≡ k → ⊥) → k + 1 ≤ t
 past k t before p = let h = before (p .0) in let no = p .1 in omega arith
 
@@ -67,46 +78,28 @@ unfolding valueOf
 returns c = rw (c .match .keys1)
 
 returns-2 : tie.Need-returns-2
-unfolding valueOf
 returns-2 c =
-    let o = c .before in
-    let same = toZ-ofZ {w = w64} (record { sfits = c .int-at .ok }) ∙ c .int-at .ensures in
-    simp (same, o .match .keys2, long (o .before) 1 (o .match .keys2) (lit< tt) (lit< tt))
+    integer (c .before .before) 1 (c .before .match .keys2) (lit< tt) (lit< tt) (lit< tt) _ (record { sfits = c .int-at .ok }) (c .int-at .ensures)
 
 returns-3 : tie.Need-returns-3
-unfolding valueOf
 returns-3 c =
-    let o = c .before in
-    let same = toZ-ofZ {w = w64} (record { sfits = c .int-at2 .ok }) ∙ c .int-at2 .ensures in
-    simp (same, o .match .keys3, long (o .before) 2 (o .match .keys3) (lit< tt) (lit< tt))
+    integer (c .before .before) 2 (c .before .match .keys3) (lit< tt) (lit< tt) (lit< tt) _ (record { sfits = c .int-at2 .ok }) (c .int-at2 .ensures)
 
 returns-4 : tie.Need-returns-4
-unfolding valueOf
 returns-4 c =
-    let o = c .before in
-    let same = toZ-ofZ {w = w64} (record { sfits = c .int-at3 .ok }) ∙ c .int-at3 .ensures in
-    simp (same, o .match .keys4, long (o .before) 3 (o .match .keys4) (lit< tt) (lit< tt))
+    integer (c .before .before) 3 (c .before .match .keys4) (lit< tt) (lit< tt) (lit< tt) _ (record { sfits = c .int-at3 .ok }) (c .int-at3 .ensures)
 
 returns-5 : tie.Need-returns-5
-unfolding valueOf
 returns-5 c =
-    let o = c .before in
-    let same = toZ-ofZ {w = w64} (record { sfits = c .int-at4 .ok }) ∙ c .int-at4 .ensures in
-    simp (same, o .match .keys5, long (o .before) 4 (o .match .keys5) (lit< tt) (lit< tt))
+    integer (c .before .before) 4 (c .before .match .keys5) (lit< tt) (lit< tt) (lit< tt) _ (record { sfits = c .int-at4 .ok }) (c .int-at4 .ensures)
 
 returns-6 : tie.Need-returns-6
-unfolding valueOf
 returns-6 c =
-    let o = c .before in
-    let same = toZ-ofZ {w = w64} (record { sfits = c .int-at5 .ok }) ∙ c .int-at5 .ensures in
-    simp (same, o .match .keys6, long (o .before) 5 (o .match .keys6) (lit< tt) (lit< tt))
+    integer (c .before .before) 5 (c .before .match .keys6) (lit< tt) (lit< tt) (lit< tt) _ (record { sfits = c .int-at5 .ok }) (c .int-at5 .ensures)
 
 returns-7 : tie.Need-returns-7
-unfolding valueOf
 returns-7 c =
-    let o = c .before in
-    let same = toZ-ofZ {w = w64} (record { sfits = c .long-at .ok }) ∙ c .long-at .ensures in
-    simp (same, o .match .keys7, long (o .before) 6 (o .match .keys7) (lit< tt) (lit< tt))
+    integer (c .before .before) 6 (c .before .match .keys7) (lit< tt) (lit< tt) (lit< tt) _ (record { sfits = c .long-at .ok }) (c .long-at .ensures)
 
 returns-8 : tie.Need-returns-8
 unfolding valueOf

@@ -46,6 +46,7 @@ fn integers() -> Vec<Worked> {
         all.push(decode(format!("{width}: the smallest"), kind, number(0x80, 0), 0));
         all.push(decode(format!("{width}: the largest"), kind, number(0x7F, 0xFF), 0));
         all.push(decode(format!("{width}: -1"), kind, number(0xFF, 0xFF), 0));
+        all.push(decode(format!("{width}: 0"), kind, number(0, 0), 0));
     }
     all
 }

@@ -100,14 +100,19 @@ fn learned(all: &mut Vec<Measure>) {
             });
         }
     }
+    let work = |width: usize, entries: Vec<u64>| {
+        let case = Case::new(LEARN, &[width as u64], &[&rows::bytes()], &[width]);
+        Work::once(case.with_words(&[&entries]))
+    };
     for width in [5, 126, MOST_COLUMNS] {
-        let work = move |entries: Vec<u64>| {
-            let case = Case::new(LEARN, &[width as u64], &[&rows::bytes()], &[width]);
-            Work::once(case.with_words(&[&entries]))
-        };
-        add(all, LEARN, format!("one type/1024 rows of {width}"), move || work(rows::one_type(width)));
-        add(all, LEARN, format!("two types/1024 rows of {width}"), move || work(rows::two_types(width)));
-        add(all, LEARN, format!("1023 types/1024 rows of {width}"), move || work(rows::many_types(width)));
+        add(all, LEARN, format!("one type/1024 rows of {width}"), move || work(width, rows::one_type(width)));
+        add(all, LEARN, format!("two types/1024 rows of {width}"), move || work(width, rows::two_types(width)));
+        add(all, LEARN, format!("1023 types/1024 rows of {width}"), move || work(width, rows::many_types(width)));
+    }
+    for (name, kind) in INTEGERS {
+        add(all, LEARN, format!("{name}/1024 rows of 5"), move || {
+            work(5, rows::numbers(5, kind, LENGTHS[kind as usize]))
+        });
     }
 }
 
@@ -236,8 +241,11 @@ fn statements(all: &mut Vec<Measure>) {
     }
 }
 
+/// The bytes of the types 0 to 7.
+const LENGTHS: [u64; 8] = [0, 1, 2, 3, 4, 6, 8, 8];
 /// Every type of an integer that has a body.
-const INTEGERS: [(&str, u64); 6] = [("1 byte", 1), ("2 bytes", 2), ("3 bytes", 3), ("4 bytes", 4), ("6 bytes", 5), ("8 bytes", 6)];
+const INTEGERS: [(&str, u64); 6] =
+    [("1 byte", 1), ("2 bytes", 2), ("3 bytes", 3), ("4 bytes", 4), ("6 bytes", 5), ("8 bytes", 6)];
 
 fn values(all: &mut Vec<Measure>) {
     for name in ["text", "random", "high"] {
@@ -250,7 +258,7 @@ fn values(all: &mut Vec<Measure>) {
     let others = [("a real", 7), ("20 letters", 53), ("20-byte blob", 52)];
     for (name, kind) in INTEGERS.into_iter().chain(others) {
         add(all, DECODE, format!("{name}/64K"), move || every_offset(DECODE, &[kind, 0], Kind::Text));
-        let length = if kind > 11 { (kind - 12) / 2 } else { [0, 1, 2, 3, 4, 6, 8, 8][kind as usize] };
+        let length = if kind > 11 { (kind - 12) / 2 } else { LENGTHS[kind as usize] };
         add(all, READ_ENTRY, format!("{name}/64K"), move || {
             let work = every_offset(READ_ENTRY, &[0, kind, 0, length], Kind::Text);
             Work { values: 0..work.values.end - length, ..work }

@@ -16,6 +16,11 @@ fn entries(width: usize, length: impl Fn(usize) -> u64) -> Vec<u64> {
     (0..ROWS).flat_map(|i| entry(i).repeat(width)).collect()
 }
 
+/// A number of one type in every column, of so many bytes.
+pub fn numbers(width: usize, kind: u64, length: u64) -> Vec<u64> {
+    [BODY, kind, 0, length].repeat(width * ROWS)
+}
+
 pub fn one_type(width: usize) -> Vec<u64> {
     entries(width, |_| 20)
 }

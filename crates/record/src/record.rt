@@ -91,7 +91,7 @@ pub fn body_length(kind: u64) -> Length
     Length::Bytes(((kind - 13) / 2) as usize)
 }
 
-// The integer that n bytes are: v, less two to its width, `whole`, where the top bit is set.
+// The integer that n bytes are: their number, less two to the width, `whole`, where the top bit is set.
 fn int_at(bytes: &[u8], at: usize, n: usize, whole: u64) -> i64
     requires { ⌜ at + n ≤ length (now bytes) ⌝ }
     requires { ⌜ (1 ≤ n) × (n < 8) × (whole ≡ 2 ^ (8 * n)) ⌝ }
@@ -107,7 +107,7 @@ fn int_at(bytes: &[u8], at: usize, n: usize, whole: u64) -> i64
 // Eight bytes by the same rule, though two to their width fits no word.
 fn long_at(bytes: &[u8], at: usize) -> i64
     requires { ⌜ at + 8 ≤ length (now bytes) ⌝ }
-    ensures { λ r. ⌜ r ≡ twosComplement (8 * 8) (bigEndian (now (bytes .entry)) at 8) ⌝ }
+    ensures { λ r. ⌜ r ≡ twosComplement 64 (bigEndian (now (bytes .entry)) at 8) ⌝ }
 {
     let v = big_endian(bytes, at, 8);
     if v < 0x8000_0000_0000_0000 {

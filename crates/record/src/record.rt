@@ -127,7 +127,7 @@ fn float_of(pattern: u64) -> f64
     f64::from_bits(pattern)
 }
 
-// The value of a type whose body is the n bytes at `at`.
+// The value of a type whose body is the n bytes at `at`. An integer's bytes are counted beside two to their width.
 fn value_of(kind: u64, bytes: &[u8], at: usize, n: usize) -> Value
     requires { ⌜ bodyLength kind ≡ Bytes n ⌝ }
     requires { ⌜ bodyFits kind n (now bytes) at ≡ true ⌝ }

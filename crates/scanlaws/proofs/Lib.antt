@@ -1,1 +1,4 @@
+pub mod Asking
+pub mod Folds
+pub mod Resuming
 pub mod Room

@@ -1,4 +1,5 @@
--- A region with room for as many rows as it has bytes is scanned to its end: each row takes two bytes at least, so no row finds no room.
+-- How much room is enough: with room for as many rows as a region has bytes its scan is through, since each row takes two bytes at least; and a
+-- scan that is through is the same with more room.
 -- Assumes nothing.
 use Prim.Native.Nat.{ℕ, zero, suc, _+_, _-_, _≤_, _<_}
 use mathlib.Core.Path.{_≡_, refl, sym, ap, _∙_}
@@ -9,7 +10,10 @@ use Rattle.attempt.proofs.Laws.{hit-takes}
 use Rattle.attempt.specs.Attempt.{Tried, miss, hit, attemptAt}
 use Rattle.record.proofs.Numbers.{by-order}
 use Rattle.scan.proofs.Laws.{scan-none, scan-missed, scan-found, scan-end}
-use Rattle.scan.specs.Scan.{Run, missed, found, scanFrom, runNumber}
+use Rattle.scan.specs.Scan.{Run, scanFrom, runPlace, runNumber}
+use Rattle.scanlaws.proofs.Folds.{joined-through, through-place}
+use Rattle.scanlaws.proofs.Resuming.{run, run-end, resumes}
+use Rattle.scanlaws.specs.Joined.{joined}
 
 module _ (s hints : List ℕ) where
   -- no more rows than bytes were passed
@@ -24,25 +28,19 @@ module _ (s hints : List ℕ) where
       go lt (hit x) e rest =
           rw (scan-found f s hints (length s) o n lt x e (omega arith)) (rest (o + x .consumed) (n + 1) (omega (arith, hit-takes s hints o x e .0)))
 
-  -- THE LAW: the run of a region is through
-  pub roomy : runNumber (scanFrom (length s) s hints (length s) 0 0) ≡ 0
-  roomy = goes (length s) 0 0 (omega arith)
+  -- THE LAW: with so much room a run is through
+  pub roomy : (start : ℕ) → runNumber (run s hints (length s) start) ≡ 0
+  roomy start = goes (length s) start 0 (omega arith)
 
-  same : (room f o n : ℕ) → length s ≤ room → n ≤ o → scanFrom f s hints room o n ≡ scanFrom f s hints (length s) o n
-  same room zero o n r h = scan-none s hints room o n ∙ sym (scan-none s hints (length s) o n)
-  same room (suc f) o n r h =
-      by-order o (length s - 2) (λ lt. go lt (attemptAt s hints o) refl (λ o′ n′ h′. same room f o′ n′ r h′))
-      (λ ge. scan-end (suc f) s hints room o n ge ∙ sym (scan-end (suc f) s hints (length s) o n ge))
-    where
-      go : o < length s - 2 → (t : Tried) → attemptAt s hints o ≡ t → ((o′ n′ : ℕ) → n′ ≤ o′ → scanFrom f s hints room o′ n′ ≡ scanFrom f s hints (length s) o′ n′)
-          → scanFrom (suc f) s hints room o n ≡ scanFrom (suc f) s hints (length s) o n
-      go lt miss e rest =
-          scan-missed f s hints room o n lt e ∙ ap (λ (t : Run). missed o t) (rest (o + 1) n (omega arith)) ∙ sym (scan-missed f s hints (length s) o n lt e)
-      go lt (hit x) e rest =
-          scan-found f s hints room o n lt x e (omega arith)
-          ∙ ap (λ (t : Run). found o x t) (rest (o + x .consumed) (n + 1) (omega (arith, hit-takes s hints o x e .0)))
-          ∙ sym (scan-found f s hints (length s) o n lt x e (omega arith))
+  -- THE LAW: and one that is through is the same with more
+  pub more-room : (a b start : ℕ) → runNumber (run s hints a start) ≡ 0 → run s hints (a + b) start ≡ run s hints a start
+  more-room a b start e =
+      let t = run s hints a start in
+      resumes s hints a b start
+      ∙ ap (λ (u : Run). joined t u) (run-end s hints b (runPlace (length s) t) (omega (arith, through-place (length s) t e)))
+      ∙ joined-through t e
 
-  -- THE LAW: and more room makes no other
-  pub any-room : (room : ℕ) → length s ≤ room → scanFrom (length s) s hints room 0 0 ≡ scanFrom (length s) s hints (length s) 0 0
-  any-room room r = same room (length s) 0 0 r (omega arith)
+  pub any-room : (room start : ℕ) → length s ≤ room → run s hints room start ≡ run s hints (length s) start
+  any-room room start h =
+      let is : room ≡ length s + (room - length s) = omega arith in
+      rw is (more-room (length s) (room - length s) start (roomy start))

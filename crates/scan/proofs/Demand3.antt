@@ -19,10 +19,10 @@ use Rattle.scan.proofs.schema_sig.scan_region.Reads as scan-region
 
 module _ (k : Lfts 4) where
   -- what a call is asked, and the sheet that it leaves
-  abbrev question : Dens k kinds.ps → Asked
+  abbrev pub question : Dens k kinds.ps → Asked
   question a = asked (now (a .0)) (now (a .1 .0)) (a .1 .1 .0) (a .1 .1 .1 .0) (now (a .1 .1 .1 .1 .0)) (now (a .1 .1 .1 .1 .1 .0))
 
-  abbrev sheet : Dens k kinds.ps → resT kinds.r k .Denot → AtExit (endedOf 4 kinds.ps kinds.r) k → Sheet
+  abbrev pub sheet : Dens k kinds.ps → resT kinds.r k .Denot → AtExit (endedOf 4 kinds.ps kinds.r) k → Sheet
   sheet a x s = sheetOf (length (now (a .1 .0))) (numberOf x) (writtenOf x) (placeOf x) (now (s .1 .1 .1 .1 .0)) (now (s .1 .1 .1 .1 .1 .0))
 
   pub sheet-is : (a : Dens k kinds.ps) (x : resT kinds.r k .Denot) (s : AtExit (endedOf 4 kinds.ps kinds.r) k) → scan-region.Post k a x s

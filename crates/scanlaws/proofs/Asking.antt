@@ -73,6 +73,14 @@ in-two whole first second e =
     let counts = counts-add whole (first .room) (second .room) in
     rw (e .second-same, e .first-same) (rw (← (e .rooms-add)) at sheets, rw (← (e .rooms-add)) at counts)
 
+-- as three calls leave them, each with its sheet and its count
+pub as-left : (whole first second : Asked) {x y z : Sheet} {l m n : ℕ}
+    → (x ≡ askedSheet whole) × (l ≡ askedCount whole) → (y ≡ askedSheet first) × (m ≡ askedCount first) → (z ≡ askedSheet second) × (n ≡ askedCount second)
+    → InTwo whole first second (y .place) → (x ≡ joinedSheet y z) × (l ≡ m + n)
+as-left whole first second p q r e =
+    let law = in-two whole first second (rw (q .0) at e) in
+    rw (p .0, q .0, r .0, p .1, q .1, r .1) law
+
 -- THE LAW, of any number of them
 pub all-add-up : (q : Asked) (rooms : List ℕ) → let whole = withRoom q (allRooms (q .room) rooms) in
     (allSheets q rooms ≡ askedSheet whole) × (allCounts q rooms ≡ askedCount whole)

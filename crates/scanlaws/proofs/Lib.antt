@@ -1,4 +1,6 @@
 pub mod Asking
+pub mod Calls
+pub mod Cases
 pub mod Folds
 pub mod Resuming
 pub mod Room

@@ -8,6 +8,7 @@ use native.Mathlib.Omega.{arith}
 use borrow.Author.Tests.{ltb-false, not-false}
 use lib.ListN.{length, length-take, length-drop}
 use Rattle.attempt.specs.Places.{mostPlaces}
+pub use Rattle.listing.proofs.Parts.{part-asked}
 use Rattle.listing.proofs.Parts.{part-bounded}
 use Rattle.listing.proofs.Texts.{room-holds}
 use Rattle.listing.specs.Input.{largestInput, countBytes, countOf, hintsOf, regionOf, inputChecks, Taken}
@@ -56,13 +57,18 @@ part-small s hints start h g =
 
 -- ---- the parts
 
-parts-end : (f : ℕ) (s hints : List ℕ) (at : ℕ) (a : Scanned) → partAnswer s hints at ≡ a → ((n p r : ℕ) → a ≡ Full n p r → ⊥) → partsFrom (suc f) s hints at ≡ a ∷ []
+-- from the region's first byte on
+pub parts-all : (s hints : List ℕ) → partsOf s hints ≡ partsFrom (suc (length s)) s hints 0
+unfolding partsOf
+parts-all s hints = refl
+
+pub parts-end : (f : ℕ) (s hints : List ℕ) (at : ℕ) (a : Scanned) → partAnswer s hints at ≡ a → ((n p r : ℕ) → a ≡ Full n p r → ⊥) → partsFrom (suc f) s hints at ≡ a ∷ []
 unfolding partsFrom
 parts-end f s hints at (Done n p r) e none = rw e
 parts-end f s hints at (Full n p r) e none = absurd (none n p r refl)
 parts-end f s hints at (Refused x) e none = rw e
 
-parts-full : (f : ℕ) (s hints : List ℕ) (at n p r : ℕ) → partAnswer s hints at ≡ Full n p r → partsFrom (suc f) s hints at ≡ Full n p r ∷ partsFrom f s hints p
+pub parts-full : (f : ℕ) (s hints : List ℕ) (at n p r : ℕ) → partAnswer s hints at ≡ Full n p r → partsFrom (suc f) s hints at ≡ Full n p r ∷ partsFrom f s hints p
 unfolding partsFrom
 parts-full f s hints at n p r e = rw e
 

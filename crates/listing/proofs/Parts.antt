@@ -6,7 +6,7 @@ use mathlib.Core.List.{List}
 use lib.ListN.{length, replicate, length-replicate}
 use Rattle.listing.specs.Part.{rowSpace, colSpace, partAnswer, partText}
 use Rattle.listing.specs.Text.{rowsText}
-use Rattle.scan.proofs.Laws.{scan-bounded, same-answer, Bounded}
+use Rattle.scan.proofs.Laws.{scan-bounded, same-answer, Bounded, answers-asked, AnswersAsked}
 use Rattle.scan.specs.Scan.{writtenOf, scanAsked, ScanOutcome, ScansRegion}
 use Rattle.sheet.specs.Columns.{roomOf}
 
@@ -14,6 +14,12 @@ module _ (s hints : List ℕ) (start : ℕ) where
   pub part-bounded : Bounded (length s) start (roomOf rowSpace colSpace (length hints)) (partAnswer s hints start)
   unfolding partAnswer
   part-bounded = rw (length-replicate {0} {A = ℕ} rowSpace 0, length-replicate {0} {A = ℕ} colSpace 0) at (scan-bounded (scanAsked s hints 0 start (replicate rowSpace 0) (replicate colSpace 0)))
+
+  -- by what a part is asked: room for as many rows as the lists hold
+  pub part-asked :
+      AnswersAsked (record { region = s; hints = hints; base = 0; start = start; room = roomOf rowSpace colSpace (length hints) }) (partAnswer s hints start)
+  unfolding partAnswer
+  part-asked = rw (length-replicate {0} {A = ℕ} rowSpace 0, length-replicate {0} {A = ℕ} colSpace 0) at (answers-asked (scanAsked s hints 0 start (replicate rowSpace 0) (replicate colSpace 0)))
 
   module _ (rows cols : List ℕ) (lr : length rows ≡ rowSpace) (lc : length cols ≡ colSpace) (x : ScanOutcome) (p : ScansRegion (scanAsked s hints 0 start rows cols) x) where
     pub part-answer : x .answer ≡ partAnswer s hints start

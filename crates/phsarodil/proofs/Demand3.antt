@@ -18,14 +18,14 @@ use Rattle.phsarodil.proofs.rows.phs_scan_region.Kinds as kinds
 use Rattle.phsarodil.proofs.rows.phs_scan_region.Reads as phs-scan-region
 
 module _ (k : Lfts 5) where
-  abbrev question : Dens k kinds.ps → Asked
+  abbrev pub question : Dens k kinds.ps → Asked
   question a = asked (now (a .0)) (now (a .1 .0)) (a .1 .1 .0) (a .1 .1 .1 .0) (now (a .1 .1 .1 .1 .0)) (now (a .1 .1 .1 .1 .1 .0))
 
   -- the word i of `out`
-  abbrev word : AtExit (endedOf 5 kinds.ps kinds.r) k → ℕ → ℕ
+  abbrev pub word : AtExit (endedOf 5 kinds.ps kinds.r) k → ℕ → ℕ
   word s i = getD (now (s .1 .1 .1 .1 .1 .1 .0)) i 0
 
-  abbrev sheet : Dens k kinds.ps → resT kinds.r k .Denot → AtExit (endedOf 5 kinds.ps kinds.r) k → Sheet
+  abbrev pub sheet : Dens k kinds.ps → resT kinds.r k .Denot → AtExit (endedOf 5 kinds.ps kinds.r) k → Sheet
   sheet a x s = sheetOf (length (now (a .1 .0))) x (word s 0) (word s 1) (now (s .1 .1 .1 .1 .0)) (now (s .1 .1 .1 .1 .1 .0))
 
   pub sheet-is : (a : Dens k kinds.ps) (x : resT kinds.r k .Denot) (s : AtExit (endedOf 5 kinds.ps kinds.r) k) → phs-scan-region.Post k a x s

@@ -20,7 +20,7 @@ module _ (len rows read : ℕ) where
   end-is (missed o t) = end-is t
   end-is (found o x t) = end-is t
 
-scan-numbers : (s : List ℕ) (c : Checked) (t : Run) → let a = after Refused c (answerOf s t) in
+pub scan-numbers : (s : List ℕ) (c : Checked) (t : Run) → let a = after Refused c (answerOf s t) in
     (numberOf a ≡ after refusalNumber c (runNumber t)) × (writtenOf a ≡ afterOr0 c (rowCount t))
     × (placeOf a ≡ afterOr0 c (runPlace (length s) t)) × (readOf a ≡ afterOr0 c (length (finishedPlaces s t)))
 scan-numbers s Passed t = end-is (length s) (rowCount t) (length (finishedPlaces s t)) t

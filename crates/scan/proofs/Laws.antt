@@ -1,7 +1,7 @@
 -- What other crates rest on: they cite these laws and unfold no definition of this one.
 -- Assumes nothing.
 use Prim.Native.Nat.{ℕ, zero, suc, _+_, _-_, _*_, _≤_, _<_}
-use mathlib.Core.Path.{_≡_, refl}
+use mathlib.Core.Path.{_≡_, refl, ap, _∙_}
 use mathlib.Core.List.{List}
 use native.Mathlib.Omega.{arith}
 use lib.ListN.{length}
@@ -9,10 +9,12 @@ use Rattle.attempt.proofs.Laws.{hit-takes}
 use Rattle.attempt.specs.Attempt.{Tried, miss, hit, attemptAt}
 use Rattle.attempt.specs.Places.{mostPlaces}
 use Rattle.record.proofs.Numbers.{by-order}
-use Rattle.scan.specs.Scan.{Run, through, noRoom, missed, found, scanFrom, rowCount, finishedPlaces, triedOffsets, endOf, answerOf, writtenOf, readOf, ScanAsked, scanAsked, callChecked, callRoom, scanAnswer}
-use Rattle.scan.specs.Sheet.{Asked, askedChecked, askedRun, askedCount, Counts}
+use Rattle.scan.specs.Scan.{Run, through, noRoom, missed, found, scanFrom, rowCount, finishedPlaces, triedOffsets, runNumber, endOf, answerOf, writtenOf, placeOf, readOf, ScanAsked, scanAsked, callChecked, callRoom, scanRun, scanAnswer, scanWritten, scanPlace, scanCount}
+use Rattle.scan.specs.Sheet.{Asked, asked, askedChecked, askedRun, askedSheet, askedCount, Counts}
 use Rattle.scan.specs.declared.schema_sig.Scanned.{Scanned}
 use Rattle.scan.specs.declared.schema_sig.Scanned.the-variants.{Full, Refused}
+use Rattle.scan.proofs.Answers.{scan-numbers}
+use Rattle.scan.proofs.Leaving.{sheet-left, count-left}
 pub use Rattle.scan.proofs.Running.{scan-none, scan-missed, scan-found, scan-full, scan-end}
 use Rattle.scan.proofs.SameRun.{finished-few}
 use Rattle.sheet.specs.Refusal.{after}
@@ -105,6 +107,33 @@ pub same-answer : (s hints : List ℕ) (base start : ℕ) (rows cols rows′ col
     → scanAnswer (scanAsked s hints base start rows cols) ≡ scanAnswer (scanAsked s hints base start rows′ cols′)
 unfolding scanAnswer
 same-answer s hints base start rows cols rows′ cols′ e f = rw (e, f)
+
+-- ---- an answer, by what the call is asked: it leaves no more to find unless it says that there was no room
+pub record AnswersAsked (q : Asked) (x : Scanned) : Type 0 where
+  pub written : writtenOf x ≡ askedSheet q .written
+  pub place : placeOf x ≡ askedSheet q .place
+  pub count : readOf x ≡ askedCount q
+  pub settled : ((rows place read : ℕ) → x ≡ Full rows place read → ⊥) → askedChecked q ≡ Passed → runNumber (askedRun q) ≡ 0
+
+module _ (len rows read : ℕ) where
+  end-settled : (t : Run) → ((n p r : ℕ) → endOf len rows read t ≡ Full n p r → ⊥) → runNumber t ≡ 0
+  end-settled through none = refl
+  end-settled (noRoom o) none = absurd (none rows o read refl)
+  end-settled (missed o t) none = end-settled t none
+  end-settled (found o x t) none = end-settled t none
+
+-- THE LAW
+pub answers-asked : (a : ScanAsked) → AnswersAsked (asked (a .region) (a .hints) (a .base) (a .start) (a .rows) (a .cols)) (scanAnswer a)
+unfolding scanAnswer scanWritten scanPlace scanCount
+answers-asked a =
+    let n = scan-numbers (a .region) (callChecked a) (scanRun a) in
+    let left = sheet-left (a .region) (a .hints) (a .base) (a .start) (a .rows) (a .cols) in
+    record {
+      written = n .1 ∙ ap (λ x. x .written) left;
+      place = n .2 ∙ ap (λ x. x .place) left;
+      count = n .3 ∙ count-left (a .region) (a .hints) (a .base) (a .start) (a .rows) (a .cols);
+      settled = λ none e. end-settled _ _ _ (scanRun a) (rw e at none);
+    }
 
 -- ---- the count of a call that no check refuses
 pub count-passed : (a : Asked) (count : ℕ) → count ≡ askedCount a → askedChecked a ≡ Passed → Counts a count

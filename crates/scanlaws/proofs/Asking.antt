@@ -12,7 +12,7 @@ use Rattle.scan.specs.Sheet.{Sheet, Asked, askedChecked, askedRun, runSheet, em
 use Rattle.scanlaws.proofs.Folds.{sheet-joined, places-joined, values-joined}
 use Rattle.scanlaws.proofs.Resuming.{resumes}
 use Rattle.scanlaws.proofs.Room.{roomy, more-room}
-use Rattle.scanlaws.specs.Joined.{joined, joinedSheet, withRoom, askedFrom, askedNext, InTwo, allRooms, allSheets, allCounts, Settled}
+use Rattle.scanlaws.specs.Joined.{joined, joinedSheet, withRoom, askedFrom, askedNext, InTwo, AnsweredAlike, Settled, allRooms, allSheets, allCounts}
 use Rattle.sheet.specs.Refusal.{after, afterOr0}
 use Rattle.sheet.specs.declared.refusal.Checked.{Checked}
 use Rattle.sheet.specs.declared.refusal.Checked.the-variants.{Passed, Refused as Held}
@@ -54,8 +54,7 @@ module _ (q : Asked) (a b : ℕ) where
   values-join = checked (λ r. []) (runValues (q .region)) _++_ (λ r. refl) (values-joined (q .region)) (askedChecked q)
 
   -- THE LAW: what is settled is the same with more room
-  pub settled-same : Settled (withRoom q a)
-      → (askedSheet (withRoom q (a + b)) ≡ askedSheet (withRoom q a)) × (askedCount (withRoom q (a + b)) ≡ askedCount (withRoom q a))
+  pub settled-same : Settled (withRoom q a) → AnsweredAlike (withRoom q (a + b)) (withRoom q a)
   unfolding askedSheet askedCount
   settled-same h = go (askedChecked q) refl
     where
@@ -64,6 +63,13 @@ module _ (q : Asked) (a b : ℕ) where
           × (afterOr0 c (length (finishedPlaces (q .region) whole)) ≡ afterOr0 c (length (finishedPlaces (q .region) first)))
       go Passed e = rw (more-room (q .region) (q .hints) a b (q .start) (h e)) (refl, refl)
       go (Held r) e = (refl, refl)
+
+-- THE LAW: room for as many rows as there are bytes is enough
+pub enough-room : (q : Asked) (room : ℕ) → length (q .region) ≤ room → AnsweredAlike (withRoom q room) (withRoom q (length (q .region)))
+enough-room q room h =
+    let s = q .region in
+    let is : room ≡ length s + (room - length s) = omega arith in
+    rw is (settled-same q (length s) (room - length s) (λ e. roomy s (q .hints) (q .start)))
 
 -- THE LAW, of three questions
 pub in-two : (whole first second : Asked) → InTwo whole first second (askedSheet first .place)

@@ -15,7 +15,7 @@ use Rattle.scan.specs.Scan.{Run, scanFrom, finishedPlaces}
 use Rattle.scan.specs.Sheet.{Sheet, Asked, askedChecked, askedRun, runSheet, emptySheet, askedSheet, askedCount}
 use Rattle.scanlaws.proofs.Asking.{sheets-join, counts-add, settled-same}
 use Rattle.scanlaws.proofs.Resuming.{run-end}
-use Rattle.scanlaws.specs.Joined.{joinedSheet, withRoom, askedFrom, askedNext, Settled}
+use Rattle.scanlaws.specs.Joined.{joinedSheet, withRoom, askedFrom, askedNext, AnsweredAlike}
 use Rattle.sheet.specs.Refusal.{after}
 use Rattle.sheet.specs.declared.refusal.Checked.{Checked}
 use Rattle.sheet.specs.declared.refusal.Checked.the-variants.{Passed, Refused as Held}
@@ -82,8 +82,7 @@ module _ (q : Asked) where
   none-twice = (none-first 0 .0, none-behind 0 .1)
 
   -- a first call that was done: no room makes more of it
-  pub done-first : (a b : ℕ) → askedSheet (withRoom q a) .number ≡ 0
-      → (askedSheet (withRoom q (a + b)) ≡ askedSheet (withRoom q a)) × (askedCount (withRoom q (a + b)) ≡ askedCount (withRoom q a))
+  pub done-first : (a b : ℕ) → askedSheet (withRoom q a) .number ≡ 0 → AnsweredAlike (withRoom q (a + b)) (withRoom q a)
   unfolding askedSheet
   done-first a b e = settled-same q a b (λ p. rw p at e)
 

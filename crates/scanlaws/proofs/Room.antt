@@ -39,8 +39,3 @@ module _ (s hints : List ℕ) where
       resumes s hints a b start
       ∙ ap (λ (u : Run). joined t u) (run-end s hints b (runPlace (length s) t) (omega (arith, through-place (length s) t e)))
       ∙ joined-through t e
-
-  pub any-room : (room start : ℕ) → length s ≤ room → run s hints room start ≡ run s hints (length s) start
-  any-room room start h =
-      let is : room ≡ length s + (room - length s) = omega arith in
-      rw is (more-room (length s) (room - length s) start (roomy start))

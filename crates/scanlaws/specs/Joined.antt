@@ -42,6 +42,10 @@ pub record InTwo (whole first second : Asked) (place : ℕ) : Type 0 where
   pub second-same : second ≡ askedFrom whole place (second .room)
   pub rooms-add : whole .room ≡ first .room + second .room
 
+-- two questions that get the same sheet and the same count
+abbrev pub AnsweredAlike : Asked → Asked → Type 0
+AnsweredAlike p q = (askedSheet p ≡ askedSheet q) × (askedCount p ≡ askedCount q)
+
 -- no row of it finds no room: it is through, or a check refuses it
 abbrev pub Settled : Asked → Type 0
 Settled q = askedChecked q ≡ Passed → runNumber (askedRun q) ≡ 0

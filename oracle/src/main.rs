@@ -9,6 +9,7 @@ mod options;
 mod panics;
 mod random;
 mod recording;
+mod resuming;
 mod rules;
 mod runner;
 mod selftest;

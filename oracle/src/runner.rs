@@ -5,12 +5,13 @@ use crate::calls;
 use crate::case::Case;
 use crate::compare::{against_ours, against_the_rust, expected};
 use crate::panics;
+use crate::resuming::{in_parts, rows_of};
 use crate::rules::limits::Limits;
 use crate::server::{Left, Server};
 use crate::shrink::shrink;
 use crate::tally::Tally;
 use crate::text;
-use std::io;
+use std::{io, slice};
 
 /// Where generated cases go.
 pub trait Sink {
@@ -18,8 +19,8 @@ pub trait Sink {
 }
 
 /// A batch is answered when it has so many cases, or cases of so many bytes and cells.
-const BATCH_CASES: usize = 4096;
-const BATCH_SIZE: usize = 1 << 20;
+pub const BATCH_CASES: usize = 4096;
+pub const BATCH_SIZE: usize = 1 << 20;
 
 /// Which sides are held against the rules; the oracle's own test looks at one at a time.
 #[derive(Clone, Copy, PartialEq, Eq)]
@@ -106,7 +107,30 @@ impl Runner {
             }
             self.tally.add(case, answer, asked);
         }
-        None
+        self.first_in_parts(batch)
+    }
+
+    /// The first scan that leaves something else in parts than at once. Those behind each other that differ in their room alone are the
+    /// same there.
+    fn first_in_parts(&mut self, batch: &[Case]) -> Option<(Case, String)> {
+        let scans: Vec<&Case> = batch.iter().filter(|case| case.call == calls::SCAN && self.has(case)).collect();
+        if self.sides != Sides::Both {
+            return None;
+        }
+        let same = |one: &&Case, other: &&Case| one.numbers == other.numbers && one.slices == other.slices;
+        let each = scans.chunk_by(same).map(|same| same[0]);
+        let scans: Vec<_> = each.map(|case| (case, rows_of(&self.limits, case))).collect();
+        let few: Vec<_> = scans.iter().filter_map(|&(case, rows)| Some((case, rows?))).collect();
+        match in_parts(&few, &mut |parts| self.server.ask_all(parts)) {
+            Ok(ways) => {
+                self.tally.in_parts(few.len(), ways, scans.len() - few.len());
+                None
+            }
+            Err(difference) => {
+                self.restart();
+                Some(difference)
+            }
+        }
     }
 
     /// The server died in this batch: each case by itself shows where.
@@ -138,7 +162,8 @@ impl Runner {
             return None;
         }
         match self.server.ask(case) {
-            Ok(ours) => against_ours(case, &answer, &ours),
+            Ok(ours) => against_ours(case, &answer, &ours)
+                .or_else(|| self.first_in_parts(slice::from_ref(case)).map(|differs| differs.1)),
             Err(e) => {
                 self.restart();
                 Some(format!("the server died: {e}"))

@@ -77,6 +77,12 @@ impl Server {
         self.receive(case)
     }
 
+    /// A batch of them.
+    pub fn ask_all(&mut self, cases: &[Case]) -> io::Result<Vec<Left>> {
+        self.send(cases)?;
+        cases.iter().map(|case| self.receive(case)).collect()
+    }
+
     fn bytes(&mut self, n: usize) -> io::Result<Vec<u8>> {
         let mut bytes = vec![0; n];
         self.from.read_exact(&mut bytes)?;

@@ -113,6 +113,7 @@ pub fn run(runner: &mut Runner, folder: &str) -> io::Result<bool> {
     );
     println!("the statements, every page and every frame of a log, a damaged copy of each, and rows at every offset; the tables'");
     println!("leaves, each free block, the rows that are learned from, and a damaged copy of each of these.");
+    runner.tally.print_in_parts();
     padded(runner, folder, &names)
 }
 

@@ -26,6 +26,10 @@ pub struct Tally {
     states_read: [u64; STATES + 1],
     values: [u64; 6],
     panicked: u64,
+    /// Scans that were made in parts, in how many ways in all, and scans that were not.
+    scans_in_parts: u64,
+    ways: u64,
+    not_in_parts: u64,
 }
 
 impl Tally {
@@ -36,7 +40,24 @@ impl Tally {
             states_read: [0; STATES + 1],
             values: [0; 6],
             panicked: 0,
+            scans_in_parts: 0,
+            ways: 0,
+            not_in_parts: 0,
         }
+    }
+
+    /// So many scans were made in parts, in so many ways, and so many were not.
+    pub fn in_parts(&mut self, scans: usize, ways: usize, others: usize) {
+        self.scans_in_parts += scans as u64;
+        self.ways += ways as u64;
+        self.not_in_parts += others as u64;
+    }
+
+    pub fn print_in_parts(&self) {
+        println!(
+            "{} scans were made in parts as well, in {} ways: each left what the whole did; {} were not, for their size",
+            self.scans_in_parts, self.ways, self.not_in_parts
+        );
     }
 
     pub fn add(&mut self, case: &Case, answer: &Answer, asked: &Asked) {
@@ -112,6 +133,7 @@ impl Tally {
         for (call, _) in CALLS.iter().zip(&self.calls).filter(|(call, per)| call.writes_rows() && !mixed(per)) {
             println!("NOT REACHED: rows of {} that are marked as padded, and others", call.name);
         }
+        self.print_in_parts();
         println!("column states read by a call (0 to 3, above): {:?}", self.states_read);
         println!("values read (none, NULL, integer, real, text, blob): {:?}", self.values);
     }

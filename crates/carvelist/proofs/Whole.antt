@@ -1,5 +1,5 @@
 -- The totals that the program says are those of one scan of the whole region with room for every row: it goes on from part to part, and
--- resuming adds up (`scanlaws`).
+-- resuming adds up (rule 4.16).
 -- Assumes nothing.
 use Prim.Native.Nat.{ℕ, zero, suc, _+_, _≤_, _<_}
 use mathlib.Core.Path.{_≡_, refl, ap, _∙_}

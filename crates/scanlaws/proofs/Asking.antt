@@ -1,17 +1,15 @@
--- Resuming adds up, of what a scan is asked: its sheet, its count and its values are those of two that go one behind the other, also where a
+-- Resuming adds up (rule 4.16), of what a scan is asked: its sheet, its count and its values are those of two that go one behind the other, also where a
 -- check refuses; so are those of any number of them.
 -- Assumes nothing.
-use Prim.Native.Nat.{ℕ, _+_, _-_, _≤_}
+use Prim.Native.Nat.{ℕ, _+_, _≤_}
 use mathlib.Core.Path.{_≡_, refl, sym, ap, _∙_}
 use mathlib.Core.List.{List, [], _∷_, _++_}
-use native.Mathlib.Omega.{arith}
 use lib.ListN.{length, length-append}
-use Rattle.record.specs.declared.record.Value.{Value}
-use Rattle.scan.specs.Scan.{Run, runNumber, runPlace, finishedPlaces}
+use Rattle.scan.specs.Scan.{Run, runPlace, finishedPlaces}
 use Rattle.scan.specs.Sheet.{Sheet, Asked, askedChecked, askedRun, runSheet, emptySheet, runValues, askedSheet, askedCount, askedValues}
 use Rattle.scanlaws.proofs.Folds.{sheet-joined, places-joined, values-joined}
 use Rattle.scanlaws.proofs.Resuming.{resumes}
-use Rattle.scanlaws.proofs.Room.{roomy, more-room}
+use Rattle.scanlaws.proofs.Room.{more-room, any-room}
 use Rattle.scanlaws.specs.Joined.{joined, joinedSheet, withRoom, askedFrom, askedNext, InTwo, AnsweredAlike, Settled, allRooms, allSheets, allCounts}
 use Rattle.sheet.specs.Refusal.{after, afterOr0}
 use Rattle.sheet.specs.declared.refusal.Checked.{Checked}
@@ -66,10 +64,8 @@ module _ (q : Asked) (a b : ℕ) where
 
 -- THE LAW: room for as many rows as there are bytes is enough
 pub enough-room : (q : Asked) (room : ℕ) → length (q .region) ≤ room → AnsweredAlike (withRoom q room) (withRoom q (length (q .region)))
-enough-room q room h =
-    let s = q .region in
-    let is : room ≡ length s + (room - length s) = omega arith in
-    rw is (settled-same q (length s) (room - length s) (λ e. roomy s (q .hints) (q .start)))
+unfolding askedSheet askedCount
+enough-room q room h = rw (any-room (q .region) (q .hints) room (q .start) h) (refl, refl)
 
 -- THE LAW, of three questions
 pub in-two : (whole first second : Asked) → InTwo whole first second (askedSheet first .place)

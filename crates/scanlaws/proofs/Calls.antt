@@ -1,8 +1,8 @@
--- Resuming adds up, of the public call: one of `scan_region` leaves the sheets of two one behind the other, the second from the place that the
+-- Resuming adds up (rule 4.16), of the public call: one of `scan_region` leaves the sheets of two one behind the other, the second from the place that the
 -- first returned, and counts as they do together, if the rooms add up; whatever the lists held, however long they are, and if a check refuses.
 -- Assumes nothing.
-use Prim.Native.Nat.{ℕ, _+_}
-use mathlib.Core.Path.{_≡_, sym, ap, _∙_}
+use Prim.Native.Nat.{_+_}
+use mathlib.Core.Path.{_≡_}
 use contract.Lifetimes.{Lfts}
 use denote.Triple.Clauses.{AtExit}
 use borrow.Fn.Kinds.{Dens, resT, endedOf}

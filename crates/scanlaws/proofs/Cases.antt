@@ -1,5 +1,5 @@
--- Resuming adds up, case by case: room for none first, behind, or both times; a first call that was done; a start behind the last offset; a
--- refusal; three calls.
+-- Resuming adds up (rule 4.16), case by case: room for none first, behind, or both times; a first call that was done; a start behind the last
+-- offset; a refusal; three calls.
 -- Assumes nothing.
 use Prim.Native.Nat.{ℕ, zero, suc, _+_, _-_, _≤_, _<_}
 use mathlib.Core.Path.{_≡_, refl, sym, ap, _∙_}
@@ -11,11 +11,11 @@ use lib.Seq.{drop-append-seam}
 use Rattle.attempt.specs.Attempt.{Tried, miss, hit, attemptAt}
 use Rattle.record.proofs.Numbers.{by-order}
 use Rattle.scan.proofs.Laws.{scan-none, scan-missed, scan-full, scan-end}
-use Rattle.scan.specs.Scan.{Run, scanFrom, finishedPlaces}
+use Rattle.scan.specs.Scan.{scanFrom}
 use Rattle.scan.specs.Sheet.{Sheet, Asked, askedChecked, askedRun, runSheet, emptySheet, askedSheet, askedCount}
 use Rattle.scanlaws.proofs.Asking.{sheets-join, counts-add, settled-same}
 use Rattle.scanlaws.proofs.Resuming.{run-end}
-use Rattle.scanlaws.specs.Joined.{joinedSheet, withRoom, askedFrom, askedNext, AnsweredAlike}
+use Rattle.scanlaws.specs.Joined.{joinedSheet, withRoom, askedFrom, askedNext, nothingMore}
 use Rattle.sheet.specs.Refusal.{after}
 use Rattle.sheet.specs.declared.refusal.Checked.{Checked}
 use Rattle.sheet.specs.declared.refusal.Checked.the-variants.{Passed, Refused as Held}
@@ -49,7 +49,7 @@ nothing-behind xs ys e =
     let seam = drop-append-seam {A = ℕ} xs in
     sym (seam ys) ∙ ap (drop (length xs)) (sym e ∙ sym (append-nil xs)) ∙ seam []
 
-no-sheet-behind : (x y : Sheet) → x ≡ joinedSheet x y → y ≡ record { rows = []; entries = []; number = x .number; written = 0; place = x .place }
+no-sheet-behind : (x y : Sheet) → x ≡ joinedSheet x y → y ≡ nothingMore x
 no-sheet-behind x y e =
     let none : y .written ≡ 0 = omega (arith, ap (λ z. z .written) e) in
     rw (
@@ -71,7 +71,7 @@ module _ (q : Asked) where
 
   -- b = 0: the second call writes and counts nothing, and its number and place are the first's
   pub none-behind : (a : ℕ) → let first = askedSheet (withRoom q a) in let second = askedNext (withRoom q a) 0 in
-      (askedSheet second ≡ record { rows = []; entries = []; number = first .number; written = 0; place = first .place }) × (askedCount second ≡ 0)
+      (askedSheet second ≡ nothingMore first) × (askedCount second ≡ 0)
   none-behind a =
       let sheets = rw (add-zero a) at (sheets-join q a 0) in
       let counts = rw (add-zero a) at (counts-add q a 0) in
@@ -81,10 +81,13 @@ module _ (q : Asked) where
   pub none-twice : let first = withRoom q 0 in (askedSheet (askedNext first 0) ≡ askedSheet first) × (askedCount (askedNext first 0) ≡ 0)
   none-twice = (none-first 0 .0, none-behind 0 .1)
 
-  -- a first call that was done: no room makes more of it
-  pub done-first : (a b : ℕ) → askedSheet (withRoom q a) .number ≡ 0 → AnsweredAlike (withRoom q (a + b)) (withRoom q a)
+  -- a first call that was done: the second writes and counts nothing, and its number and place are the first's
+  pub done-first : (a b : ℕ) → let first = askedSheet (withRoom q a) in let second = askedNext (withRoom q a) b in
+      first .number ≡ 0 → (askedSheet second ≡ nothingMore first) × (askedCount second ≡ 0)
   unfolding askedSheet
-  done-first a b e = settled-same q a b (λ p. rw p at e)
+  done-first a b e =
+      let same = settled-same q a b (λ p. rw p at e) in
+      (no-sheet-behind (askedSheet (withRoom q a)) (askedSheet (askedNext (withRoom q a) b)) (sym (same .0) ∙ sheets-join q a b), omega (arith, same .1, counts-add q a b))
 
   -- a start behind the last offset: nothing is read, and the place is the region's end
   pub start-behind : length (q .region) - 2 ≤ q .start → askedChecked q ≡ Passed

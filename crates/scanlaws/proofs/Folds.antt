@@ -1,9 +1,9 @@
 -- What two runs that are joined come to: the rows, the entries, the header places and the values of the one and then of the other, and the
 -- number and the place of the second. Three are joined either way.
 -- Assumes nothing.
-use Prim.Native.Nat.{ℕ, _+_}
+use Prim.Native.Nat.{ℕ}
 use mathlib.Core.Path.{_≡_, refl, sym, ap}
-use mathlib.Core.List.{List, _∷_, _++_, append-assoc}
+use mathlib.Core.List.{List, _++_, append-assoc}
 use native.Mathlib.Nat.{zero-add, suc-add}
 use native.Mathlib.Omega.{arith}
 use Rattle.attempt.specs.Places.{attemptPlaces}

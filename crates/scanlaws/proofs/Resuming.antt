@@ -1,4 +1,4 @@
--- Resuming adds up (document 02, K12): a scan with room a, and one with room b from the place that it returned, are one scan with room a + b.
+-- Resuming adds up (rule 4.16): a scan with room a, and one with room b from the place that it returned, are one scan with room a + b.
 -- Assumes nothing.
 use Prim.Native.Nat.{ℕ, zero, suc, _+_, _-_, _≤_, _<_}
 use mathlib.Core.Path.{_≡_, refl, sym, ap, _∙_}

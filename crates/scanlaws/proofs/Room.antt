@@ -2,7 +2,7 @@
 -- scan that is through is the same with more room.
 -- Assumes nothing.
 use Prim.Native.Nat.{ℕ, zero, suc, _+_, _-_, _≤_, _<_}
-use mathlib.Core.Path.{_≡_, refl, sym, ap, _∙_}
+use mathlib.Core.Path.{_≡_, refl, ap, _∙_}
 use mathlib.Core.List.{List}
 use native.Mathlib.Omega.{arith}
 use lib.ListN.{length}
@@ -39,3 +39,8 @@ module _ (s hints : List ℕ) where
       resumes s hints a b start
       ∙ ap (λ (u : Run). joined t u) (run-end s hints b (runPlace (length s) t) (omega (arith, through-place (length s) t e)))
       ∙ joined-through t e
+
+  pub any-room : (room start : ℕ) → length s ≤ room → run s hints room start ≡ run s hints (length s) start
+  any-room room start h =
+      let is : room ≡ length s + (room - length s) = omega arith in
+      rw is (more-room (length s) (room - length s) start (roomy start))

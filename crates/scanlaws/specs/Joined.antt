@@ -1,4 +1,4 @@
--- Scans that go on where another stopped (document 02, K12).
+-- Scans that go on where another stopped (rule 4.16).
 -- Assumes nothing.
 use Prim.Native.Nat.{ℕ, _+_}
 use mathlib.Core.Path.{_≡_}
@@ -24,6 +24,10 @@ joinedSheet x y =
       written = x .written + y .written;
       place = y .place;
     }
+
+-- behind a sheet that a second adds nothing to: no rows, and the same number and place
+abbrev pub nothingMore : Sheet → Sheet
+nothingMore x = record { rows = []; entries = []; number = x .number; written = 0; place = x .place }
 
 -- the same question from elsewhere, or with other room
 abbrev pub askedFrom : Asked → ℕ → ℕ → Asked

@@ -1,6 +1,7 @@
 //! Scans that are made in parts, each from the place that the one before returned: together they must leave what one scan leaves that has
 //! the room of all of them.
 
+use crate::calls;
 use crate::case::Case;
 use crate::cases::regions::lists;
 use crate::rules::attempt::scan;
@@ -44,8 +45,12 @@ impl Sheet {
     }
 }
 
-/// How many rows a scan finds with room for all of them; nothing if there are too many to try.
+/// How many rows a scan finds with room for all of them, none where it is refused; nothing if there are too many to try.
 pub fn rows_of(limits: &Limits, case: &Case) -> Option<usize> {
+    let none = Case { lists: vec![0, 0], ..case.clone() };
+    if !matches!((calls::of(&none).answer)(limits, &none).number, 0 | 9) {
+        return Some(0);
+    }
     let (region, hints) = (&case.slices[0], &case.slices[1]);
     let start = usize::try_from(case.numbers[1]).unwrap_or(usize::MAX);
     let rows = scan(limits, region, hints, start, usize::MAX).rows.len();
@@ -145,7 +150,7 @@ fn scan_all(batch: &mut [Parts], ask: &mut Ask) -> io::Result<()> {
 #[cfg(test)]
 mod tests {
     use super::*;
-    use crate::calls::{self, SCAN};
+    use crate::calls::SCAN;
 
     /// Three rows, with a byte between two of them.
     const REGION: [u8; 10] = [2, 15, 97, 1, 2, 15, 98, 2, 15, 99];
@@ -171,26 +176,28 @@ mod tests {
     #[test]
     fn the_rules_add_up() {
         let none = |_, _: &mut Left| {};
-        // Room for two rows: 0 2, 1 1, 2 0 and 1 1; for three: 0 3 to 3 0, 1 1 1 and 2 1.
+        // Room for two rows: 0 2, 1 1, 2 0, and 1 1 again; for three: 0 3 to 3 0, 1 1 1 and 2 1.
         assert_eq!(tried(&case(0, &[2]), none), Ok(4 + 6));
+        // One row: with room for none, 0 0; with room for it, 0 1 and 1 0.
         assert_eq!(tried(&case(5, &[2]), none), Ok(1 + 2));
-        assert_eq!(tried(&case(u64::MAX, &[2]), none), Ok(1));
-        assert_eq!(tried(&case(0, &[6]), none).is_ok(), true);
-        assert_eq!(tried(&case(0, &[]), none).is_ok(), true);
+        // A start behind the region, a bad hint, no hints: 0 0.
+        for case in [case(u64::MAX, &[2]), case(0, &[6]), case(0, &[])] {
+            assert_eq!(tried(&case, none), Ok(1));
+        }
     }
 
     #[test]
     fn faults_are_seen() {
-        let faults: [fn(u64, &mut Left); 6] = [
-            |_, left| left.out[1] += u64::from(left.number == 9),
-            |_, left| left.out[2] += u64::from(left.number == 9),
-            |start, left| left.number *= u64::from(start != 4),
-            |start, left| left.lists[0].iter_mut().take(1).for_each(|offset| *offset -= start.min(1)),
-            |start, left| left.lists[1].iter_mut().take(3).for_each(|word| *word += start / 7),
-            |start, left| left.out[0] -= u64::from(start == 4 && left.out[0] > 0),
+        let faults: [(&str, fn(u64, &mut Left)); 6] = [
+            ("the place is behind the row", |_, left| left.out[1] += u64::from(left.number == 9)),
+            ("the row without room counts", |_, left| left.out[2] += u64::from(left.number == 9)),
+            ("full is done from 4 on", |start, left| left.number *= u64::from(start != 4)),
+            ("an offset", |start, left| left.lists[0].iter_mut().take(1).for_each(|word| *word -= start.min(1))),
+            ("an entry from 7 on", |start, left| left.lists[1].iter_mut().take(3).for_each(|word| *word += start / 7)),
+            ("a row is lost from 4 on", |start, left| left.out[0] -= u64::from(start == 4 && left.out[0] > 0)),
         ];
-        for (i, fault) in faults.into_iter().enumerate() {
-            assert!(tried(&case(0, &[2]), fault).is_err(), "fault {i}");
+        for (what, fault) in faults {
+            assert!(tried(&case(0, &[2]), fault).is_err(), "{what}");
         }
     }
 }

@@ -10,7 +10,7 @@ use crate::runner::{BATCH_CASES, BATCH_SIZE};
 use crate::server::Left;
 use std::io;
 
-/// Up to so many rows a scan is also made in parts of one row each, of two, and so on, and with room for all rows but one.
+/// Up to so many rows a scan is also made in three parts or more, of one row each, of two, and so on, and with room for all rows but one.
 const FEW: usize = 64;
 /// A scan is left out if its ways, each with the whole region, come to more bytes than that.
 const MOST_BYTES: usize = 1 << 27;
@@ -88,11 +88,11 @@ impl Parts<'_> {
 }
 
 /// The rooms that come to so many rows: all at once; every number of rows and then what is left; and, if they are few, every number again
-/// and again.
+/// and again where that makes three parts or more.
 fn ways(room: usize) -> Vec<Vec<usize>> {
     let in_two = (0..=room).map(|first| vec![first, room - first]);
     let evenly = |part: usize| (0..room).step_by(part).map(|from| part.min(room - from)).collect();
-    let most = if room <= FEW { room } else { 1 };
+    let most = if room <= FEW { room.div_ceil(2) } else { 1 };
     [vec![room]].into_iter().chain(in_two).chain((1..most).map(evenly)).collect()
 }
 
@@ -176,8 +176,8 @@ mod tests {
     #[test]
     fn the_rules_add_up() {
         let none = |_, _: &mut Left| {};
-        // Room for two rows: 0 2, 1 1, 2 0, and 1 1 again; for three: 0 3 to 3 0, 1 1 1 and 2 1.
-        assert_eq!(tried(&case(0, &[2]), none), Ok(4 + 6));
+        // Room for two rows: 0 2, 1 1 and 2 0; for three: 0 3 to 3 0, and 1 1 1.
+        assert_eq!(tried(&case(0, &[2]), none), Ok(3 + 5));
         // One row: with room for none, 0 0; with room for it, 0 1 and 1 0.
         assert_eq!(tried(&case(5, &[2]), none), Ok(1 + 2));
         // A start behind the region, a bad hint, no hints: 0 0.

@@ -113,10 +113,10 @@ impl Runner {
     /// The first scan that leaves something else in parts than at once. Those behind each other that differ in their room alone are the
     /// same there.
     fn first_in_parts(&mut self, batch: &[Case]) -> Option<(Case, String)> {
-        let scans: Vec<&Case> = batch.iter().filter(|case| case.call == calls::SCAN && self.has(case)).collect();
         if self.sides != Sides::Both {
             return None;
         }
+        let scans: Vec<&Case> = batch.iter().filter(|case| case.call == calls::SCAN && self.has(case)).collect();
         let same = |one: &&Case, other: &&Case| one.numbers == other.numbers && one.slices == other.slices;
         let each = scans.chunk_by(same).map(|same| same[0]);
         let scans: Vec<_> = each.map(|case| (case, rows_of(&self.limits, case))).collect();

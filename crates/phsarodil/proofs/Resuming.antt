@@ -1,5 +1,5 @@
--- Resuming adds up (rule 4.16), of `phs_scan_region`: one call leaves the sheets of two one behind the other, the second from the place that stands in the
--- first one's `out`, and its count is theirs together, if the rooms add up.
+-- Resuming adds up (rule 4.16), of `phs_scan_region`: one call leaves the sheets of two one behind the other, the second from the place that
+-- stands in the first one's `out`, and its count is theirs together, if the rooms add up.
 -- Assumes nothing.
 use Prim.Native.Nat.{_+_}
 use mathlib.Core.Path.{_≡_}

@@ -1,5 +1,5 @@
--- Resuming adds up (rule 4.16), of what a scan is asked: its sheet, its count and its values are those of two that go one behind the other, also where a
--- check refuses; so are those of any number of them.
+-- Resuming adds up (rule 4.16), of what a scan is asked: its sheet, its count and its values are those of two that go one behind the other, also
+-- where a check refuses; so are those of any number of them.
 -- Assumes nothing.
 use Prim.Native.Nat.{ℕ, _+_, _≤_}
 use mathlib.Core.Path.{_≡_, refl, sym, ap, _∙_}

@@ -1,5 +1,6 @@
--- Resuming adds up (rule 4.16), of the public call: one of `scan_region` leaves the sheets of two one behind the other, the second from the place that the
--- first returned, and counts as they do together, if the rooms add up; whatever the lists held, however long they are, and if a check refuses.
+-- Resuming adds up (rule 4.16), of the public call: one of `scan_region` leaves the sheets of two one behind the other, the second from the
+-- place that the first returned, and counts as they do together, if the rooms add up; whatever the lists held, however long they are, and if a
+-- check refuses.
 -- Assumes nothing.
 use Prim.Native.Nat.{_+_}
 use mathlib.Core.Path.{_≡_}

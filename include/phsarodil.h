@@ -233,10 +233,10 @@ uint64_t phs_try_parse_record(const uint8_t *region, size_t len, const uint8_t *
  *     places are the bytes that it reads as the header's length and, where a header may be that long, as types. They are
  *     counted once for each attempt.
  * Returns PHS_COLUMN_COUNT, PHS_MALFORMED, PHS_TOO_LARGE or PHS_BASE_TOO_FAR; or PHS_NO_ROOM, with the place of the
- * first row that found no room. Calling again with that place for `start` goes on there, and such calls add up, whatever the
- * room of each: their rows and entries one behind the other, the return value and the place of the last, and the sum of
- * their counts are those of one call with the room of all. A call with room for no row stops at the first one, so a loop
- * has to lend room for at least one.
+ * first row that found no room. Calling again with that place for `start` goes on there, and it is proved that such calls
+ * add up (docs/RULES.md, 4.16), whatever the room of each: their rows and entries one behind the other, the return value
+ * and the place of the last, and the sum of their counts are those of one call with the room of all. A call with room for
+ * no row stops at the first one, so a loop has to lend room for at least one.
  */
 uint64_t phs_scan_region(const uint8_t *region, size_t len, const uint8_t *hints, size_t hints_len, uint64_t base,
                          size_t start, uint64_t *rows, size_t rows_len, uint64_t *cols, size_t cols_len,

@@ -230,8 +230,8 @@ impl<'a> Scan<'a> {
     }
 
     /// How many rows the lent lists take at a time: 64 if it is not said, at least one, and no more than
-    /// [`DEFAULT_MEMORY`] has room for. The rows are the same with any room, and so is [`Rows::header_bytes`] at the end: it is
-    /// proved of the call behind it that scans which go on add up (rule 4.16).
+    /// [`DEFAULT_MEMORY`] has room for. The rows are the same with any room, and so is [`Rows::header_bytes`] at the end: that
+    /// scans which go on add up is proved (docs/RULES.md, 4.16).
     pub fn room(self, room: usize) -> Scan<'a> {
         Scan { room, ..self }
     }

@@ -9,7 +9,7 @@ use lib.Dec.{leb, eqb, ltb}
 use lib.ListN.{length, length-append}
 use borrow.Author.Tests.{leb-true, eqb-true, ltb-true}
 use Rattle.attempt.specs.Attempt.{Types, isWhole, kinds, Bodies, unfit, laid, bodiesFrom, Found, miss, hit, sized, judged, judgedWhole, headerFits, attemptWith, attemptAt, typesFrom, mostBytes}
-use Rattle.attempt.specs.Hints.{suited}
+use Rattle.attempt.specs.Hints.{suits, suited}
 use Rattle.attempt.specs.Inner.{bodySize, columnsAt, headerTypes, judgedHeader}
 use Rattle.attempt.specs.Places.{mostPlaces, attemptPlaces}
 use Rattle.attempt.proofs.Bodies.{laid-ends}
@@ -50,6 +50,16 @@ attempt-beyond s hints o h = go (varintAt s o) refl
 pub columns-at-length : (at : ℕ) (ts : List ℕ) → length (columnsAt at ts) ≡ length ts
 columns-at-length at [] = refl
 columns-at-length at (t ∷ ts) = ap suc (columns-at-length (at + bodySize t) ts)
+
+-- no more types suit than there are hints
+suited-few : (hs ts : List ℕ) → suited hs ts ≤ length hs
+suited-few hs [] = omega arith
+suited-few [] (t ∷ ts) = omega arith
+suited-few (h ∷ hs) (t ∷ ts) = go (suits h t) (suited-few hs ts)
+  where
+    go : (b : Bool) → suited hs ts ≤ length hs → cond b 1 0 + suited hs ts ≤ suc (length hs)
+    go true n = omega arith
+    go false n = omega arith
 
 -- ---- a row that was found
 -- no row is none
@@ -148,3 +158,9 @@ module _ (s hints : List ℕ) (o : ℕ) (x : Found) where
       let f = hit-from e in
       let ends = laid-ends (length s) (o + f .head) (kinds (headerTypes s o (f .head) (f .next .at))) (x .columns) (o + x .consumed) (f .inside) (f .made .bodies) in
       (omega (arith, ends .0, f .low), ends .1)
+
+  -- THE LAW: some of its types suit, and no more than there are hints
+  pub hit-matches : attemptAt s hints o ≡ hit x → (0 < x .matched) × (x .matched ≤ length hints)
+  hit-matches e =
+      let f = hit-from e in
+      (f .made .some, rw (f .made .matches) at (suited-few hints (kinds (headerTypes s o (f .head) (f .next .at)))))

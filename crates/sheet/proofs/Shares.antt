@@ -1,5 +1,4 @@
 -- A share, where some column is suited, lies above 0 and is at most 1: it is the fraction s / c, rounded once, and rounding keeps the order.
--- No crate cites it yet: request K11 asks it of a scan's rows.
 -- Assumes nothing.
 use mathlib.Core.Path.{_≡_, _∙_}
 use mathlib.Core.Bool.{true, false}
@@ -14,12 +13,8 @@ use lib.Ieee.Exact.{HasValue}
 use lib.Ieee.Order.{round-mono}
 use lib.Ieee.Positive.{num, den, positive, den-pos, positive-of-value, value→cross, between}
 use lib.Ieee.Scale.{round-same}
-use Rattle.sheet.specs.Confidence.{share}
+use Rattle.sheet.specs.Confidence.{one, share}
 use Rattle.sheet.specs.Limits.{mostColumns}
-
--- 1
-abbrev pub one : Float
-one = ofBits binary32 0x3f800000
 
 -- a quotient of two positive values is one fraction, rounded
 div-is : (f : Format) (x y : Float) → T (positive x) → T (positive y) → div f x y ≡ round f false (num x * den y) (num y * den x)

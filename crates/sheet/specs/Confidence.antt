@@ -12,6 +12,10 @@ sixTenths = ofBits binary32 0x3f19999a
 abbrev pub nineTenths : Float
 nineTenths = ofBits binary32 0x3f666666
 
+-- 1
+abbrev pub one : Float
+one = ofBits binary32 0x3f800000
+
 -- 100
 abbrev pub hundred : Float
 hundred = ofBits binary32 0x42c80000

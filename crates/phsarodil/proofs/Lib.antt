@@ -1,4 +1,5 @@
 pub mod Demand3
+pub mod OnlyList
 pub mod Resuming
 mod Returning
 pub mod Unique

@@ -6,11 +6,13 @@ use mathlib.Core.Path.{_≡_, refl, sym, ap}
 use mathlib.Core.List.{List, _++_, append-assoc}
 use native.Mathlib.Nat.{zero-add, suc-add}
 use native.Mathlib.Omega.{arith}
+use lib.ListN.{length}
 use Rattle.attempt.specs.Places.{attemptPlaces}
 use Rattle.attempt.specs.Values.{rowValues}
 use Rattle.scan.specs.Scan.{Run, through, noRoom, missed, found, rowOf, rowsOf, rowCount, entriesOf, finishedPlaces, runPlace, runNumber}
 use Rattle.scan.specs.Sheet.{runSheet, runValues}
 use Rattle.scanlaws.specs.Joined.{joined, joinedSheet}
+use Rattle.scanlaws.specs.Listed.{placed, placedRows, placedEntries}
 use Rattle.sheet.specs.Row.{rowWords}
 use Rattle.sheet.specs.Sheet.{rowsWords, columnsWords}
 
@@ -65,3 +67,10 @@ module _ (len base columns : ℕ) where
         append-assoc (columnsWords (x .columns)) (entriesOf t) (entriesOf u),
         suc-add (rowCount t) (rowCount u),
       )
+
+  -- the rows of a run, as those of a list
+  pub sheet-placed : (t : Run) → (rowsOf base columns t ≡ placedRows base columns (placed t)) × (entriesOf t ≡ placedEntries (placed t)) × (rowCount t ≡ length (placed t))
+  sheet-placed through = (refl, refl, refl)
+  sheet-placed (noRoom o) = (refl, refl, refl)
+  sheet-placed (missed o t) = sheet-placed t
+  sheet-placed (found o x t) = let rest = sheet-placed t in rw (rest .0, rest .1, rest .2) (refl, refl, refl)

@@ -1,6 +1,11 @@
+pub mod Alone
 pub mod Asking
 pub mod Calls
 pub mod Cases
+pub mod Dropped
 pub mod Folds
+pub mod Following
+pub mod Leaving
 pub mod Resuming
 pub mod Room
+pub mod ScanList

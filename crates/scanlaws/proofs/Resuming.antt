@@ -16,7 +16,7 @@ use Rattle.scanlaws.specs.Joined.{joined}
 
 module _ (s hints : List ℕ) where
   -- rows before, and as much more room, make no other run
-  shifted : (f k room o n : ℕ) → scanFrom f s hints (k + room) o (k + n) ≡ scanFrom f s hints room o n
+  pub shifted : (f k room o n : ℕ) → scanFrom f s hints (k + room) o (k + n) ≡ scanFrom f s hints room o n
   shifted zero k room o n = scan-none s hints (k + room) o (k + n) ∙ sym (scan-none s hints room o n)
   shifted (suc f) k room o n =
       by-order o (length s - 2) (λ lt. go lt (attemptAt s hints o) refl (λ o′ n′. shifted f k room o′ n′))

@@ -1,1 +1,3 @@
 pub mod Joined
+pub mod Listed
+pub mod Only

@@ -1,7 +1,6 @@
 -- The list is the only one (rule 4.17), of `phs_scan_region`: a call from 0 that returns 0 leaves the one list of its region, and one that no check
 -- refuses as many rows of it as there is room for.
 -- Assumes nothing.
-use Prim.Native.Nat.{ℕ}
 use mathlib.Core.Path.{_≡_}
 use contract.Lifetimes.{Lfts}
 use denote.Triple.Clauses.{AtExit}

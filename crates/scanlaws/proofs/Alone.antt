@@ -1,7 +1,7 @@
 -- No two lists have the properties of rule 4.17. Where both have the same rows so far they go on with the same one: of two next rows the earlier
 -- would start at an offset that the other list does not cover, where the attempt fails.
 -- Assumes nothing.
-use Prim.Native.Nat.{ℕ, _+_, _-_, _*_, _≤_, _<_}
+use Prim.Native.Nat.{ℕ, _-_, _*_, _≤_, _<_}
 use mathlib.Core.Path.{_≡_, refl, sym, _∙_}
 use mathlib.Core.List.{List, [], _∷_}
 use native.Mathlib.Omega.{arith}

@@ -1,6 +1,6 @@
 -- The laws of the public call `scan_region`, by its postcondition, whatever the lists held and however long they are.
 -- Assumes nothing.
-use Prim.Native.Nat.{ℕ, _+_}
+use Prim.Native.Nat.{_+_}
 use mathlib.Core.Path.{_≡_}
 use contract.Lifetimes.{Lfts}
 use denote.Triple.Clauses.{AtExit}

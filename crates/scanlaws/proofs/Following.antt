@@ -1,7 +1,7 @@
 -- Four of the properties of rule 4.17 have the others for consequences: a row that is the attempt at its offset lies inside and has a row's size
 -- and confidence, and rows that do not overlap rise. So no two lists have all eight.
 -- Assumes nothing.
-use Prim.Native.Nat.{ℕ, _+_, _≤_, _<_}
+use Prim.Native.Nat.{ℕ, _≤_}
 use mathlib.Core.Path.{_≡_}
 use mathlib.Core.List.{List, [], _∷_}
 use native.Mathlib.Omega.{arith}

@@ -1,19 +1,18 @@
 -- What a scan from 0 leaves (rule 4.17), of what it is asked: the sheet of the one list of its region, as many rows of it as there is room for.
 -- Assumes nothing.
-use Prim.Native.Nat.{ℕ, _≤_, _<_}
+use Prim.Native.Nat.{_<_}
 use mathlib.Core.Path.{_≡_, refl, sym, ap, _∙_}
 use mathlib.Core.List.{List, [], _∷_}
 use native.Mathlib.Omega.{arith}
 use lib.ListN.{length, take, drop, length-drop, drop-of-length-le}
 use lib.Seq.{take-all}
-use Rattle.scan.specs.Scan.{Run}
 use Rattle.scan.specs.Sheet.{Sheet, Asked, askedChecked, askedRun, runSheet, emptySheet, askedSheet}
 use Rattle.scanlaws.proofs.Folds.{sheet-placed}
 use Rattle.scanlaws.proofs.Resuming.{run}
 use Rattle.scanlaws.proofs.Room.{rows-fit}
 use Rattle.scanlaws.proofs.ScanList.{the-only, only-list, roomed}
 use Rattle.scanlaws.specs.Listed.{numberBefore, listSheet, LeavesAll, LeavesFirst}
-use Rattle.scanlaws.specs.Only.{Placed, Only, OnlyList}
+use Rattle.scanlaws.specs.Only.{Placed, Only}
 use Rattle.sheet.proofs.Laws.{number-range, slice-fits}
 use Rattle.sheet.specs.Refusal.{refusalNumber, after}
 use Rattle.sheet.specs.declared.refusal.Checked.{Checked}

@@ -5,6 +5,7 @@ mod calls;
 mod case;
 mod cases;
 mod compare;
+mod only;
 mod options;
 mod panics;
 mod random;
@@ -93,6 +94,16 @@ fn compare(mut runner: Runner, options: &Options) -> bool {
         Ok((all, ours)) => {
             println!("the Rust panics on all {all} cases of its list; ours answers {ours} of them, by the rules");
         }
+        Err(why) => {
+            println!("DIFFERENCE: {why}");
+            return false;
+        }
+    }
+    match runner.every_list() {
+        Ok(tried) => println!(
+            "of the {} lists of rows in {} short regions one a region has the properties of rule 4.17: the scan's",
+            tried.lists, tried.regions
+        ),
         Err(why) => {
             println!("DIFFERENCE: {why}");
             return false;

@@ -164,8 +164,7 @@ mod tests {
         let limits = Limits::of_the_rules();
         let rows = rows_of(&limits, case).unwrap_or_default();
         let answer = |part: &Case| {
-            let answer = (calls::of(part).answer)(&limits, part);
-            let mut left = Left { number: answer.number, out: answer.out, lists: answer.lists };
+            let mut left = Left::from((calls::of(part).answer)(&limits, part));
             fault(part.numbers[1], &mut left);
             left
         };

@@ -4,6 +4,7 @@
 use crate::calls;
 use crate::case::Case;
 use crate::compare::{against_ours, against_the_rust, expected};
+use crate::only::{every_list, Tried};
 use crate::panics;
 use crate::resuming::{in_parts, rows_of};
 use crate::rules::limits::Limits;
@@ -21,6 +22,9 @@ pub trait Sink {
 /// A batch is answered when it has so many cases, or cases of so many bytes and cells.
 pub const BATCH_CASES: usize = 4096;
 pub const BATCH_SIZE: usize = 1 << 20;
+
+/// Of regions up to so many bytes every list of rows is tried.
+const LONGEST: usize = 7;
 
 /// Which sides are held against the rules; the oracle's own test looks at one at a time.
 #[derive(Clone, Copy, PartialEq, Eq)]
@@ -185,6 +189,14 @@ impl Runner {
     /// Checks the list of the Rust's panics.
     pub fn panics(&mut self) -> Result<(usize, usize), String> {
         panics::check(&self.limits, &mut self.server, &self.there)
+    }
+
+    /// Tries every list of rows in short regions.
+    pub fn every_list(&mut self) -> Result<Tried, String> {
+        if !(self.there[calls::SCAN as usize - 1] && self.there[calls::ATTEMPT as usize - 1]) {
+            return Ok(Tried::default());
+        }
+        every_list(LONGEST, &mut |cases| self.server.ask_all(cases))
     }
 
     fn cut_down(&mut self, first: Case, why: String) {

@@ -21,6 +21,14 @@ pub struct Left {
     pub lists: Vec<Vec<u64>>,
 }
 
+/// What a side would leave that answers by the rules.
+#[cfg(test)]
+impl From<crate::case::Answer> for Left {
+    fn from(answer: crate::case::Answer) -> Left {
+        Left { number: answer.number, out: answer.out, lists: answer.lists }
+    }
+}
+
 impl Server {
     pub fn start(command: &[String]) -> io::Result<Server> {
         let mut child =

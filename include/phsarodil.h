@@ -236,7 +236,10 @@ uint64_t phs_try_parse_record(const uint8_t *region, size_t len, const uint8_t *
  * first row that found no room. Calling again with that place for `start` goes on there, and it is proved that such calls
  * add up (docs/RULES.md, 4.16), whatever the room of each: their rows and entries one behind the other, the return value
  * and the place of the last, and the sum of their counts are those of one call with the room of all. A call with room for
- * no row stops at the first one, so a loop has to lend room for at least one.
+ * no row stops at the first one, so a loop has to lend room for at least one. Room for len / 2 rows is always enough.
+ * The rows rise, start before the last two bytes and do not overlap. It is proved (docs/RULES.md, 4.17) that a call from 0
+ * that returns 0 leaves the only list of such rows in which each is what phs_try_parse_record finds at its offset, and
+ * which covers every offset before the last two at which that finds a row.
  */
 uint64_t phs_scan_region(const uint8_t *region, size_t len, const uint8_t *hints, size_t hints_len, uint64_t base,
                          size_t start, uint64_t *rows, size_t rows_len, uint64_t *cols, size_t cols_len,

@@ -53,8 +53,8 @@ pub record LeavesAll (q : Asked) (x : Sheet) : Type 0 where
   pub only : OnlyList (q .region) (q .hints)
   pub left : x ≡ listSheet q (only .list) []
 
--- one that leaves as many of its rows as there is room for: room for all of them is enough, with less it is refused with 9, and they are no more
--- than half of the bytes
+-- one that leaves as many of its rows as there is room for: room for all of them is enough, with less it is refused with 9, and there are
+-- at most half as many as bytes
 pub record LeavesFirst (q : Asked) (x : Sheet) : Type 0 where
   pub only : OnlyList (q .region) (q .hints)
   pub left : x ≡ listSheet q (take (q .room) (only .list)) (drop (q .room) (only .list))

@@ -1,4 +1,5 @@
--- What is said of a list of a region's rows (rule 4.17): the properties that the list of its scan has, and no other. Nothing here speaks of a scan.
+-- What is said of a list of a region's rows (rule 4.17): the properties that the list of its scan has, and no other. None of them speaks
+-- of a scan.
 -- Assumes nothing.
 use Prim.Native.Nat.{ℕ, _+_, _-_, _≤_, _<_}
 use mathlib.Core.Path.{_≡_}
@@ -37,15 +38,15 @@ EachTwo P (p ∷ ps) = Each (P p) ps × EachTwo P ps
 
 -- ---- the properties of a list, over a region and hints
 module _ (s hints : List ℕ) (ps : List Placed) where
-  -- offsets rise
+  -- rows rise by their offsets
   abbrev pub Rising : Type 0
   Rising = EachTwo (λ p q. p .at < q .at) ps
 
-  -- none is one of the last two
+  -- no row starts in the last two bytes
   abbrev pub StartBelow : Type 0
   StartBelow = Each (λ p. p .at < length s - 2) ps
 
-  -- rows lie in the region
+  -- each lies in the region
   abbrev pub LieInside : Type 0
   LieInside = Each (λ p. end p ≤ length s) ps
 

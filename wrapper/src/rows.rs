@@ -177,8 +177,8 @@ pub fn try_parse_record<'a>(
 /// All rows of a region, one behind the other. `base` is where the region lies in its file. For the rest see [`Scan`].
 ///
 /// The rows rise, start before the last two bytes and do not overlap. They are the only ones like that of which each is what
-/// [`try_parse_record`] finds at its offset, and which cover every offset before the last two at which that finds a row: it is proved
-/// (docs/RULES.md, 4.17).
+/// [`try_parse_record`] finds at its offset, and which cover every offset before the last two at which that finds a row:
+/// it is proved (docs/RULES.md, 4.17).
 ///
 /// # Errors
 ///

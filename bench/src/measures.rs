@@ -173,7 +173,7 @@ fn single_pages(all: &mut Vec<Measure>) {
             add(all, call, input, move || page(call, &numbers, &pages::small_blocks(length), &READING_HINTS));
         }
     }
-    for name in ["text", "random"] {
+    for name in ["text", "random", "zeros"] {
         let (kind, numbers) = (kind(name), [ONE_BYTE, 0, 0]);
         add(all, GAP_SLICE, format!("gap of {name}/64K"), move || page(GAP_SLICE, &numbers, &pages::gap(kind), &HINTS));
     }

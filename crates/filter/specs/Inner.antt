@@ -48,6 +48,12 @@ abbrev pub AllLow : List ℕ → ℕ → ℕ → Bool → Type 0
 AllLow s from to true = (q : ℕ) → from ≤ q → q < to → getD s q 0 < 128
 AllLow s from to false = Unit
 
+-- the bytes from one place up to another are below 2
+pub record LowTo (s : List ℕ) (from to : ℕ) : Type 0 where
+  pub behind : from ≤ to
+  pub inside : to ≤ length s
+  pub low : (q : ℕ) → from ≤ q → q < to → getD s q 0 < 2
+
 -- ---- types
 
 -- true says that n types are fewer bytes than a header has behind its first

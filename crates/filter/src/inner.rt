@@ -18,7 +18,7 @@ use record::inner::wide;
 ghost use mathlib.Core.Path.{_≡_};
 ghost use Prim.Native.Nat.{_+_, _-_, _≤_, _<_};
 ghost use lib.ListN.{length, getD};
-ghost use Rattle.filter.specs.Inner.{IsHigh, Holds, Dismissed, PassedOverIs, PassedWithRunIs, StepSays, NextSays};
+ghost use Rattle.filter.specs.Inner.{LowTo, IsHigh, Holds, Dismissed, PassedOverIs, PassedWithRunIs, StepSays, NextSays};
 ghost use Rattle.sheet.specs.Limits.{mostColumns, largestRegion};
 
 // Up to where offsets are passed over, and the header bytes that attempts there read.
@@ -93,6 +93,21 @@ fn look(bytes: &[u8], hints: &[u8], o: usize) -> usize
     0
 }
 
+// Where bytes below 2 end, from a place on. Of a page that was never full most are 0, so the loop has nothing else in it.
+fn low_end(bytes: &[u8], start: usize) -> usize
+    requires { ⌜ start ≤ length (now bytes) ⌝ }
+    ensures { λ r. ⌜ LowTo (now (bytes .entry)) start r ⌝ }
+{
+    let mut at = start;
+    while at < bytes.len() {
+        if bytes[at] > 1 {
+            return at;
+        }
+        at = at + 1;
+    }
+    at
+}
+
 // Passes over offsets at which this is soon seen. A first byte below 2 is too short a header.
 fn pass_seen(bytes: &[u8], hints: &[u8], start: usize, last: usize) -> PassedOver
     requires { ⌜ (last ≤ length (now bytes) - 2) × (length (now bytes) ≤ largestRegion) × (length (now hints) ≤ mostColumns) ⌝ }
@@ -102,8 +117,9 @@ fn pass_seen(bytes: &[u8], hints: &[u8], start: usize, last: usize) -> PassedOve
     let mut read: usize = 0;
     while o < last {
         if bytes[o] < 2 {
-            read = read + 1;
-            o = o + 1;
+            let next = low_end(&bytes[0..last], o + 1);
+            read = read + (next - o);
+            o = next;
             continue;
         }
         let r = look(bytes, hints, o);

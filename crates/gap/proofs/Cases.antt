@@ -10,7 +10,7 @@ use lib.ListN.{length, replicate}
 use Rattle.attempt.specs.Attempt.{headerFits, typesFrom, bodiesFrom, judged, attemptAt}
 use Rattle.attempt.specs.Hints.{isInteger, isReal, isText, isBlob, suits}
 use Rattle.cells.specs.Cells.{cellAt, cellsFrom, cellsOf, rebuiltFrom, payloadHits}
-use Rattle.gap.specs.Gap.{gapTo, hasGap, allZero, regionHits, gapHits, chainEnds, chainFrom, chain, pageHits}
+use Rattle.gap.specs.Gap.{gapTo, hasGap, regionHits, gapHits, chainEnds, chainFrom, chain, pageHits}
 use Rattle.hit.specs.declared.inner.Spot.{Spot}
 use Rattle.page.specs.Page.{Block}
 use Rattle.rebuild.specs.Header.{guessed, rebuilt}
@@ -136,5 +136,5 @@ cases =
     ∷ []
 
 table : map computed cases ≡ map expected cases
-unfolding cases computed expected header begins chained inHeader record9 rowsIn padded hints block spot row body pair none hasGap allZero regionHits gapHits chainEnds chainFrom chain pageHits guessed rebuilt cellAt cellsFrom cellsOf rebuiltFrom payloadHits scanFrom attemptAt judged bodiesFrom typesFrom headerFits suits isInteger isReal isText isBlob varintAt varintFrom widthOf leadingZeros typesPadded bodyLength bigEndian columnWords unusedWords share rebuiltShare percentOf rowWords ofBits ofInt div mul round toBits toUnsigned
+unfolding cases computed expected header begins chained inHeader record9 rowsIn padded hints block spot row body pair none hasGap regionHits gapHits chainEnds chainFrom chain pageHits guessed rebuilt cellAt cellsFrom cellsOf rebuiltFrom payloadHits scanFrom attemptAt judged bodiesFrom typesFrom headerFits suits isInteger isReal isText isBlob varintAt varintFrom widthOf leadingZeros typesPadded bodyLength bigEndian columnWords unusedWords share rebuiltShare percentOf rowWords ofBits ofInt div mul round toBits toUnsigned
 table = refl

@@ -2,39 +2,19 @@
 -- Assumes nothing.
 use Prim.Native.Nat.{ℕ, _+_, _-_, _≤_, _<_}
 use mathlib.Core.Path.{_≡_}
-use mathlib.Core.Bool.{true, false}
+use mathlib.Core.Bool.{false}
 use mathlib.Core.List.{List, [], _++_}
-use native.Mathlib.Numerals.{add-one}
-use native.Mathlib.Omega.{arith}
-use borrow.Author.Tests.{ne-eqb, le-leb, lt-leb, le-ltb, lt-ltb}
-use lib.ListN.{length, take, drop, getD}
-use lib.Seq.{drop-cons, drop-length}
-use Rattle.gap.specs.Gap.{gapFrom, gapTo, hasGap, allZero, regionHits, gapHits, chain, blocksHits, pageHits}
+use borrow.Author.Tests.{le-leb, lt-leb, le-ltb, lt-ltb}
+use lib.ListN.{length, take, drop}
+use Rattle.gap.specs.Gap.{gapFrom, gapTo, hasGap, regionHits, gapHits, chain, blocksHits, pageHits}
 use Rattle.hit.specs.declared.inner.Lent.{Lent}
 use Rattle.hit.specs.declared.inner.Spot.{Spot}
 use Rattle.rebuild.specs.declared.rebuilding.Rebuilding.{Rebuilding}
 use Rattle.sheet.proofs.Carving.{carves-more, carves-stop}
 use Rattle.sheet.specs.Inner.{Told, on, over, Carves}
 
--- ---- zeros
-module _ (s : List ℕ) (i : ℕ) where
-  pub zero-step : i < length s → getD s i 0 ≡ 0 → allZero (drop i s) ≡ allZero (drop (i + 1) s)
-  unfolding allZero
-  zero-step h z = rw (add-one, drop-cons s i 0 h, z)
-
-  pub zero-not : i < length s → (getD s i 0 ≡ 0 → ⊥) → allZero (drop i s) ≡ false
-  unfolding allZero
-  zero-not h n = rw (drop-cons s i 0 h) (simp (ne-eqb (getD s i 0) 0 n))
-
-  pub zero-end : i ≤ length s → length s ≤ i → allZero (drop i s) ≡ true
-  unfolding allZero
-  zero-end l h = let e : i ≡ length s = omega arith in rw (e, drop-length s)
-
 -- ---- a gap from `from` to `to`
 module _ (page : List ℕ) (head : ℕ) (hints : List ℕ) (spot : Spot) (from to : ℕ) (begins : from ≡ gapFrom page head) (ends : to ≡ gapTo page head) where
-  abbrev part : List ℕ
-  part = take (to - from) (drop from page)
-
   pub gap-none : to ≤ from → gapHits page head hints spot ≡ []
   unfolding gapHits hasGap
   gap-none h = rw (← begins, ← ends) (simp (le-ltb from to h))
@@ -43,14 +23,9 @@ module _ (page : List ℕ) (head : ℕ) (hints : List ℕ) (spot : Spot) (from t
   unfolding gapHits hasGap
   gap-past h p = rw (← begins, ← ends) (simp (lt-ltb from to h, lt-leb to (length page) p))
 
-  module _ (h : from < to) (p : to ≤ length page) where
-    pub gap-zero : allZero part ≡ true → gapHits page head hints spot ≡ []
-    unfolding gapHits hasGap
-    gap-zero z = rw (← begins, ← ends) (simp (lt-ltb from to h, le-leb to (length page) p, z))
-
-    pub gap-some : allZero part ≡ false → gapHits page head hints spot ≡ regionHits spot from part hints
-    unfolding gapHits hasGap
-    gap-some z = rw (← begins, ← ends) (simp (lt-ltb from to h, le-leb to (length page) p, z))
+  pub gap-some : from < to → to ≤ length page → gapHits page head hints spot ≡ regionHits spot from (take (to - from) (drop from page)) hints
+  unfolding gapHits hasGap
+  gap-some h p = rw (← begins, ← ends) (simp (lt-ltb from to h, le-leb to (length page) p))
 
 -- ---- a page
 module _ (how : Rebuilding) (page : List ℕ) (head : ℕ) (hints : List ℕ) (spot : Spot) where

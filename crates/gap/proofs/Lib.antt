@@ -1,5 +1,5 @@
 mod Cases
 mod Chaining
-mod Gaps
+pub mod Gaps
 pub mod ReadBack
 mod Regions

@@ -2,7 +2,7 @@
 -- Assumes nothing.
 use Prim.Native.Nat.{ℕ, zero, suc, _+_, _-_, _≤_, _<_}
 use mathlib.Core.Path.{_≡_, refl}
-use mathlib.Core.Bool.{Bool, true, false, cond, not, _&&_, _||_}
+use mathlib.Core.Bool.{Bool, true, false, cond, _&&_, _||_}
 use mathlib.Core.List.{List, [], _∷_, _++_}
 use native.Mathlib.Omega.{arith}
 use borrow.Author.Tests.{leb-true, ltb-true, ltb-false}
@@ -12,7 +12,7 @@ use Rattle.attempt.specs.Attempt.{Tried, miss, hit, attemptAt}
 use Rattle.cells.proofs.ReadBack.{payload-reads}
 use Rattle.cells.specs.Cells.{payloadHits}
 use Rattle.cells.specs.Values.{payloadValues, inSlice}
-use Rattle.gap.specs.Gap.{gapFrom, gapTo, hasGap, gapOf, allZero, runHits, regionHits, gapHits, chainEnds, blockThen, chainFrom, chain, blocksHits, pageHits}
+use Rattle.gap.specs.Gap.{gapFrom, gapTo, hasGap, gapOf, runHits, regionHits, gapHits, chainEnds, blockThen, chainFrom, chain, blocksHits, pageHits}
 use Rattle.gap.specs.Values.{rowsValues, regionValues, gapValues, blocksValues, pageValues}
 use Rattle.hit.proofs.ReadBack.{found-reads}
 use Rattle.hit.specs.declared.inner.Spot.{Spot}
@@ -61,18 +61,17 @@ module _ (slice : List ℕ) (spot : Spot) (page hints : List ℕ) (part : PartOf
   -- THE LAW: the rows of its gap
   pub gap-reads : (head : ℕ) → AllFit slice (length hints) (gapHits page head hints spot) (inSlice (spot .start + gapFrom page head) (gapValues page head hints))
   unfolding gapHits gapValues hasGap
-  gap-reads head = go (ltb (gapFrom page head) (gapTo page head)) (leb (gapTo page head) (length page)) (not (allZero (gapOf page head))) refl refl
+  gap-reads head = go (ltb (gapFrom page head) (gapTo page head)) (leb (gapTo page head) (length page)) refl refl
     where
-      go : (a b c : Bool) → ltb (gapFrom page head) (gapTo page head) ≡ a → leb (gapTo page head) (length page) ≡ b
-          → AllFit slice (length hints) (cond ((a && b) && c) (regionHits spot (gapFrom page head) (gapOf page head) hints) [])
-          (inSlice (spot .start + gapFrom page head) (cond ((a && b) && c) (regionValues (gapOf page head) hints) []))
-      go true true true e f =
+      go : (a b : Bool) → ltb (gapFrom page head) (gapTo page head) ≡ a → leb (gapTo page head) (length page) ≡ b
+          → AllFit slice (length hints) (cond (a && b) (regionHits spot (gapFrom page head) (gapOf page head) hints) [])
+          (inSlice (spot .start + gapFrom page head) (cond (a && b) (regionValues (gapOf page head) hints) []))
+      go true true e f =
           let lt = ltb-true (gapFrom page head) (gapTo page head) e in
           let le = leb-true (gapTo page head) (length page) f in
           region-reads slice spot (gapFrom page head) (gapOf page head) hints (part-within (part-taken page (gapFrom page head) (gapTo page head - gapFrom page head) (omega arith)) part)
-      go true true false e f = tt
-      go true false c e f = tt
-      go false b c e f = tt
+      go true false e f = tt
+      go false b e f = tt
 
   module _ (how : Rebuilding) (some : 1 ≤ length hints) (few : length hints ≤ mostBy how) where
     then-reads : (at : ℕ) (rest : List Block) → BlocksRead how slice spot page hints rest → BlocksRead how slice spot page hints (blockThen page at rest)

@@ -1,7 +1,7 @@
 -- Rows in the free space of a page (rules 11.1 to 11.3 and 11.8): the gap before its content, then its freed blocks.
 -- Assumes nothing.
 use Prim.Native.Nat.{ℕ, zero, suc, _+_, _-_, _*_}
-use mathlib.Core.Bool.{Bool, true, cond, not, _&&_, _||_}
+use mathlib.Core.Bool.{Bool, cond, _&&_, _||_}
 use mathlib.Core.List.{List, [], _∷_, _++_}
 use lib.Dec.{ltb, leb, eqb}
 use lib.ListN.{length, take, drop}
@@ -32,10 +32,6 @@ hasGap page head = ltb (gapFrom page head) (gapTo page head) && leb (gapTo page 
 abbrev pub gapOf : List ℕ → ℕ → List ℕ
 gapOf page head = take (gapTo page head - gapFrom page head) (drop (gapFrom page head) page)
 
-unfoldable pub allZero : List ℕ → Bool
-allZero [] = true
-allZero (b ∷ bs) = eqb b 0 && allZero bs
-
 -- Rule 11.2: the row at o of a region that begins at `from` in its page
 abbrev pub regionHit : Spot → ℕ → ℕ → ℕ → Found → Hit
 regionHit spot columns from o x = hitOf spot (from + o) from (intraPage Absent (share (x .matched) columns)) x
@@ -51,10 +47,9 @@ runHits spot columns from (found o x t) = regionHit spot columns from o x ∷ ru
 unfoldable pub regionHits : Spot → ℕ → List ℕ → List ℕ → List Hit
 regionHits spot from s hints = runHits spot (length hints) from (scanFrom (length s) s hints (length s) 0 0)
 
--- Rule 11.1: a gap of zeros is left out
+-- and so is the gap, if there is one
 unfoldable pub gapHits : List ℕ → ℕ → List ℕ → Spot → List Hit
-gapHits page head hints spot =
-    cond (hasGap page head && not (allZero (gapOf page head))) (regionHits spot (gapFrom page head) (gapOf page head) hints) []
+gapHits page head hints spot = cond (hasGap page head) (regionHits spot (gapFrom page head) (gapOf page head) hints) []
 
 -- ---- the chain
 

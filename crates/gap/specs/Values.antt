@@ -1,13 +1,13 @@
 -- The values of the rows in a page's free space (rule 4.13): what their columns say, by the bodies' places.
 -- Assumes nothing.
 use Prim.Native.Nat.{ℕ, _+_}
-use mathlib.Core.Bool.{cond, not, _&&_}
+use mathlib.Core.Bool.{cond}
 use mathlib.Core.List.{List, [], _∷_, _++_}
 use lib.Dec.{ltb}
 use lib.ListN.{length}
 use Rattle.attempt.specs.Values.{rowValues}
 use Rattle.cells.specs.Values.{payloadValues, inSlice}
-use Rattle.gap.specs.Gap.{gapFrom, hasGap, gapOf, allZero, chain}
+use Rattle.gap.specs.Gap.{gapFrom, hasGap, gapOf, chain}
 use Rattle.page.specs.Page.{Block, payloadOf}
 use Rattle.rebuild.specs.declared.rebuilding.Rebuilding.{Rebuilding}
 use Rattle.record.specs.declared.record.Value.{Value}
@@ -25,7 +25,7 @@ regionValues s hints = rowsValues s (scanFrom (length s) s hints (length s) 0 0)
 
 -- said of the gap
 unfoldable pub gapValues : List ℕ → ℕ → List ℕ → List (List Value)
-gapValues page head hints = cond (hasGap page head && not (allZero (gapOf page head))) (regionValues (gapOf page head) hints) []
+gapValues page head hints = cond (hasGap page head) (regionValues (gapOf page head) hints) []
 
 -- ---- said of a slice in which the page begins at `start`
 

@@ -1,4 +1,5 @@
 pub mod Demand3
+pub mod GapRows
 pub mod OnlyList
 pub mod Resuming
 mod Returning

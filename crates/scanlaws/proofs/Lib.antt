@@ -9,3 +9,4 @@ pub mod Leaving
 pub mod Resuming
 pub mod Room
 pub mod ScanList
+pub mod Zeros

@@ -3,7 +3,7 @@
 use Prim.Native.Nat.{ℕ, _/_, _≤_, _<_}
 use mathlib.Core.Path.{_≡_}
 use mathlib.Core.List.{List, [], _∷_, _++_}
-use lib.ListN.{length, take, drop}
+use lib.ListN.{length, take, drop, replicate}
 use Rattle.scan.specs.Scan.{Run, through, noRoom, missed, found, rowOf}
 use Rattle.scan.specs.Sheet.{Sheet, Asked}
 use Rattle.scanlaws.specs.Only.{Placed, OnlyList}
@@ -11,6 +11,10 @@ use Rattle.sheet.specs.Refusal.{refusalNumber}
 use Rattle.sheet.specs.Sheet.{rowsWords, columnsWords}
 use Rattle.sheet.specs.declared.refusal.Refusal.the-variants.{NoRoom}
 use Rattle.sheet.specs.declared.row.Row.{Row}
+
+-- a region of zeros
+abbrev pub zeros : ℕ → List ℕ
+zeros n = replicate n 0
 
 -- the rows of a run
 abbrev pub placed : Run → List Placed

@@ -19,15 +19,15 @@ use Rattle.sheet.specs.Hits.{Hit, rowsOf, groupWords, groupsWords}
 use Rattle.sheet.specs.Inner.{Puts, Told, on, over, overflow, carvedTo, Carves}
 
 -- ---- words of hits
-rows-append : (a b : List Hit) → rowsWords (rowsOf (a ++ b)) ≡ rowsWords (rowsOf a) ++ rowsWords (rowsOf b)
+pub rows-append : (a b : List Hit) → rowsWords (rowsOf (a ++ b)) ≡ rowsWords (rowsOf a) ++ rowsWords (rowsOf b)
 rows-append [] b = refl
 rows-append (h ∷ a) b = rw (rows-append a b) (sym (append-assoc (rowWords (h .row)) (rowsWords (rowsOf a)) (rowsWords (rowsOf b))))
 
-groups-append : (width : ℕ) (a b : List Hit) → groupsWords width (a ++ b) ≡ groupsWords width a ++ groupsWords width b
+pub groups-append : (width : ℕ) (a b : List Hit) → groupsWords width (a ++ b) ≡ groupsWords width a ++ groupsWords width b
 groups-append width [] b = refl
 groups-append width (h ∷ a) b = rw (groups-append width a b) (sym (append-assoc (groupWords width h) (groupsWords width a) (groupsWords width b)))
 
-rows-count : (hs : List Hit) → length (rowsOf hs) ≡ length hs
+pub rows-count : (hs : List Hit) → length (rowsOf hs) ≡ length hs
 rows-count [] = refl
 rows-count (h ∷ hs) = ap suc (rows-count hs)
 

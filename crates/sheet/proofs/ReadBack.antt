@@ -122,7 +122,7 @@ module _ (s : List ℕ) where
   fit-append width (h ∷ a) b [] y p q = absurd p
   fit-append width (h ∷ a) b (v ∷ x) y p q = (p .0, fit-append width a b x y (p .1) q)
 
-  fit-taken : (n width : ℕ) (hs : List Hit) (vss : List (List Value)) → AllFit width hs vss → AllFit width (take n hs) (take n vss)
+  pub fit-taken : (n width : ℕ) (hs : List Hit) (vss : List (List Value)) → AllFit width hs vss → AllFit width (take n hs) (take n vss)
   fit-taken zero width hs vss r = tt
   fit-taken (suc n) width [] [] r = tt
   fit-taken (suc n) width [] (vs ∷ vss) r = absurd r

@@ -53,6 +53,8 @@ pub fn all(sink: &mut dyn Sink, random: &mut Random, count: usize) {
     sizes(&mut AsGaps(sink));
     whole_page(&mut AsGaps(sink));
     shares(&mut AsGaps(sink));
+    short_zeros(&mut AsGaps(sink));
+    pages_of_zeros(&mut AsGaps(sink));
     chains::some(&mut AsGaps(sink), random, count / 4);
     for i in 0..count * 3 / 4 {
         match i % 256 {
@@ -224,6 +226,50 @@ pub fn whole_page(sink: &mut dyn Sink) {
                     numbered(sink, &page, 0, &[0], 1);
                 }
             }
+        }
+    }
+}
+
+/// Gaps of zeros and of zeros but for one byte, any byte at any place; the empty one first. Behind each stand rows that are not in it.
+pub fn short_zeros(sink: &mut dyn Sink) {
+    const LONGEST: usize = 10;
+    let lent: [&[u8]; 4] = [&[0], &[2], &[5, 5], &[4, 0, 5]];
+    for length in 0..=LONGEST {
+        let mut gap = vec![0; length];
+        lent.map(|hints| slice(sink, &around(&gap, 1, &BEHIND), 0, hints, 1));
+        for place in 0..length {
+            for byte in 1..=255 {
+                gap[place] = byte;
+                lent.map(|hints| slice(sink, &around(&gap, 1, &BEHIND), 0, hints, 1));
+            }
+            gap[place] = 0;
+        }
+    }
+}
+
+/// Pages of every size that are all gap, of zeros; and those of two sizes with one byte that tells at every place of it.
+fn pages_of_zeros(sink: &mut dyn Sink) {
+    let all = |size: usize, at: usize| {
+        let mut page = vec![0; size];
+        page[at] = LEAF;
+        put_head(&mut page, at, &Head { first_block: 0, cells: 0, content: size });
+        page
+    };
+    for size in SIZES {
+        for at in [0, 100] {
+            let page = all(size, at);
+            slice(sink, &page, at, &[0], 1);
+            numbered(sink, &page, at, &[0], 1);
+        }
+    }
+    for (size, bytes) in [(512, &TELLING[..]), (4096, &[2, 0x80])] {
+        let mut page = all(size, 0);
+        for place in 8..size {
+            for &byte in bytes {
+                page[place] = byte;
+                slice(sink, &page, 0, &[5], 1);
+            }
+            page[place] = 0;
         }
     }
 }

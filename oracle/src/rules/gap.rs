@@ -78,8 +78,7 @@ fn gap(limits: &Limits, page: &[u8], head: usize) -> Option<Range<usize>> {
         0 => limits.whole_page,
         end => end,
     };
-    let there = start < end && end <= page.len() && page[start..end].iter().any(|&b| b != 0);
-    there.then_some(start..end)
+    (start < end && end <= page.len()).then_some(start..end)
 }
 
 /// What the blocks of a page hold behind their links, in the order of their chain. A bad size loses that block alone.

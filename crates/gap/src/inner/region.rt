@@ -16,26 +16,13 @@ ghost use mathlib.Core.Path.{_≡_};
 ghost use mathlib.Core.Bool.{false};
 ghost use Prim.Native.Nat.{_+_, _≤_};
 ghost use lib.ListN.{length};
-ghost use Rattle.gap.specs.Gap.{allZero, gapFrom, gapTo, regionHits, gapHits};
+ghost use Rattle.gap.specs.Gap.{gapFrom, gapTo, regionHits, gapHits};
 ghost use Rattle.hit.specs.Inner.{Ready};
 ghost use Rattle.page.specs.Inner.{farthest};
 ghost use Rattle.sheet.specs.Inner.{carvedAs, Carves};
 
 // What a content start of 0 stands for, since two bytes cannot say it.
 const LARGEST_PAGE: usize = 65_536;
-
-fn all_zero(bytes: &[u8]) -> bool
-    ensures { λ r. ⌜ r ≡ allZero (now (bytes .entry)) ⌝ }
-{
-    let mut i = 0;
-    while i < bytes.len() {
-        if bytes[i] != 0 {
-            return false;
-        }
-        i = i + 1;
-    }
-    true
-}
 
 // Scans a region that begins at `from` in its page.
 fn carve_region(
@@ -123,9 +110,6 @@ pub fn carve_gap(
         return Carved::On(n);
     }
     if to > page.len() {
-        return Carved::On(n);
-    }
-    if all_zero(&page[from..to]) {
         return Carved::On(n);
     }
     carve_region(&page[from..to], from, hints, spot, lent, n, rows, cols)

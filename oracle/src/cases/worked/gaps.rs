@@ -24,6 +24,9 @@ fn gaps() -> Vec<Worked> {
         of_a_page("two pointers to its end: none", "0d 0000 0002 000c 00 0208 0000"),
         of_a_page("to a byte behind the page: none", "0d 0000 0000 000c 00 0208 00"),
         of_a_page("a content start of 0: past this page", "0d 0000 0000 0000 00 0208 00"),
+        of_a_page("no byte: none", "0d 0000 0000 0008 00 0208 00"),
+        of_a_page("of zeros: no row", "0d 0000 0000 000e 00 0000 0000 0000 0208 00"),
+        of_a_page("of zeros but for one byte: a row whose type is 0", "0d 0000 0000 000e 00 0000 0200 0000 0208 00"),
         gap_slice("a content start of 0 in a page of 65536 bytes", ONE_BYTE, large_page(), [0, 0], "0002", 2),
     ]
 }

@@ -1,9 +1,8 @@
 -- `gap::inner::region::carve_gap` meets its contract: each way out is a law of `proofs/Gaps.antt`.
 -- Assumes nothing.
-use mathlib.Core.Path.{sym, _∙_}
 use borrow.Author.Needs.{needs}
 use denote.Ref.{now}
-use Rattle.gap.proofs.Gaps.{gap-none, gap-past, gap-zero, gap-some}
+use Rattle.gap.proofs.Gaps.{gap-none, gap-past, gap-some}
 use Rattle.gap.proofs.inner.region.carve_gap.Statement.{statement}
 use Rattle.gap.proofs.inner.region.carve_gap.Tie as tie
 use Rattle.sheet.proofs.Carving.{carves-none}
@@ -30,26 +29,6 @@ returns-2 c =
     rw (gap-past (now (a .page)) (a .head) (now (a .hints)) (a .spot) _ _ (c .before .before .before .gap-from .ensures) (c .before .before .gap-to .ensures) (c .before .if1 .left) (c .if2 .taken))
     (carves-none _ _ _ _ _ (start (c .before .before) .pre .1 .space .fits))
 
-sub-all-zero : tie.Need-sub-all-zero
-sub-all-zero c = search needs
-
-part-all-zero-start : tie.Need-part-all-zero-start
-part-all-zero-start c = search needs
-
-part-all-zero-end : tie.Need-part-all-zero-end
-part-all-zero-end c = search needs
-
-all-zero-requires : tie.Need-all-zero-requires
-all-zero-requires c κs = search needs
-
-returns-3 : tie.Need-returns-3
-returns-3 c =
-    let inside = c .before .before .before in
-    let a = start (inside .before .before) .args in
-    rw (gap-zero (now (a .page)) (a .head) (now (a .hints)) (a .spot) _ _ (inside .before .before .before .gap-from .ensures) (inside .before .before .gap-to .ensures) (inside .before .if1 .left) (inside .if2 .left)
-    (sym (c .before .all-zero .ensures) ∙ c .if3 .taken))
-    (carves-none _ _ _ _ _ (start (inside .before .before) .pre .1 .space .fits))
-
 sub-carve-region : tie.Need-sub-carve-region
 sub-carve-region c = search needs
 
@@ -68,13 +47,11 @@ same-length c = search needs
 same-length-2 : tie.Need-same-length-2
 same-length-2 c = search needs
 
-returns-4 : tie.Need-returns-4
-returns-4 c =
-    let some = c .before .before .before .before .before .before .before .before in
-    let inside = some .before .before .before in
+returns-3 : tie.Need-returns-3
+returns-3 c =
+    let inside = c .before .before .before .before .before .before .before .before in
     let a = start (inside .before .before) .args in
-    rw (gap-some (now (a .page)) (a .head) (now (a .hints)) (a .spot) _ _ (inside .before .before .before .gap-from .ensures) (inside .before .before .gap-to .ensures) (inside .before .if1 .left) (inside .if2 .left)
-    (sym (some .before .all-zero .ensures) ∙ some .if3 .left))
+    rw (gap-some (now (a .page)) (a .head) (now (a .hints)) (a .spot) _ _ (inside .before .before .before .gap-from .ensures) (inside .before .before .gap-to .ensures) (inside .before .if1 .left) (inside .if2 .left))
     (c .before .before .before .before .carve-region .ensures)
 
 pub carve-gap-spec : {M : Type 1} → statement M
@@ -85,15 +62,10 @@ carve-gap-spec =
     gap-to-requires
     returns
     returns-2
-    sub-all-zero
-    part-all-zero-start
-    part-all-zero-end
-    all-zero-requires
-    returns-3
     sub-carve-region
     part-carve-region-start
     part-carve-region-end
     carve-region-requires
     same-length
     same-length-2
-    returns-4)
+    returns-3)

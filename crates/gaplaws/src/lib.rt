@@ -1,0 +1,1 @@
+// Laws of the free space of a page; no code.

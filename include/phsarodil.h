@@ -52,6 +52,12 @@
  * bytes were text, the row's types are that text, a byte each. A type also shows an integer's size and that a REAL is whole,
  * a length how long a note is. Dropping rows of low confidence makes text in types rarer; nothing excludes it. README, "What
  * the sheet gives away", has an example.
+ *     Of phs_scan_page_gap and phs_scan_single_page_gap it is proved for the rows of the gap, which come first: with the same
+ * other arguments they are a function of the page's length, of the count of cells and the start of the content in its header,
+ * and of the bytes that attempts in the gap read as headers. For the rows of freed blocks it is not. Those rest on where the
+ * first block is, on the four bytes that each block begins with, on the lengths and row ids of cells, on the bytes that are
+ * read as their records' headers, and on those that are read as types where a header is rebuilt, at every byte of a block.
+ * They are guesses as well, and their types may be text.
  */
 #ifndef PHSARODIL_H
 #define PHSARODIL_H
@@ -351,8 +357,8 @@ uint64_t phs_recover_slice_freeblocks(const uint8_t *page, size_t len, size_t he
 /*
  * The rows in the free space of the leaves of tables, lent and walked as in phs_recover_freeblocks. `rebuilding` is an enum
  * phs_rebuilding. Of a page it looks at two things, one after the other:
- *     The gap between the end of its cell pointers and the start of its content, if there is one and it is not all zeros,
- *     scanned as phs_scan_region does.
+ *     The gap between the end of its cell pointers and the start of its content, if there is one, scanned as phs_scan_region
+ *     does.
  *     Its freed blocks, by a chain of its own: from the first block on to each one's next, until that is 0, is past the
  *     page or is not larger, and for 1,024 blocks at the most; a block of a size below 4 or past the page is left out.
  * In a block whole cells come first: a record's length, a row id and the record; behind one that is a row the search goes

@@ -1,3 +1,4 @@
 mod Headers
 pub mod Laws
+mod Low
 mod Runs

@@ -48,10 +48,11 @@ abbrev pub AllLow : List ℕ → ℕ → ℕ → Bool → Type 0
 AllLow s from to true = (q : ℕ) → from ≤ q → q < to → getD s q 0 < 128
 AllLow s from to false = Unit
 
--- the bytes from one place up to another are below 2
+-- bytes from one place up to another are below 2, and none is behind the slice's end
 pub record LowTo (s : List ℕ) (from to : ℕ) : Type 0 where
   pub behind : from ≤ to
-  pub inside : to ≤ length s
+  pub near : from < length s → to ≤ length s
+  pub early : length s ≤ from → to ≡ from
   pub low : (q : ℕ) → from ≤ q → q < to → getD s q 0 < 2
 
 -- ---- types

@@ -93,9 +93,8 @@ fn look(bytes: &[u8], hints: &[u8], o: usize) -> usize
     0
 }
 
-// Where bytes below 2 end, from a place on. Of a page that was never full most are 0, so the loop has nothing else in it.
+// Where bytes below 2 end, from a place on. Most of a page that was never full is 0, so this loop does nothing else.
 fn low_end(bytes: &[u8], start: usize) -> usize
-    requires { ⌜ start ≤ length (now bytes) ⌝ }
     ensures { λ r. ⌜ LowTo (now (bytes .entry)) start r ⌝ }
 {
     let mut at = start;
@@ -117,9 +116,8 @@ fn pass_seen(bytes: &[u8], hints: &[u8], start: usize, last: usize) -> PassedOve
     let mut read: usize = 0;
     while o < last {
         if bytes[o] < 2 {
-            let next = low_end(&bytes[0..last], o + 1);
-            read = read + (next - o);
-            o = next;
+            read = read + 1;
+            o = o + 1;
             continue;
         }
         let r = look(bytes, hints, o);
@@ -256,10 +254,11 @@ pub fn next_row(bytes: &[u8], hints: &[u8], start: usize, last: usize, run: High
     requires { ⌜ IsHigh (now bytes) run ⌝ }
     ensures { λ r. ⌜ NextSays (now (bytes .entry)) (now (hints .entry)) start last r ⌝ }
 {
-    let mut at = start;
-    let mut read: usize = 0;
+    let low = low_end(&bytes[0..last], start);
+    let mut at = low;
+    let mut read: usize = low - start;
     // Rows often stand one behind the other, so the first step is the slow one.
-    let mut step = one_step(bytes, hints, start, last, run);
+    let mut step = one_step(bytes, hints, low, last, run);
     loop {
         match step {
             Step::Row { find, run: high } => {

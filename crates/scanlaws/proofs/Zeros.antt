@@ -1,4 +1,4 @@
--- A region of zeros has no rows: a byte 0 is a header length of 0, so every attempt fails, and the empty list is the only one.
+-- A region of zeros has no rows (rule 4.18): a byte 0 is a header length of 0, so every attempt fails, and the empty list is the only one.
 -- Assumes nothing.
 use Prim.Native.Nat.{ℕ, _+_, _-_, _<_}
 use mathlib.Core.Path.{_≡_}

@@ -12,7 +12,7 @@ use Rattle.sheet.specs.Sheet.{rowsWords, columnsWords}
 use Rattle.sheet.specs.declared.refusal.Refusal.the-variants.{NoRoom}
 use Rattle.sheet.specs.declared.row.Row.{Row}
 
--- a region of zeros
+-- Rule 4.18: a region of zeros
 abbrev pub zeros : ℕ → List ℕ
 zeros n = replicate n 0
 

@@ -234,13 +234,18 @@ pub fn whole_page(sink: &mut dyn Sink) {
 pub fn short_zeros(sink: &mut dyn Sink) {
     const LONGEST: usize = 10;
     let lent: [&[u8]; 4] = [&[0], &[2], &[5, 5], &[4, 0, 5]];
+    let mut put = |gap: &[u8]| {
+        for hints in lent {
+            slice(sink, &around(gap, 1, &BEHIND), 0, hints, 1);
+        }
+    };
     for length in 0..=LONGEST {
         let mut gap = vec![0; length];
-        lent.map(|hints| slice(sink, &around(&gap, 1, &BEHIND), 0, hints, 1));
+        put(&gap);
         for place in 0..length {
             for byte in 1..=255 {
                 gap[place] = byte;
-                lent.map(|hints| slice(sink, &around(&gap, 1, &BEHIND), 0, hints, 1));
+                put(&gap);
             }
             gap[place] = 0;
         }

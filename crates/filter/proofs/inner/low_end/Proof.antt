@@ -1,7 +1,7 @@
 -- `filter::inner::low_end` meets its contract: the bytes before `at` are below 2.
 -- Assumes nothing.
 use Prim.Native.Nat.{_-_}
-use mathlib.Core.Path.{_≡_}
+use mathlib.Core.Path.{_≡_, refl}
 use native.Mathlib.Omega.{arith}
 use borrow.Author.Needs.{needs}
 use lib.ListN.{length}
@@ -17,7 +17,7 @@ abbrev μ-loop : tie.MeasureT-loop
 μ-loop bytes start at₀ at = length bytes - at
 
 loop-holds : tie.Need-loop-holds Inv-loop μ-loop
-loop-holds c = record { behind = omega arith; inside = c .pre; low = λ q lo hi. absurd (omega arith) }
+loop-holds c = record { behind = omega arith; near = λ h. omega arith; early = λ h. refl; low = λ q lo hi. absurd (omega arith) }
 
 shared-slice-read-if1 : tie.Need-shared-slice-read-if1 Inv-loop μ-loop
 shared-slice-read-if1 c = search needs
@@ -36,7 +36,8 @@ loop-again c =
     let l = c .before .before .before .loop in
     record {
       behind = omega (arith, l .inv .behind);
-      inside = omega (arith, c .before .before .loop-test .taken);
+      near = λ h. omega (arith, c .before .before .loop-test .taken);
+      early = λ h. absurd (omega (arith, c .before .before .loop-test .taken, l .inv .early h));
       low = λ q lo hi. by-order q (l .at) (λ lt. l .inv .low q lo lt) (λ ge. let e : q ≡ l .at = omega arith in rw e (omega (arith, c .if1 .left)));
     }
 

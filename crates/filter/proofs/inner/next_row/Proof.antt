@@ -5,22 +5,26 @@ use native.Mathlib.Omega.{arith}
 use borrow.Author.Needs.{needs}
 use denote.Ref.{now}
 use Rattle.filter.specs.Inner.{PassedOverIs, OnIs, StepSays}
-use Rattle.filter.proofs.Laws.{passed-none, passed-on, passed-few}
+use Rattle.filter.proofs.Laws.{passed-on, passed-few}
+use Rattle.filter.proofs.Low.{low-passed}
 use Rattle.filter.proofs.inner.next_row.Statement.{statement}
 use Rattle.filter.proofs.inner.next_row.Tie as tie
 
 abbrev Inv-loop : tie.InvT-loop
-Inv-loop bytes hints start last at₀ read₀ step₀ at read step = PassedOverIs bytes hints start last at read × StepSays bytes hints at last step
+Inv-loop bytes hints start last low at₀ read₀ step₀ at read step = PassedOverIs bytes hints start last at read × StepSays bytes hints at last step
 
 abbrev μ-loop : tie.MeasureT-loop
-μ-loop bytes hints start last at₀ read₀ step₀ at read step = last - at
+μ-loop bytes hints start last low at₀ read₀ step₀ at read step = last - at
 
--- ---- places, from the last: what was seen is passed; the loop; the call
+-- ---- places, from the last: what was seen is passed; the loop; bytes below 2 end; the call
 abbrev turn : tie.After-pass-seen Inv-loop μ-loop → tie.At-loop Inv-loop μ-loop
 turn c = c .before .before .before .before .before
 
+abbrev called : tie.After-low-end Inv-loop μ-loop → tie.Start Inv-loop μ-loop
+called c = c .before .before .before .before
+
 abbrev start : tie.At-loop Inv-loop μ-loop → tie.Start Inv-loop μ-loop
-start c = c .before .before .before .before
+start c = called (c .before .before)
 
 -- a step on,
 stepped : (c : tie.After-pass-seen Inv-loop μ-loop) →
@@ -41,11 +45,26 @@ beyond : (c : tie.After-pass-seen Inv-loop μ-loop) →
     PassedOverIs (now (a .bytes)) (now (a .hints)) (a .start) (a .last) (seen .to) (turn c .loop .read + c .before .before .before .step2 .given .0 .0 .read + seen .read)
 beyond c = passed-on _ _ _ _ _ _ (further c) _ _ (c .pass-seen .ensures)
 
+sub-low-end : tie.Need-sub-low-end Inv-loop μ-loop
+sub-low-end c = search needs
+
+part-low-end-start : tie.Need-part-low-end-start Inv-loop μ-loop
+part-low-end-start c = search needs
+
+part-low-end-end : tie.Need-part-low-end-end Inv-loop μ-loop
+part-low-end-end c = search needs
+
+low-end-requires : tie.Need-low-end-requires Inv-loop μ-loop
+low-end-requires c κs = search needs
+
+sub-read : tie.Need-sub-read Inv-loop μ-loop
+sub-read c = c .low-end .ensures .behind
+
 one-step-requires : tie.Need-one-step-requires Inv-loop μ-loop
-one-step-requires c κs = let p = c .before .before .pre in ((omega (arith, p .0 .0), p .0 .1, p .0 .2), p .1)
+one-step-requires c κs = let p = called c .pre in ((omega (arith, p .0 .0), p .0 .1, p .0 .2), p .1)
 
 loop-holds : tie.Need-loop-holds Inv-loop μ-loop
-loop-holds c = (passed-none _ _ _ _, c .one-step .ensures)
+loop-holds c = (low-passed _ _ _ _ (omega (arith, called (c .before) .pre .0 .0)) _ (c .before .low-end .ensures), c .one-step .ensures)
 
 enum-known-step : tie.Need-enum-known-step Inv-loop μ-loop
 enum-known-step c = search needs
@@ -90,6 +109,11 @@ next-row-spec =
     (tie.spec
     Inv-loop
     μ-loop
+    sub-low-end
+    part-low-end-start
+    part-low-end-end
+    low-end-requires
+    sub-read
     one-step-requires
     loop-holds
     enum-known-step

@@ -160,6 +160,9 @@ fn blocks(all: &mut Vec<Measure>) {
     });
 }
 
+/// One byte for each type, the header at 0, and no base.
+const GAP_NUMBERS: [u64; 3] = [ONE_BYTE, 0, 0];
+
 fn single_pages(all: &mut Vec<Measure>) {
     let ways = WAYS.map(|(exact, way)| (GAP_SLICE, exact, vec![way, 0, 0]));
     for (call, exact, numbers) in [(RECOVER_SLICE, "", vec![0, 0])].into_iter().chain(ways) {
@@ -173,10 +176,17 @@ fn single_pages(all: &mut Vec<Measure>) {
             add(all, call, input, move || page(call, &numbers, &pages::small_blocks(length), &READING_HINTS));
         }
     }
-    for name in ["text", "random", "zeros"] {
-        let (kind, numbers) = (kind(name), [ONE_BYTE, 0, 0]);
-        add(all, GAP_SLICE, format!("gap of {name}/64K"), move || page(GAP_SLICE, &numbers, &pages::gap(kind), &HINTS));
+    let gaps: [(&str, fn(Kind) -> Vec<u8>); 2] = [("gap of", pages::gap), ("gap of zeros and", pages::half_gap)];
+    for (gap, make) in gaps {
+        for name in ["text", "random"] {
+            let kind = kind(name);
+            add(all, GAP_SLICE, format!("{gap} {name}/64K"), move || {
+                page(GAP_SLICE, &GAP_NUMBERS, &make(kind), &HINTS)
+            });
+        }
     }
+    let zeros = || page(GAP_SLICE, &GAP_NUMBERS, &pages::gap(Kind::Zeros), &HINTS);
+    add(all, GAP_SLICE, "gap of zeros/64K".into(), zeros);
 }
 
 fn databases(all: &mut Vec<Measure>) {

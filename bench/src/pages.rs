@@ -47,6 +47,13 @@ pub fn gap(kind: Kind) -> Vec<u8> {
     page
 }
 
+/// The same, with zeros in the first half, as where rows were put in from the page's end.
+pub fn half_gap(kind: Kind) -> Vec<u8> {
+    let mut page = gap(kind);
+    page[HEADER..LARGEST / 2].fill(0);
+    page
+}
+
 /// A leaf full of freed cells of one reading each. Of every second one the link has taken the length and the row id alone, of the
 /// others the header's length and first type too.
 pub fn small_blocks(size: usize) -> Vec<u8> {

@@ -44,8 +44,11 @@ runHits spot columns from (found o x t) = regionHit spot columns from o x ∷ ru
 
 -- Rule 11.2: a region is scanned by the scan's rule (4.8), with room for as many rows as it has bytes: each finds it (`roomy` of
 -- `scanlaws`)
+abbrev pub regionRun : List ℕ → List ℕ → Run
+regionRun s hints = scanFrom (length s) s hints (length s) 0 0
+
 unfoldable pub regionHits : Spot → ℕ → List ℕ → List ℕ → List Hit
-regionHits spot from s hints = runHits spot (length hints) from (scanFrom (length s) s hints (length s) 0 0)
+regionHits spot from s hints = runHits spot (length hints) from (regionRun s hints)
 
 -- and so is the gap, if there is one
 unfoldable pub gapHits : List ℕ → ℕ → List ℕ → Spot → List Hit

@@ -7,11 +7,11 @@ use lib.Dec.{ltb}
 use lib.ListN.{length}
 use Rattle.attempt.specs.Values.{rowValues}
 use Rattle.cells.specs.Values.{payloadValues, inSlice}
-use Rattle.gap.specs.Gap.{gapFrom, hasGap, gapOf, chain}
+use Rattle.gap.specs.Gap.{gapFrom, hasGap, gapOf, regionRun, chain}
 use Rattle.page.specs.Page.{Block, payloadOf}
 use Rattle.rebuild.specs.declared.rebuilding.Rebuilding.{Rebuilding}
 use Rattle.record.specs.declared.record.Value.{Value}
-use Rattle.scan.specs.Scan.{Run, through, noRoom, missed, found, scanFrom}
+use Rattle.scan.specs.Scan.{Run, through, noRoom, missed, found}
 
 -- row by row, as `runHits` has them
 abbrev pub rowsValues : List ℕ → Run → List (List Value)
@@ -21,7 +21,7 @@ rowsValues s (missed o t) = rowsValues s t
 rowsValues s (found o x t) = rowValues s o ∷ rowsValues s t
 
 unfoldable pub regionValues : List ℕ → List ℕ → List (List Value)
-regionValues s hints = rowsValues s (scanFrom (length s) s hints (length s) 0 0)
+regionValues s hints = rowsValues s (regionRun s hints)
 
 -- said of the gap
 unfoldable pub gapValues : List ℕ → ℕ → List ℕ → List (List Value)

@@ -2,7 +2,7 @@
 -- of pages whose gaps are alike.
 -- Assumes nothing.
 use Prim.Native.Nat.{ℕ}
-use mathlib.Core.Path.{_≡_, refl, _∙_}
+use mathlib.Core.Path.{_≡_, refl}
 use mathlib.Core.List.{List}
 use lib.ListN.{length}
 use Rattle.carving.specs.Calls.{hitsBy, leafHits, SliceAsked, sliceAsked, sliceFilling, NumberedAsked, numberedAsked, numberedFilling}
@@ -14,7 +14,7 @@ use Rattle.gaplaws.specs.GapSheet.{frontOf, sliceGap, AlikeSlices, numbe
 use Rattle.hit.specs.declared.inner.Spot.{Spot}
 use Rattle.page.specs.Page.{startOf, pageOf, headOf}
 use Rattle.rebuild.specs.declared.rebuilding.Rebuilding.{Rebuilding}
-use Rattle.sheet.specs.Hits.{RowFilling, rowsLeft, entriesLeft}
+use Rattle.sheet.specs.Hits.{rowsLeft, entriesLeft}
 
 -- ---- alike
 pub slice-same : (a b : SliceAsked) → AlikeSlices a b → sliceGap a ≡ sliceGap b

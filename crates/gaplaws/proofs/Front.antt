@@ -1,21 +1,21 @@
 -- The first rows that a call on a page writes are those of the gap, whatever comes behind them.
 -- Assumes nothing.
-use Prim.Native.Nat.{ℕ, zero, suc, _+_, _*_, _≤_, _<_}
+use Prim.Native.Nat.{ℕ, zero, suc, _+_, _*_, _<_}
 use mathlib.Core.Path.{_≡_, refl, sym, ap, _∙_}
 use mathlib.Core.Bool.{Bool, true, false, cond}
 use mathlib.Core.List.{List, [], _∷_, _++_, append-assoc}
 use native.Mathlib.Nat.{zero-mul, suc-mul}
 use native.Mathlib.Omega.{arith}
-use lib.Dec.{ltb}
 use borrow.Author.Tests.{ltb-true}
-use lib.ListN.{length, take, drop, getD, length-append, length-replicate}
+use lib.Dec.{ltb}
+use lib.ListN.{length, take, drop, length-append, length-replicate}
 use lib.Seq.{take-append-seam, getD-append-add}
+use Rattle.cells.specs.Values.{inSlice}
 use Rattle.gap.proofs.Gaps.{gap-none, gap-past}
 use Rattle.gap.proofs.ReadBack.{gap-reads}
 use Rattle.gap.specs.Gap.{gapFrom, gapTo, gapHits, chain, blocksHits, pageHits}
 use Rattle.gap.specs.Values.{gapValues}
 use Rattle.gaplaws.specs.GapSheet.{sheetOfHits, gapSheet, frontOf}
-use Rattle.cells.specs.Values.{inSlice}
 use Rattle.hit.specs.declared.inner.Spot.{Spot}
 use Rattle.rebuild.specs.declared.rebuilding.Rebuilding.{Rebuilding}
 use Rattle.record.proofs.Numbers.{by-order}

@@ -7,13 +7,13 @@ use mathlib.Core.List.{List, [], _∷_, map}
 use native.Mathlib.Omega.{arith}
 use lib.ListN.{length, take, drop, getD, length-take, length-drop, List·getD-eq-default}
 use lib.Seq.{getD-take, getD-drop}
-use Rattle.gap.specs.Gap.{gapFrom, gapTo, hasGap, gapOf, runHits, regionHits, gapHits}
-use Rattle.gaplaws.specs.GapSheet.{gapRun, gapPlaces, AlikeGaps}
+use Rattle.gap.specs.Gap.{gapFrom, gapTo, hasGap, gapOf, runHits, regionRun, regionHits, gapHits}
+use Rattle.gaplaws.specs.GapSheet.{gapPlaces, AlikeGaps}
 use Rattle.hit.specs.declared.inner.Spot.{Spot}
 use Rattle.record.proofs.Numbers.{by-order}
 use Rattle.record.specs.Places.{AgreeAt}
 use Rattle.scan.proofs.SameRun.{run-same}
-use Rattle.scan.specs.Scan.{scanFrom, allPlaces}
+use Rattle.scan.specs.Scan.{allPlaces}
 
 -- ---- agreeing in a part
 module _ (x y : List ℕ) (by n : ℕ) where
@@ -31,7 +31,7 @@ module _ (x y : List ℕ) (by n : ℕ) where
   )
 
 -- ---- two regions
-region-same : (hints x y : List ℕ) → length x ≡ length y → AgreeAt x y (allPlaces x (scanFrom (length x) x hints (length x) 0 0)) → (spot : Spot) (from : ℕ)
+region-same : (hints x y : List ℕ) → length x ≡ length y → AgreeAt x y (allPlaces x (regionRun x hints)) → (spot : Spot) (from : ℕ)
     → regionHits spot from x hints ≡ regionHits spot from y hints
 unfolding regionHits
 region-same hints x y same h spot from = rw (← same) (ap (runHits spot (length hints) from) (sym (run-same x y same (length x) hints (length x) 0 0 h)))
@@ -62,7 +62,7 @@ module _ (head : ℕ) (hints x y : List ℕ) (e : AlikeGaps head hints x y) wher
       same : length (gapOf x head) ≡ length (take n (drop from y))
       same = simp (length-take, length-drop) (rw (e .length-same))
 
-      go : (b : Bool) → AgreeAt x y (cond b (map (λ o. from + o) (allPlaces (gapOf x head) (gapRun x head hints))) []) →
+      go : (b : Bool) → AgreeAt x y (cond b (map (λ o. from + o) (allPlaces (gapOf x head) (regionRun (gapOf x head) hints))) []) →
           cond b (regionHits spot from (gapOf x head) hints) [] ≡ cond b (regionHits spot from (take n (drop from y)) hints) []
-      go true h = region-same hints (gapOf x head) (take n (drop from y)) same (agree-part x y from n (allPlaces (gapOf x head) (gapRun x head hints)) h) spot from
+      go true h = region-same hints (gapOf x head) (take n (drop from y)) same (agree-part x y from n (allPlaces (gapOf x head) (regionRun (gapOf x head) hints)) h) spot from
       go false h = refl

@@ -6,10 +6,10 @@ use mathlib.Core.Bool.{cond}
 use mathlib.Core.List.{List, [], map}
 use lib.ListN.{length, take}
 use Rattle.carving.specs.Calls.{SliceAsked, sliceFilling, NumberedAsked, numberedFilling}
-use Rattle.gap.specs.Gap.{gapFrom, hasGap, gapOf, gapHits}
+use Rattle.gap.specs.Gap.{gapFrom, hasGap, gapOf, regionRun, gapHits}
 use Rattle.page.specs.Page.{cellCount, contentStart, startOf, pageOf, headOf}
 use Rattle.record.specs.Places.{AgreeAt}
-use Rattle.scan.specs.Scan.{Run, scanFrom, allPlaces}
+use Rattle.scan.specs.Scan.{allPlaces}
 use Rattle.sheet.specs.Hits.{Hit, rowsOf, groupsWords, RowFilling, rowRoom}
 use Rattle.sheet.specs.Limits.{wordsPerRow, wordsPerEntry}
 use Rattle.sheet.specs.Refusal.{afterOrKept}
@@ -17,14 +17,11 @@ use Rattle.sheet.specs.Sheet.{rowsWords}
 
 -- ---- a page
 
--- Rule 11.2: the run of its gap
-abbrev pub gapRun : List ℕ → ℕ → List ℕ → Run
-gapRun page head hints = let s = gapOf page head in scanFrom (length s) s hints (length s) 0 0
-
--- Rule 11.12: the header places of that run, said of the page; where there is no gap there are none
+-- Rule 11.12: the header places of its gap's scan, said of the page; where there is no gap there are none
 unfoldable pub gapPlaces : List ℕ → ℕ → List ℕ → List ℕ
 gapPlaces page head hints =
-    cond (hasGap page head) (map (λ o. gapFrom page head + o) (allPlaces (gapOf page head) (gapRun page head hints))) []
+    let gap = gapOf page head in
+    cond (hasGap page head) (map (λ o. gapFrom page head + o) (allPlaces gap (regionRun gap hints))) []
 
 -- Rule 11.12: pages of one length that agree in the cells' count and the content's start, and at the header places of the first one's gap
 pub record AlikeGaps (head : ℕ) (hints x y : List ℕ) : Type 0 where

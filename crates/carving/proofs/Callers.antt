@@ -7,7 +7,7 @@ use mathlib.Core.List.{List, _∷_}
 use native.Mathlib.Omega.{arith}
 use lib.Dec.{ltb}
 use lib.ListN.{length, take, drop, length-take, length-drop}
-use Rattle.carving.specs.Calls.{widthBy, tooWide, hitsBy, leafHits, numberedChecks}
+use Rattle.carving.specs.Calls.{widthBy, tooWide, hitsBy, sliceSpot, pageSpot, leafHits, numberedChecks}
 use Rattle.carving.specs.Inner.{Filling}
 use Rattle.carving.specs.declared.inner.Carving.{Carving}
 use Rattle.page.proofs.Laws.{PagedAt}
@@ -28,7 +28,7 @@ module _ (how : Carving) (columns : ℕ) (rest : List Check) where
   narrow-on e = simp e
 
 -- ---- a slice
-pub slice-filling : (how : Carving) (len : ℕ) (hints : List ℕ) (base : ℕ) → length hints ≤ widthBy how → firstHeld (sliceChecks len hints base) ≡ Passed → Filling how len (length hints) (record { base = base; start = 0; table = 0 })
+pub slice-filling : (how : Carving) (len : ℕ) (hints : List ℕ) (base : ℕ) → length hints ≤ widthBy how → firstHeld (sliceChecks len hints base) ≡ Passed → Filling how len (length hints) (sliceSpot base)
 slice-filling how len hints base narrow e =
     let f = slice-fits len hints base e in
     record { inside = omega (arith, f .small); near = f .near; some = f .some; few = f .few; narrow = narrow }
@@ -46,14 +46,14 @@ module _ (len size p : ℕ) (hints : List ℕ) where
     pub page-decides : hintsKnown hints ≡ true → firstHeld (numberedChecks len size p hints) ≡ firstHeld (pageChecks len size p)
     page-decides e = simp (fit, e)
 
-    pub page-filling : (how : Carving) → length hints ≤ widthBy how → (start long head : ℕ) → PagedAt len size p start long head → Filling how long (length hints) (record { base = start; start = start; table = 0 })
+    pub page-filling : (how : Carving) → length hints ≤ widthBy how → (start long head : ℕ) → PagedAt len size p start long head → Filling how long (length hints) (pageSpot start 0)
     page-filling how narrow start long head at =
         let k = count-fits (length hints) fit in
         record { inside = omega (arith, at .inside, at .small); near = omega (arith, at .inside, at .small); some = k .0; few = k .1; narrow = narrow }
 
 -- ---- what stands on a page of a database
 pub hits-are : (how : Carving) (db : List ℕ) (size p : ℕ) (hints : List ℕ) (table start long head : ℕ) → start ≡ startOf size p → long ≡ size → head ≡ headOf p
-    → hitsBy how (take (start + long - start) (drop start db)) head hints (record { base = start; start = start; table = table }) ≡ leafHits how db size table hints p
+    → hitsBy how (take (start + long - start) (drop start db)) head hints (pageSpot start table) ≡ leafHits how db size table hints p
 unfolding leafHits
 hits-are how db size p hints table start long head s l h = let e : start + long - start ≡ long = omega arith in rw (e, s, l, h)
 

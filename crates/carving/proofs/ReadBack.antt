@@ -12,7 +12,7 @@ use denote.Triple.Clauses.{AtExit}
 use borrow.Author.Tests.{not-false, ltb-false}
 use borrow.Fn.Kinds.{Dens, resT, endedOf}
 use lib.ListN.{length}
-use Rattle.carving.specs.Calls.{widthBy, hitsBy, leafHits, SliceAsked, sliceAsked, sliceChecksBy, sliceChecked, sliceHits, sliceFilling, NumberedAsked, numberedAsked, numberedChecksBy, numberedChecked, numberedHits, numberedFilling}
+use Rattle.carving.specs.Calls.{widthBy, hitsBy, sliceSpot, pageSpot, leafHits, SliceAsked, sliceAsked, sliceChecksBy, sliceChecked, sliceHits, sliceFilling, NumberedAsked, numberedAsked, numberedChecksBy, numberedChecked, numberedHits, numberedFilling}
 use Rattle.carving.specs.Values.{valuesBy, leafValues, sliceValues, numberedValues}
 use Rattle.carving.specs.declared.inner.Carving.{Carving}
 use Rattle.carving.specs.declared.inner.Carving.the-variants.{Freeblocks, Gaps, Payload}
@@ -52,7 +52,7 @@ slice-fit : (a : SliceAsked) → sliceChecked a ≡ Passed → AllFit (a .page) 
 slice-fit a e =
     let n = none-holds (sliceChecksBy (a .how) (length (a .page)) (a .hints) (a .base)) e in
     let k = count-fits (length (a .hints)) (not-false _ (n .1 .0)) in
-    hits-read (a .how) (a .page) (a .page) (a .head) (a .hints) (record { base = a .base; start = 0; table = 0 }) (part-rest (a .page) 0 (omega arith)) (k .0)
+    hits-read (a .how) (a .page) (a .page) (a .head) (a .hints) (sliceSpot (a .base)) (part-rest (a .page) 0 (omega arith)) (k .0)
     (ltb-false _ _ (n .0))
 
 -- THE LAW: what the promises leave reads back
@@ -68,7 +68,7 @@ pub leaf-reads : (how : Carving) (db : List ℕ) (size table p : ℕ) (hints : L
     → AllFit db (length hints) (leafHits how db size table hints p) (leafValues how db size hints p)
 unfolding leafHits leafValues
 leaf-reads how db size table p hints sized from to some few =
-    hits-read how db (pageOf db size p) (headOf p) hints (record { base = startOf size p; start = startOf size p; table = table })
+    hits-read how db (pageOf db size p) (headOf p) hints (pageSpot (startOf size p) table)
     (part-taken db (startOf size p) size (page-inside (length db) size p sized from to)) some few
 
 numbered-fit : (a : NumberedAsked) → numberedChecked a ≡ Passed

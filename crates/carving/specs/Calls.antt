@@ -39,10 +39,16 @@ hitsBy Freeblocks page head hints spot = pageHits page head hints spot
 hitsBy (Gaps how) page head hints spot = gapPageHits how page head hints spot
 hitsBy (Payload how) page head hints spot = payloadHits how spot 0 page hints
 
--- a page of a database: offsets and entries are said of the database
+-- where a page is said to lie: one that is lent by itself has a base, and its entries start in it
+abbrev pub sliceSpot : ℕ → Spot
+sliceSpot base = record { base = base; start = 0; table = 0 }
+
+-- of one that begins at `start` in a database offsets and entries are said of the database
+abbrev pub pageSpot : ℕ → ℕ → Spot
+pageSpot start table = record { base = start; start = start; table = table }
+
 unfoldable pub leafHits : Carving → List ℕ → ℕ → ℕ → List ℕ → ℕ → List Hit
-leafHits how db size table hints p =
-    hitsBy how (pageOf db size p) (headOf p) hints (record { base = startOf size p; start = startOf size p; table = table })
+leafHits how db size table hints p = hitsBy how (pageOf db size p) (headOf p) hints (pageSpot (startOf size p) table)
 
 -- ---- a slice
 
@@ -68,7 +74,7 @@ abbrev pub sliceChecked : SliceAsked → Checked
 sliceChecked a = firstHeld (sliceChecksBy (a .how) (length (a .page)) (a .hints) (a .base))
 
 abbrev pub sliceHits : SliceAsked → List Hit
-sliceHits a = hitsBy (a .how) (a .page) (a .head) (a .hints) (record { base = a .base; start = 0; table = 0 })
+sliceHits a = hitsBy (a .how) (a .page) (a .head) (a .hints) (sliceSpot (a .base))
 
 abbrev pub sliceFilling : SliceAsked → RowFilling
 sliceFilling a =

@@ -93,7 +93,7 @@ fn look(bytes: &[u8], hints: &[u8], o: usize) -> usize
     0
 }
 
-// Where bytes below 2 end, from a place on. Most of a page that was never full is 0, so this loop does nothing else.
+// Where bytes below 2 end, from a place on. A gap may be all zeros, so this loop does nothing else.
 fn low_end(bytes: &[u8], start: usize) -> usize
     ensures { λ r. ⌜ LowTo (now (bytes .entry)) start r ⌝ }
 {

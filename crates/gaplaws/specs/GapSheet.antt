@@ -5,7 +5,7 @@ use mathlib.Core.Path.{_≡_}
 use mathlib.Core.Bool.{cond}
 use mathlib.Core.List.{List, [], map}
 use lib.ListN.{length, take}
-use Rattle.carving.specs.Calls.{SliceAsked, sliceFilling, NumberedAsked, numberedFilling}
+use Rattle.carving.specs.Calls.{sliceSpot, pageSpot, SliceAsked, sliceFilling, NumberedAsked, numberedFilling}
 use Rattle.gap.specs.Gap.{gapFrom, hasGap, gapOf, regionRun, gapHits}
 use Rattle.page.specs.Page.{cellCount, contentStart, startOf, pageOf, headOf}
 use Rattle.record.specs.Places.{AgreeAt}
@@ -51,7 +51,7 @@ frontOf width written rows cols =
 
 -- ---- of a page slice
 abbrev pub sliceGap : SliceAsked → GapSheet
-sliceGap a = gapSheet (sliceFilling a) (gapHits (a .page) (a .head) (a .hints) (record { base = a .base; start = 0; table = 0 }))
+sliceGap a = gapSheet (sliceFilling a) (gapHits (a .page) (a .head) (a .hints) (sliceSpot (a .base)))
 
 -- the same but for the page, whose gap is alike
 pub record AlikeSlices (a b : SliceAsked) : Type 0 where
@@ -65,9 +65,8 @@ pub record AlikeSlices (a b : SliceAsked) : Type 0 where
 -- ---- of a page by its number
 abbrev pub numberedGap : NumberedAsked → GapSheet
 numberedGap a =
-    let start = startOf (a .size) (a .page) in
     gapSheet (numberedFilling a)
-    (gapHits (pageOf (a .db) (a .size) (a .page)) (headOf (a .page)) (a .hints) (record { base = start; start = start; table = 0 }))
+    (gapHits (pageOf (a .db) (a .size) (a .page)) (headOf (a .page)) (a .hints) (pageSpot (startOf (a .size) (a .page)) 0))
 
 -- the same but for the database, which has the same length and whose page has a gap that is alike
 pub record AlikeNumbered (a b : NumberedAsked) : Type 0 where

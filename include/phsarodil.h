@@ -48,7 +48,7 @@
  * What a scan gives away. All that it writes and answers, the count with it, is a function of its other arguments, of the
  * region's length and of the bytes that its attempts read as headers. That is proved. The compiled scan may look at other
  * bytes as well, such as those of a run from 128 up in which a header ends; nothing that it answers depends on them.
- * A row is a guess: any bytes that read as a header of the right number of types, one of which suits its hint. Where these
+ * A row may be none: any bytes make one that read as a header of the right number of types, one of which suits its hint. Where these
  * bytes were text, the row's types are that text, a byte each. A type also shows an integer's size and that a REAL is whole,
  * a length how long a note is. Dropping rows of low confidence makes text in types rarer; nothing excludes it. README, "What
  * the sheet gives away", has an example.
@@ -57,7 +57,7 @@
  * and of the bytes that attempts in the gap read as headers. For the rows of freed blocks it is not. Those rest on where the
  * first block is, on the four bytes that each block begins with, on the lengths and row ids of cells, on the bytes that are
  * read as their records' headers, and on those that are read as types where a header is rebuilt, at every byte of a block.
- * They are guesses as well, and their types may be text.
+ * They may be none as well, and their types text.
  */
 #ifndef PHSARODIL_H
 #define PHSARODIL_H
@@ -73,7 +73,7 @@ extern "C" {
  * The version of this header. It changes when the words of a row, of an entry or of an answer do, or what a call takes;
  * a call that is added leaves it.
  */
-#define PHS_VERSION 3
+#define PHS_VERSION 4
 
 /* The version of the library. Where it is not PHS_VERSION, no other call may be made. */
 uint64_t phs_version(void);
@@ -114,19 +114,25 @@ enum phs_hint {
 };
 
 /*
- * How the calls on free space rebuild a record whose header length is lost. At each byte of a freed block its types are taken
- * to begin, and before them a header length to stand that the block does not have.
+ * Whether the calls on free space bring guesses, and which. A guess is a row whose header length is made up: at each byte of a freed
+ * block types are taken to begin, and all before them to be lost.
+ *     PHS_NO_GUESSES: none is made. The rows are those of the gap and of whole cells. A code that nobody set and that is 0 is this
+ *         one.
  *     PHS_ONE_BYTE: the types of all columns take one byte each, and the bodies stand behind so many bytes. A type of more
  *         bytes makes no row, or, in the last column, one whose bodies are read from inside that type. This is what the Rust
  *         does that the library is held against. More than PHS_MOST_ONE_BYTE_COLUMNS columns are refused.
  *     PHS_EXACT: as many types as there are columns, of one to nine bytes each, and the bodies stand behind the last of them.
  *         There is no row where the types take more than 510 bytes.
- * Lend PHS_EXACT, unless the rows are to be those of the Rust: from 58 bytes of text or blob on a type takes two bytes, so a
- * note that long needs it, and so does a table of more columns. At a byte from which on all types take one byte each both find
- * the same; elsewhere either may find a row and the other none, or another one. So neither list holds the other: whoever wants
- * all rows of both makes both calls. Both find rows that are none.
+ * Most deleted rows of a small table come back as guesses alone, and most guesses are no rows (docs/BENCH.md). It is proved
+ * (docs/RULES.md, 11.13) that with room for either list that of PHS_NO_GUESSES is that of each other code without its guesses, in
+ * the same order. The words of a row do not say that it is a guess: in what phs_parse_cells_from_freeblock lists it is one if it
+ * has no row id, in other lists if that of PHS_NO_GUESSES lacks it.
+ * Whoever wants guesses lends PHS_EXACT, unless the rows are to be those of the Rust: from 58 bytes of text or blob on a type takes
+ * two bytes, so a note that long needs it, and so does a table of more columns. At a byte from which on all types take one byte
+ * each both find the same; elsewhere either may find a row and the other none, or another one. So neither list holds the other:
+ * whoever wants all rows of both makes both calls.
  */
-enum phs_rebuilding { PHS_ONE_BYTE = 1, PHS_EXACT = 2 };
+enum phs_rebuilding { PHS_NO_GUESSES = 0, PHS_ONE_BYTE = 1, PHS_EXACT = 2 };
 
 /* The tag of a value. */
 enum phs_tag { PHS_NONE = 0, PHS_NULL = 1, PHS_INTEGER = 2, PHS_REAL = 3, PHS_TEXT = 4, PHS_BLOB = 5 };
@@ -363,8 +369,8 @@ uint64_t phs_recover_slice_freeblocks(const uint8_t *page, size_t len, size_t he
  *     page or is not larger, and for 1,024 blocks at the most; a block of a size below 4 or past the page is left out.
  * In a block whole cells come first: a record's length, a row id and the record; behind one that is a row the search goes
  * on at the record's end, elsewhere at the next byte. PHS_ROW_HAS_ID is 1 for these alone, and the offset is the record's.
- * Then records whose header length is lost are rebuilt, one at each byte of the block. The offset of such a row is that of its
- * first type, and PHS_ROW_CONSUMED is counted from there. A row at the offset of one of this block's cells is left out.
+ * Then come the guesses, if `rebuilding` asks for them: a header is rebuilt at each byte of the block. The offset of such a row is that
+ * of its first type, and PHS_ROW_CONSUMED is counted from there. A row at the offset of one of this block's cells is left out.
  * The source is PHS_SOURCE_CARVED_INTRA_PAGE. The confidence is the share of columns that suit, of rebuilt rows times 0.9;
  * PHS_ROW_PERCENT is the same in whole hundredths, cut down.
  * On real pages most rows listed are none. The ones to keep have a confidence of 0.85 or more and are not all NULL; of those
@@ -373,7 +379,7 @@ uint64_t phs_recover_slice_freeblocks(const uint8_t *page, size_t len, size_t he
  * gap to phs_parse_cells_from_freeblock. Whoever lends fewer hints than columns reads "Deleted rows", above, first.
  * out, 1 word: the rows written.
  * Returns as phs_recover_freeblocks does, and so are rows and entries; PHS_COLUMN_COUNT also where `rebuilding` is
- * PHS_ONE_BYTE and any table has more than PHS_MOST_ONE_BYTE_COLUMNS columns, PHS_MALFORMED also where it is neither.
+ * PHS_ONE_BYTE and any table has more than PHS_MOST_ONE_BYTE_COLUMNS columns, PHS_MALFORMED also where it is above PHS_EXACT.
  */
 uint64_t phs_scan_page_gaps(uint64_t rebuilding, const uint8_t *db, size_t len, uint64_t page_size, const uint64_t *roots,
                             size_t roots_len, const uint64_t *counts, size_t counts_len, const uint8_t *hints,
@@ -400,7 +406,7 @@ uint64_t phs_scan_single_page_gap(uint64_t rebuilding, const uint8_t *page, size
                                   size_t cols_len, uint64_t out[1]);
 
 /*
- * Cells and rebuilt records alone, of what stands behind the first four bytes of one freed block; `base` is the offset of
+ * Cells and guesses alone, of what stands behind the first four bytes of one freed block; `base` is the offset of
  * its first byte. There are no more rows than bytes.
  * out, 1 word: the rows written.
  * Returns PHS_COLUMN_COUNT, PHS_MALFORMED, PHS_TOO_LARGE, PHS_BASE_TOO_FAR or PHS_NO_ROOM.

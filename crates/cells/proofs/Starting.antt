@@ -12,12 +12,14 @@ use Rattle.attempt.specs.Attempt.{miss}
 use Rattle.cells.specs.Cells.{cellsOf, cellHits, startsOf, startHits, rebuiltFrom, payloadHits}
 use Rattle.cells.specs.Inner.{nextRow, Standing}
 use Rattle.cells.proofs.Along.{Along, along-start, along-end, along-on, along-full}
+use Rattle.cells.proofs.Guesses.{cells-alone}
 use Rattle.cells.proofs.Skipping.{Passing, passing-start, passing-is, passing-on, passing-kept}
 use Rattle.hit.specs.declared.inner.Lent.{Lent}
 use Rattle.hit.specs.declared.inner.Spot.{Spot}
 use Rattle.page.specs.Page.{among}
 use Rattle.rebuild.specs.Header.{rebuilt}
 use Rattle.rebuild.specs.declared.rebuilding.Rebuilding.{Rebuilding}
+use Rattle.rebuild.specs.declared.rebuilding.Rebuilding.the-variants.{NoGuesses}
 use Rattle.starts.specs.Inner.{isCell, NoneFrom, StartIs}
 use Rattle.starts.specs.Starts.{rebuiltStarts}
 use Rattle.sheet.proofs.Carving.{told-on, carves-none, carves-more, carves-stop}
@@ -115,6 +117,10 @@ module _ (how : Rebuilding) (d hints : List ℕ) (spot : Spot) (o : ℕ) (lent :
       → Carves (lent .width) (lent .room) n (payloadHits how spot o d hints) false rows cols over rows′ cols′
   unfolding payloadHits
   payload-full x = carves-stop (lent .width) (lent .room) n (cellHits spot (length hints) o (cellsOf d hints)) _ rows cols rows′ cols′ false false x
+
+  pub payload-cells : (r : Told) → how ≡ NoGuesses → Carves (lent .width) (lent .room) n (cellHits spot (length hints) o (cellsOf d hints)) false rows cols r rows′ cols′
+      → Carves (lent .width) (lent .room) n (payloadHits how spot o d hints) false rows cols r rows′ cols′
+  payload-cells r e x = rw (e, cells-alone spot o d hints) x
 
   pub payload-both : (cells : ℕ) (r : Told) (rows″ cols″ : List ℕ) → Carves (lent .width) (lent .room) n (cellHits spot (length hints) o (cellsOf d hints)) false rows cols (on cells) rows′ cols′
       → Carves (lent .width) (lent .room) cells (rebuiltFrom (rebuiltStarts (length d) (length hints)) how spot o (startsOf (cellsOf d hints)) d hints 0) false rows′ cols′ r rows″ cols″

@@ -17,7 +17,7 @@ ghost use Rattle.hit.specs.Inner.{Ready};
 ghost use Rattle.rebuild.specs.Header.{mostBy};
 ghost use Rattle.sheet.specs.Inner.{carvedAs, Carves};
 
-// Cells first, then records whose header's length is lost; the payload stands at o in its page.
+// Cells first, then, if guesses are asked for, records whose header's length is lost; the payload stands at o in its page.
 pub fn carve_payload(
     how: Rebuilding,
     payload: &[u8],
@@ -37,5 +37,8 @@ pub fn carve_payload(
     let Carved::On(cells) = carve_cells(payload, hints, spot, o, lent, n, rows, cols) else {
         return Carved::Full;
     };
+    if let Rebuilding::NoGuesses = how {
+        return Carved::On(cells);
+    }
     carve_rebuilt(how, payload, hints, spot, o, lent, n, cells, rows, cols)
 }

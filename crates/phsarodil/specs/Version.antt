@@ -4,4 +4,4 @@
 use Prim.Native.Nat.{ℕ}
 
 abbrev pub doorVersion : ℕ
-doorVersion = 3
+doorVersion = 4

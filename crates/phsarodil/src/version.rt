@@ -6,5 +6,5 @@ ghost use Rattle.phsarodil.specs.Version.{doorVersion};
 pub extern "C" fn phs_version() -> u64
     ensures { λ r. ⌜ r ≡ doorVersion ⌝ }
 {
-    3
+    4
 }

@@ -16,7 +16,7 @@ use Rattle.attempt.specs.Moved.{moved}
 use Rattle.rebuild.specs.Header.{mostTypeBytes, ownBytes, mostBy, Guess, noHeader, takes, exactTypes, takenFrom, guessed, without, rebuilt}
 use Rattle.rebuild.specs.Inner.{exactPadded}
 use Rattle.rebuild.specs.declared.rebuilding.Rebuilding.{Rebuilding}
-use Rattle.rebuild.specs.declared.rebuilding.Rebuilding.the-variants.{OneByte, Exact}
+use Rattle.rebuild.specs.declared.rebuilding.Rebuilding.the-variants.{NoGuesses, OneByte, Exact}
 use Rattle.rebuild.proofs.Laws.{behind-made, rebuilt-with, rebuilt-cut, rebuilt-none}
 use Rattle.record.proofs.Laws.{varint-lies}
 use Rattle.record.proofs.Numbers.{by-order}
@@ -57,6 +57,7 @@ module _ (d : List ℕ) (v : ℕ) (start : v ≤ length d) where
 
   pub guess-small : (how : Rebuilding) (n t : ℕ) → 1 ≤ n → n ≤ mostBy how → guessed how d n v ≡ takes t → (1 ≤ t) × (t ≤ mostTypeBytes)
   unfolding guessed
+  guess-small NoGuesses n t some few e = none-taken e
   guess-small OneByte n t some few e = let z = bytes-of e in (omega arith, omega arith)
   guess-small Exact (suc n) t some few e = (exact-some n t e, taken-from d v (exactTypes d (suc n) v) t e .2)
   guess-small Exact zero t some few e = absurd (omega arith)

@@ -19,7 +19,7 @@ use Rattle.attempt.specs.declared.inner.Verdict.the-variants.{Hit, Miss}
 use Rattle.rebuild.specs.Header.{oneByteTypes, mostTypeBytes, ownBytes, lengthBytes, noHeader, takes, guessed, without, rebuiltWith, rebuilt}
 use Rattle.rebuild.specs.Inner.{foundFrom, shortBy, RebuiltIs}
 use Rattle.rebuild.specs.declared.rebuilding.Rebuilding.{Rebuilding}
-use Rattle.rebuild.specs.declared.rebuilding.Rebuilding.the-variants.{OneByte}
+use Rattle.rebuild.specs.declared.rebuilding.Rebuilding.the-variants.{NoGuesses, OneByte}
 use Rattle.record.proofs.Laws.{varint-low, varint-two}
 use Rattle.record.proofs.Numbers.{by-order}
 use Rattle.record.proofs.Shifts.{part-rest}
@@ -124,6 +124,11 @@ module _ (d hints : List ℕ) (v : ℕ) (start : v ≤ length d) (t : ℕ) (some
 pub rebuilt-none : (how : Rebuilding) (d hints : List ℕ) (v : ℕ) → guessed how d (length hints) v ≡ noHeader → rebuilt how d hints v ≡ miss
 unfolding rebuilt
 rebuilt-none how d hints v e = rw e
+
+-- THE LAW: and without guesses there is none anywhere
+pub no-guess : (d hints : List ℕ) (v : ℕ) → rebuilt NoGuesses d hints v ≡ miss
+unfolding guessed
+no-guess d hints v = rebuilt-none NoGuesses d hints v refl
 
 -- the one-byte mode has a byte for each column
 pub one-byte-guess : (d : List ℕ) (columns v : ℕ) → guessed OneByte d columns v ≡ takes columns

@@ -1,4 +1,4 @@
--- The two modes beside each other, and what the exact mode looks at.
+-- The two modes that rebuild beside each other, and what the exact mode looks at.
 -- Assumes nothing.
 use Prim.Native.Nat.{ℕ, zero, suc, _+_, _-_, _≤_, _<_}
 use mathlib.Core.Path.{_≡_, refl, sym, ap, _∙_}

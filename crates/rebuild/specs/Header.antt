@@ -1,4 +1,4 @@
--- A header whose length is lost (rules 11.6 and 11.9): the length is made up, and stands before the types that begin at a start of a
+-- A header whose length is lost (rules 11.6, 11.9 and 11.13): the length is made up, and stands before the types that begin at a start of a
 -- payload.
 -- Assumes nothing.
 use Prim.Native.Nat.{ℕ, suc, _+_, _-_, _/_, _%_}
@@ -10,7 +10,7 @@ use Rattle.attempt.specs.Attempt.{Types, ended, cut, kind, typesFrom, Tried, mi
 use Rattle.attempt.specs.Moved.{back}
 use Rattle.record.specs.Places.{typePlaces}
 use Rattle.rebuild.specs.declared.rebuilding.Rebuilding.{Rebuilding}
-use Rattle.rebuild.specs.declared.rebuilding.Rebuilding.the-variants.{OneByte, Exact}
+use Rattle.rebuild.specs.declared.rebuilding.Rebuilding.the-variants.{NoGuesses, OneByte, Exact}
 use Rattle.sheet.specs.Limits.{mostColumns}
 
 -- ---- the bytes of a header
@@ -32,6 +32,7 @@ lengthBytes t = cond (leb t oneByteTypes) ((t + 1) ∷ []) ((128 + (t + 2) / 128
 
 -- Rule 11.10: the most columns of a table whose headers are rebuilt so
 abbrev pub mostBy : Rebuilding → ℕ
+mostBy NoGuesses = mostColumns
 mostBy OneByte = oneByteTypes
 mostBy Exact = mostColumns
 
@@ -56,9 +57,11 @@ takenFrom v (ended at) = cond (leb (at - v) mostTypeBytes) (takes (at - v)) noHe
 takenFrom v cut = noHeader
 takenFrom v (kind t rest) = takenFrom v rest
 
--- Rule 11.6: the one-byte mode has a byte for each column; rule 11.9: the exact mode reads so many types. More columns than `mostBy` are
--- refused before a header is rebuilt (rule 11.10, `tooWide` of crate carving), so no answer comes of this definition there.
+-- Rule 11.13: without guesses no bytes make a header; rule 11.6: the one-byte mode has a byte for each column; rule 11.9: the exact mode
+-- reads so many types. More columns than `mostBy` are refused before a header is rebuilt (rule 11.10, `tooWide` of crate carving), so no
+-- answer comes of this definition there.
 unfoldable pub guessed : Rebuilding → List ℕ → ℕ → ℕ → Guess
+guessed NoGuesses d columns v = noHeader
 guessed OneByte d columns v = takes columns
 guessed Exact d columns v = takenFrom v (exactTypes d columns v)
 

@@ -6,13 +6,13 @@ use lib.Dec.{eqb}
 use Rattle.rebuild.specs.declared.ways.Way.{Way}
 use Rattle.rebuild.specs.declared.ways.Way.the-variants.{By, Unnamed}
 use Rattle.rebuild.specs.declared.rebuilding.Rebuilding.{Rebuilding}
-use Rattle.rebuild.specs.declared.rebuilding.Rebuilding.the-variants.{OneByte, Exact}
+use Rattle.rebuild.specs.declared.rebuilding.Rebuilding.the-variants.{NoGuesses, OneByte, Exact}
 use Rattle.sheet.specs.Refusal.{refusalNumber}
 use Rattle.sheet.specs.declared.refusal.Refusal.the-variants.{ColumnCount, Malformed}
 
--- 0 is left free for a way that rebuilds nothing
+-- Rule 11.13: a zero that nobody set brings no guesses
 abbrev pub named : ℕ → Way
-named code = cond (eqb code 1) (By OneByte) (cond (eqb code 2) (By Exact) Unnamed)
+named code = cond (eqb code 0) (By NoGuesses) (cond (eqb code 1) (By OneByte) (cond (eqb code 2) (By Exact) Unnamed))
 
 -- what a call comes to in the way that is named, and what it comes to where none is
 abbrev pub byName : {A : Type 0} → Way → (Rebuilding → A) → A → A

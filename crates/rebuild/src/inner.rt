@@ -88,6 +88,7 @@ pub fn rebuild(how: Rebuilding, payload: &[u8], hints: &[u8], v: usize) -> Rebui
     ensures { λ r. ⌜ RebuiltIs how (now (payload .entry)) (now (hints .entry)) v r ⌝ }
 {
     match how {
+        Rebuilding::NoGuesses => Rebuilt::Nothing,
         Rebuilding::OneByte => one_byte(payload, hints, v),
         Rebuilding::Exact => exact(payload, hints, v),
     }

@@ -7,6 +7,8 @@ ghost use Rattle.rebuild.specs.Header.{mostBy};
 pub const ONE_BYTE_TYPES: usize = 126;
 
 pub enum Rebuilding {
+    // No header is made up.
+    NoGuesses,
     // Each type takes one byte, as the Rust has it.
     OneByte,
     // As many types as columns, of one to nine bytes each.
@@ -19,6 +21,7 @@ impl Rebuilding {
         ensures { λ r. ⌜ r ≡ mostBy self ⌝ }
     {
         match self {
+            Rebuilding::NoGuesses => MOST_COLUMNS,
             Rebuilding::OneByte => ONE_BYTE_TYPES,
             Rebuilding::Exact => MOST_COLUMNS,
         }

@@ -13,6 +13,9 @@ pub enum Way {
 pub fn named(code: u64) -> Way
     ensures { λ r. ⌜ r ≡ wayNamed code ⌝ }
 {
+    if code == 0 {
+        return Way::By(Rebuilding::NoGuesses);
+    }
     if code == 1 {
         return Way::By(Rebuilding::OneByte);
     }

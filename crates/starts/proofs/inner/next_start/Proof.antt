@@ -8,11 +8,8 @@ use Rattle.starts.proofs.inner.next_start.Tie as tie
 enum-told : tie.Need-enum-told
 enum-told c = search needs
 
-enum-told-2 : tie.Need-enum-told-2
-enum-told-2 c = search needs
-
 returns : tie.Need-returns
-returns c = record { on = omega arith; near = c .before .before .before .before .before .pre .1 .0 .0; apart = λ u le lt. absurd (omega arith); none = λ u le lt. absurd (omega arith) }
+returns c = record { on = omega arith; near = c .before .before .before .before .pre .1 .0 .0; apart = λ u le lt. absurd (omega arith); none = λ u le lt. absurd (omega arith) }
 
 before-cell-requires : tie.Need-before-cell-requires
 before-cell-requires c κs = search needs
@@ -37,7 +34,6 @@ next-start-spec =
     tie.close
     (tie.spec
     enum-told
-    enum-told-2
     returns
     before-cell-requires
     returns-2

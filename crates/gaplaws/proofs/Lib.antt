@@ -2,5 +2,10 @@ pub mod Asking
 pub mod Calls
 pub mod Cases
 pub mod Front
+pub mod Guesses
+pub mod Plain
+pub mod PlainWalks
 pub mod SameGap
+pub mod Switch
 pub mod Untested
+pub mod Walks

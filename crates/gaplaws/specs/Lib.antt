@@ -1,1 +1,2 @@
 pub mod GapSheet
+pub mod Parts

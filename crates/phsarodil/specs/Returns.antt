@@ -3,10 +3,10 @@
 use Prim.Native.Nat.{ℕ}
 use mathlib.Core.List.{List, [], _∷_}
 use Rattle.scan.specs.Scan.{ScanAsked, scanNumber, scanWritten, scanPlace, scanCount, scanRows, scanCols}
-use Rattle.sheet.specs.Filled.{ListFilling, listNumber, listWritten, listLeft}
-use Rattle.sheet.specs.Hits.{RowFilling, rowsNumber, rowsWritten, rowsLeft, entriesLeft}
-use Rattle.tables.specs.Calls.{Asked, tabledNumber, tabledWritten, tabledRows, tabledCols, tabledCleared}
-use Rattle.walk.specs.Collect.{LeavesAsked, collectNumber, collectWritten, collectLeaves, collectCleared}
+use Rattle.sheet.specs.Filled.{filledNumber, filledWritten, ListFilling, listNumber, listWritten, listLeft}
+use Rattle.sheet.specs.Hits.{RowFilling, rowsNumber, rowsWritten, rowsLeft, entriesLeft, RowOutcome}
+use Rattle.tables.specs.Calls.{Asked, tabledNumber, tabledWritten, tabledRows, tabledCols, tabledCleared, OnTables}
+use Rattle.walk.specs.Collect.{walkedNumber, walkedWritten, LeavesAsked, collectNumber, collectWritten, collectLeaves, collectCleared}
 
 -- ---- one list
 pub record ListReturn : Type 0 where
@@ -29,6 +29,10 @@ pub record RowReturn : Type 0 where
 
 abbrev pub rowReturn : ℕ → List ℕ → List ℕ → List ℕ → RowReturn
 rowReturn number out rows cols = record { number = number; out = out; rows = rows; cols = cols }
+
+-- what the call in Rattle comes to, as C has it
+abbrev pub rowReturnOf : RowOutcome → RowReturn
+rowReturnOf x = rowReturn (filledNumber (x .answer)) (filledWritten (x .answer) ∷ []) (x .rows) (x .cols)
 
 unfoldable pub filledRows : RowFilling → RowReturn
 filledRows a = rowReturn (rowsNumber a) (rowsWritten a ∷ []) (rowsLeft a) (entriesLeft a)
@@ -72,6 +76,9 @@ pub record TablesReturn : Type 0 where
 abbrev pub tablesReturn : ℕ → List ℕ → List ℕ → List ℕ → List ℕ → List ℕ → TablesReturn
 tablesReturn number out flags stack rows cols =
     record { number = number; out = out; flags = flags; stack = stack; rows = rows; cols = cols }
+
+abbrev pub tablesReturnOf : OnTables → TablesReturn
+tablesReturnOf x = tablesReturn (walkedNumber (x .answer)) (walkedWritten (x .answer) ∷ []) (x .flags) (x .stack) (x .rows) (x .cols)
 
 unfoldable pub carvedTables : Asked → TablesReturn
 carvedTables a =

@@ -54,7 +54,7 @@ abbrev pub tabledChecked : Asked → Checked
 tabledChecked a = firstHeld (tableChecksBy (a .how) (length (a .db)) (a .size) (a .roots) (a .counts) (a .hints))
 
 -- what stands on a leaf, by the index and the hints of its table
-abbrev pub tabledCarver : Asked → Carver
+abbrev pub tabledCarver : Asked → Carver Hit
 tabledCarver a = leafHits (a .how) (a .db) (a .size)
 
 -- all rows along the walks, and whether the stack overflowed

@@ -68,7 +68,7 @@ tables-narrow (r ∷ rs) (c ∷ cs) hints width fit sums wide =
     )
 
 -- THE LAW: the hits are those of the tables, one after the other
-pub hits-in-turn : (carve : Carver) (db : List ℕ) (size : ℕ) (roots counts hints : List ℕ) (depth : ℕ)
+pub hits-in-turn : {A : Type 0} (carve : Carver A) (db : List ℕ) (size : ℕ) (roots counts hints : List ℕ) (depth : ℕ)
     → tablesHits carve db size roots counts hints depth ≡ hitsFrom (λ root. walk db size depth root) carve 0 (tablesOf roots counts hints)
 unfolding tablesHits
 hits-in-turn carve db size roots counts hints depth = refl

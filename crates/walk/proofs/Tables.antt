@@ -75,20 +75,20 @@ module _ (carve : ℕ → List Hit) (whole : Walk) (db : List ℕ) (size depth c
 
 -- ---- the tables
 -- t tables are carved, their hints end at `from`, and there are n rows
-pub record Tables (carve : Carver) (db : List ℕ) (size : ℕ) (roots counts hints : List ℕ) (depth width room : ℕ) (rows₀ cols₀ rows cols : List ℕ) (t from n : ℕ) : Type 0 where
+pub record Tables (carve : Carver Hit) (db : List ℕ) (size : ℕ) (roots counts hints : List ℕ) (depth width room : ℕ) (rows₀ cols₀ rows cols : List ℕ) (t from n : ℕ) : Type 0 where
   pub done : List Hit
   pub carved : Carves width room 0 done false rows₀ cols₀ (on n) rows cols
   pub hits : done ++ hitsFrom (λ root. walk db size depth root) carve t (tablesOf (drop t roots) (drop t counts) (drop from hints)) ≡ tablesHits carve db size roots counts hints depth
   pub ends : overflowFrom (λ root. walk db size depth root) (tablesOf (drop t roots) (drop t counts) (drop from hints)) ≡ tablesOverflow db size roots counts hints depth
   pub cut : from + sumOf (drop t counts) ≡ sumOf counts
 
-pub tables-start : (carve : Carver) (db : List ℕ) (size : ℕ) (roots counts hints : List ℕ) (depth width room : ℕ) (rows cols : List ℕ)
+pub tables-start : (carve : Carver Hit) (db : List ℕ) (size : ℕ) (roots counts hints : List ℕ) (depth width room : ℕ) (rows cols : List ℕ)
     → Tables carve db size roots counts hints depth width room rows cols rows cols 0 0 0
 unfolding tablesHits tablesOverflow
 tables-start carve db size roots counts hints depth width room rows cols =
     record { done = []; carved = carves-none width room 0 rows cols (omega arith); hits = refl; ends = refl; cut = omega arith }
 
-module _ (carve : Carver) (db : List ℕ) (size : ℕ) (roots counts hints : List ℕ) (depth width room : ℕ) (rows₀ cols₀ rows cols : List ℕ) (t from n : ℕ)
+module _ (carve : Carver Hit) (db : List ℕ) (size : ℕ) (roots counts hints : List ℕ) (depth width room : ℕ) (rows₀ cols₀ rows cols : List ℕ) (t from n : ℕ)
     (w : Tables carve db size roots counts hints depth width room rows₀ cols₀ rows cols t from n) where
   abbrev walkOf : ℕ → Walk
   walkOf root = walk db size depth root

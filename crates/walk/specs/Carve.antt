@@ -7,7 +7,6 @@ use mathlib.Core.List.{List, [], _∷_, _++_}
 use lib.Dec.{ltb, eqb}
 use lib.ListN.{length, take, drop}
 use Rattle.page.specs.Page.{sizeFits}
-use Rattle.sheet.specs.Hits.{Hit}
 use Rattle.sheet.specs.Limits.{largestRegion, mostTables, countFits, hintsKnown}
 use Rattle.sheet.specs.Refusal.{Check}
 use Rattle.sheet.specs.declared.refusal.Refusal.the-variants.{ColumnCount, Malformed, TooLarge, PageSize}
@@ -54,12 +53,12 @@ tableChecks len size roots counts hints =
 -- ---- the hits of tables
 
 -- what is made of a table's index, its hints and the number of a leaf
-abbrev pub Carver : Type 0
-Carver = ℕ → List ℕ → ℕ → List Hit
+abbrev pub Carver : Type 0 → Type 0
+Carver A = ℕ → List ℕ → ℕ → List A
 
 -- Rule 9.13: tables go in the order lent, from the index t on, and a leaf is carved as soon as it is popped; a stack that
 -- overflows ends it all
-abbrev pub hitsFrom : (ℕ → Walk) → Carver → ℕ → List Table → List Hit
+abbrev pub hitsFrom : {A : Type 0} → (ℕ → Walk) → Carver A → ℕ → List Table → List A
 hitsFrom walkOf carve t [] = []
 hitsFrom walkOf carve t (b ∷ bs) =
     hitsOf (carve t (b .hints)) (walkOf (b .root)) ++ cond (overflows (walkOf (b .root))) [] (hitsFrom walkOf carve (suc t) bs)
@@ -68,7 +67,7 @@ abbrev pub overflowFrom : (ℕ → Walk) → List Table → Bool
 overflowFrom walkOf [] = false
 overflowFrom walkOf (b ∷ bs) = cond (overflows (walkOf (b .root))) true (overflowFrom walkOf bs)
 
-unfoldable pub tablesHits : Carver → List ℕ → ℕ → List ℕ → List ℕ → List ℕ → ℕ → List Hit
+unfoldable pub tablesHits : {A : Type 0} → Carver A → List ℕ → ℕ → List ℕ → List ℕ → List ℕ → ℕ → List A
 tablesHits carve db size roots counts hints depth = hitsFrom (λ root. walk db size depth root) carve 0 (tablesOf roots counts hints)
 
 unfoldable pub tablesOverflow : List ℕ → ℕ → List ℕ → List ℕ → List ℕ → ℕ → Bool

@@ -1,5 +1,5 @@
 /*
- * carve [-a] [-w] FILE HINTS [PAGE]: prints the deleted rows of a table that are left in the free space of FILE's pages.
+ * carve [-a] [-g] [-w] FILE HINTS [PAGE]: prints the deleted rows of a table that are left in the free space of FILE's pages.
  * It goes page by page and holds one page, so a file may be of any size. HINTS has a letter for each column, N for an INTEGER
  * PRIMARY KEY, which a record stores as NULL. PAGE is the page size where the file's header does not name it. From the
  * repository's top:
@@ -8,9 +8,13 @@
  *     cc -Wall -Wextra -std=c99 -O2 -Iinclude -o carve examples/c/carve.c target/staticlib/libphsarodil.a
  *     ./carve tablet.db TRIT
  *
- * SQLite overwrites the first four bytes of a freed cell. In a small table the fourth is the type of the first column. A key has
- * no body, so the hints behind it bring the row back, and carve looks with these, too. Any other first column takes the length of
- * its body with it: hints from the second column on would read every value from the wrong place, and are not used.
+ * SQLite overwrites the first four bytes of a freed cell. What is left of it in a freed block is found as a guess, a row whose header's
+ * length is made up; in the gap that is so where the length is gone. -g brings guesses; without it there are whole records of the gap
+ * and whole cells of freed blocks.
+ *
+ * In a small table the fourth byte is the type of the first column. A key has no body, so the hints behind it bring the row back, and
+ * -g looks with these, too. Any other first column takes the length of its body with it: hints from the second column on would read
+ * every value from the wrong place, and are not used.
  *
  * A row is printed if its confidence is at least 0.85, it is not all NULL, and it stands where a cell can: behind its length and
  * its row id, or behind the link that overwrote these. Such links are left in freed blocks, also in joined ones, and in the gap of
@@ -32,15 +36,17 @@
 #include "phsarodil.h"
 
 static const char USAGE[] =
-    "usage: carve [-a] [-w] FILE HINTS [PAGE]\n"
+    "usage: carve [-a] [-g] [-w] FILE HINTS [PAGE]\n"
     "Prints the deleted rows of a table that are left in the free space of FILE's pages.\n"
     "HINTS has a letter for each column: I integer, R real, T text, B blob, N null, A any;\n"
     "or a digit, its code from 0 to 5. An INTEGER PRIMARY KEY has N. A REAL column that may hold whole numbers has A:\n"
     "they are stored as integers.\n"
     "PAGE is the page size, if it is not to be the one that the file's header names.\n"
     "A row that is padded has a number in its header that takes more bytes than it needs: SQLite writes none so.\n"
-    "-a, --all    all that reads as a row: most are none\n"
-    "-w, --whole  whole pages, for a table that was cleared: rows that are not deleted are listed, too\n";
+    "A guess is a row whose start was overwritten when it was deleted: its header's length is made up, and it may be none.\n"
+    "-a, --all      all that reads as a row: most are none\n"
+    "-g, --guesses  guesses, too\n"
+    "-w, --whole    whole pages, for a table that was cleared: rows that are not deleted are listed, too\n";
 
 /* Rows below it are printed only if all are asked for. */
 static const float KEPT = 0.85f;
@@ -66,6 +72,7 @@ struct job {
     uint8_t hints[PHS_MOST_COLUMNS];
     size_t columns;
     int all, whole;
+    enum phs_rebuilding rebuilding; /* no guesses, unless they are asked for */
     uint8_t page[LARGEST_PAGE];
     size_t len; /* of what was read of the page */
     uint64_t base;
@@ -434,7 +441,7 @@ static uint64_t carve_blocks(struct job *job, size_t skip)
     size_t columns = job->columns - skip;
     struct lists lists = lists_of(job, columns);
     uint64_t out[1];
-    uint64_t refusal = phs_scan_single_page_gap(PHS_EXACT, job->page, job->len, job->header, job->base, job->hints + skip,
+    uint64_t refusal = phs_scan_single_page_gap(job->rebuilding, job->page, job->len, job->header, job->base, job->hints + skip,
                                                 columns, lists.rows, lists.rows_len, lists.cols, lists.cols_len, out);
 
     for (uint64_t i = 0; i < out[0] && refusal == PHS_OK; i++) {
@@ -465,7 +472,7 @@ static uint64_t carve_stretch(struct job *job, size_t start, size_t end, size_t 
     size_t columns = job->columns - skip;
     struct lists lists = lists_of(job, columns);
     uint64_t out[1];
-    uint64_t refusal = phs_parse_cells_from_freeblock(PHS_EXACT, job->page + start, end - start, job->base + start,
+    uint64_t refusal = phs_parse_cells_from_freeblock(job->rebuilding, job->page + start, end - start, job->base + start,
                                                       job->hints + skip, columns, lists.rows, lists.rows_len, lists.cols,
                                                       lists.cols_len, out);
 
@@ -522,6 +529,9 @@ static uint64_t carve_free_space(struct job *job)
         refusal = scan(job, job->gap, job->content);
     if (refusal == PHS_OK)
         refusal = carve_blocks(job, 0);
+    /* The hints behind the key and the links in the gap are for guesses. */
+    if (job->rebuilding == PHS_NO_GUESSES)
+        return refusal;
     if (refusal == PHS_OK && has_key(job))
         refusal = carve_blocks(job, 1);
     return refusal == PHS_OK ? carve_gap(job) : refusal;
@@ -619,6 +629,8 @@ static int carve_file(struct job *job)
         fprintf(stderr, "carve: the rows cannot be written\n");
         return 1;
     }
+    if (job->rebuilding == PHS_NO_GUESSES && !job->whole)
+        fprintf(stderr, "carve: no guesses were made; -g brings back rows whose start was overwritten\n");
     return job->refused > 0;
 }
 
@@ -639,6 +651,8 @@ static int read_options(struct job *job, int argc, char **argv)
     for (int i = 1; i < argc; i++) {
         if (strcmp(argv[i], "-a") == 0 || strcmp(argv[i], "--all") == 0)
             job->all = 1;
+        else if (strcmp(argv[i], "-g") == 0 || strcmp(argv[i], "--guesses") == 0)
+            job->rebuilding = PHS_EXACT;
         else if (strcmp(argv[i], "-w") == 0 || strcmp(argv[i], "--whole") == 0)
             job->whole = 1;
         else if (argv[i][0] == '-')

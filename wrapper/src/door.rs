@@ -5,8 +5,8 @@
 
 use std::sync::Once;
 
-/// The words that this crate knows: `PHS_VERSION` of the header. It moves with the three numbers below.
-const VERSION: u64 = 3;
+/// The words that this crate knows: `PHS_VERSION` of the header. It moves with the three numbers below, and with what a call takes.
+const VERSION: u64 = 4;
 
 /// The words of a row, `PHS_WORDS_PER_ROW`.
 pub const ROW_WORDS: usize = 9;

@@ -4,7 +4,7 @@ use crate::door;
 use crate::lists::Lists;
 use crate::pages::leaf_pages;
 use crate::rows::codes;
-use crate::{Hint, Rebuilding, Record, Refusal, Table, DEFAULT_MEMORY};
+use crate::{Rebuilding, Record, Refusal, Table, DEFAULT_MEMORY};
 use std::error::Error;
 use std::fmt;
 use std::ops::RangeInclusive;
@@ -100,17 +100,16 @@ impl Iterator for Numbers {
 /// A table by its index, with the codes of its hints.
 type Lent<'a> = (usize, &'a Table, Vec<u8>);
 
-/// The rows in the free space of pages, one page after the other; made by [`scan_page_gaps`](crate::scan_page_gaps),
-/// [`scan_every_page_gap`](crate::scan_every_page_gap), [`recover_freeblocks`](crate::recover_freeblocks) and
-/// [`recover_every_page_freeblocks`](crate::recover_every_page_freeblocks).
+/// The rows in the free space of pages, one page after the other; made by [`GapWalk::rows`](crate::GapWalk::rows),
+/// [`recover_freeblocks`](crate::recover_freeblocks) and [`recover_every_page_freeblocks`](crate::recover_every_page_freeblocks).
 ///
 /// It holds the rows of one page at a time, in no more than [`DEFAULT_MEMORY`] bytes, or as [`FreeSpace::memory`] says. A page
 /// whose rows take more is an error that names it, and the pages behind it follow.
 ///
 /// ```
-/// # use phsarodil::{scan_every_page_gap, Hint, Rebuilding};
+/// # use phsarodil::{scan_every_page_gap, Hint};
 /// # let db = vec![0; 4096];
-/// for found in scan_every_page_gap(Rebuilding::Exact, &db, 1024, &[Hint::Text, Hint::Integer])?.memory(1 << 20) {
+/// for found in scan_every_page_gap(&db, 1024, &[Hint::Text, Hint::Integer]).rows()?.memory(1 << 20) {
 ///     match found {
 ///         Ok(found) if found.record.row.confidence >= 0.85 => println!("page {}: {:?}", found.page, found.record.values()?),
 ///         Ok(_) => (),
@@ -164,14 +163,13 @@ impl<'a> FreeSpace<'a> {
         })
     }
 
-    /// Of every page.
+    /// Of every page, for hints by their codes.
     pub(crate) fn of_every_page(
         way: Way,
         db: &'a [u8],
         page_size: usize,
-        hints: &[Hint],
+        codes: Vec<u8>,
     ) -> Result<FreeSpace<'a>, Refusal> {
-        let codes = codes(hints);
         way.check(&codes)?;
         // Of no pages, since a database of any size is taken.
         leaf_pages(&[], page_size, 0)?;
@@ -291,11 +289,12 @@ impl<'a> Iterator for FreeSpace<'a> {
 #[cfg(test)]
 mod tests {
     use super::*;
-    use crate::{recover_freeblocks, scan_every_page_gap, scan_page_gaps, Row};
+    use crate::{recover_freeblocks, scan_every_page_gap, scan_page_gaps, Hint, Row};
 
     const SIZE: usize = 512;
 
-    /// A root with the leaves 2 and 3, and a table of its own on page 4. Each leaf has freed blocks with rows of two columns.
+    /// A root with the leaves 2 and 3, and a table of its own on page 4. Each leaf has freed blocks with rows of two columns, one without
+    /// all before its types and one in a whole cell.
     fn database() -> Vec<u8> {
         let mut db = vec![0; 4 * SIZE];
         db[100] = 5;
@@ -305,7 +304,7 @@ mod tests {
         for leaf in db[SIZE..].chunks_exact_mut(SIZE) {
             leaf[..9].copy_from_slice(&[13, 1, 44, 0, 0, 1, 44, 0, 0]);
             leaf[300..309].copy_from_slice(&[1, 64, 0, 9, 0x11, 1, b'P', b'1', 42]);
-            leaf[320..331].copy_from_slice(&[0, 0, 0, 11, 3, 0x11, 1, b'P', b'2', 43, 0]);
+            leaf[320..332].copy_from_slice(&[0, 0, 0, 12, 6, 7, 3, 0x11, 1, b'P', b'2', 43]);
         }
         db
     }
@@ -353,12 +352,13 @@ mod tests {
     fn page_by_page_is_all_tables_at_once() {
         let (db, tables) = (database(), tables());
         for way in [
-            Way::Gaps(Rebuilding::Exact),
+            Way::Gaps(Rebuilding::NoGuesses),
             Way::Gaps(Rebuilding::OneByte),
+            Way::Gaps(Rebuilding::Exact),
             Way::Freeblocks,
         ] {
             let found = match way {
-                Way::Gaps(mode) => scan_page_gaps(mode, &db, SIZE, &tables),
+                Way::Gaps(mode) => scan_page_gaps(&db, SIZE, &tables).rebuilding(mode).rows(),
                 Way::Freeblocks => recover_freeblocks(&db, SIZE, &tables),
             };
             let found: Vec<Found> = found.unwrap().collect::<Result<_, _>>().unwrap();
@@ -380,7 +380,7 @@ mod tests {
         let db = database();
         let hints = [Hint::Text, Hint::Integer];
         let pages = |memory| -> Vec<_> {
-            let found = scan_every_page_gap(Rebuilding::Exact, &db, SIZE, &hints).unwrap();
+            let found = scan_every_page_gap(&db, SIZE, &hints).rows().unwrap();
             let pages = found
                 .memory(memory)
                 .map(|found| found.map(|found| found.page));

@@ -32,7 +32,7 @@ pub fn recover_every_page_freeblocks<'a>(
     page_size: usize,
     hints: &[Hint],
 ) -> Result<FreeSpace<'a>, Refusal> {
-    FreeSpace::of_every_page(Way::Freeblocks, db, page_size, hints)
+    FreeSpace::of_every_page(Way::Freeblocks, db, page_size, codes(hints))
 }
 
 /// The rows in the freed blocks of the page `number` of a database; its type is not looked at. Their lists take no more than

@@ -10,6 +10,9 @@
 //! page does. Both list rows that are none. The example `carve` keeps those with a confidence of at least 0.85 that are not all NULL
 //! and stand where a cell can.
 //!
+//! In freed blocks all but whole cells comes back as guesses, rows whose header length is made up ([`Rebuilding`]). Calls on one page, such
+//! as [`scan_page_gap`], leave guesses out unless [`PageGap::rebuilding`] asks for them; walks, such as [`scan_page_gaps`], make them.
+//!
 //! ```
 //! use phsarodil::{scan, Hint, Value};
 //!
@@ -53,7 +56,7 @@ pub use freeblocks::{
 };
 pub use gaps::{
     parse_cells_from_freeblock, scan_every_page_gap, scan_page_gap, scan_page_gaps,
-    scan_single_page_gap, Rebuilding,
+    scan_single_page_gap, GapWalk, PageGap, Rebuilding,
 };
 pub use hint::{Hint, UnknownHint};
 pub use learned::{carve_unallocated, learn_signatures};

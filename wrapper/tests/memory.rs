@@ -2,7 +2,8 @@
 
 use phsarodil::{
     recover_freeblocks, scan_every_page_gap, scan_page_gap, scan_page_gaps, scan_single_page_gap,
-    Found, Hint, PageError, Rebuilding, Refusal, Table, Value, DEFAULT_MEMORY, MOST_COLUMNS,
+    Found, FreeSpace, GapWalk, Hint, PageError, Rebuilding, Refusal, Table, Value, DEFAULT_MEMORY,
+    MOST_COLUMNS,
 };
 use std::alloc::{GlobalAlloc, Layout, System};
 use std::sync::atomic::{AtomicUsize, Ordering::SeqCst};
@@ -79,6 +80,10 @@ fn table(columns: usize) -> [Table; 1] {
     [Table::new("readings", 1, vec![Hint::Any; columns])]
 }
 
+fn guesses(walk: GapWalk) -> FreeSpace {
+    walk.rebuilding(Rebuilding::Exact).rows().unwrap()
+}
+
 /// How many rows came of each page, or what was said of it.
 fn by_page<'a>(
     rows: impl Iterator<Item = Result<Found<'a>, PageError>>,
@@ -99,7 +104,7 @@ fn seven_zeroed_blocks_of_510_columns() {
     let _one = MEASURING.lock();
     let (db, tables) = (tablet(MOST_COLUMNS), table(MOST_COLUMNS));
     for limit in [1 << 20, DEFAULT_MEMORY] {
-        let rows = scan_page_gaps(Rebuilding::Exact, &db, SIZE, &tables).unwrap();
+        let rows = guesses(scan_page_gaps(&db, SIZE, &tables));
         let (pages, most) = measured(|| by_page(rows.memory(limit)));
         // The walk comes to the leaves of the cells from the last to the first, and to the right child behind them.
         let mut expected: Vec<_> = (3..=9)
@@ -116,7 +121,7 @@ fn seven_zeroed_blocks_of_510_columns() {
 fn the_row_behind_seven_such_pages_is_whole() {
     let _one = MEASURING.lock();
     let (db, tables) = (tablet(MOST_COLUMNS), table(MOST_COLUMNS));
-    let rows = scan_page_gaps(Rebuilding::Exact, &db, SIZE, &tables).unwrap();
+    let rows = guesses(scan_page_gaps(&db, SIZE, &tables));
     let found: Vec<_> = rows.filter_map(Result::ok).collect();
     let [found] = &found[..] else {
         panic!("{found:?}")
@@ -135,8 +140,8 @@ fn every_byte_a_row_of_25_columns_within_the_default() {
     let _one = MEASURING.lock();
     let (db, hints) = (tablet(25), [Hint::Any; 25]);
     let rows = |number| {
-        let rows = scan_page_gap(Rebuilding::Exact, &db, SIZE, number, &hints, DEFAULT_MEMORY);
-        rows.map(|rows| rows.len())
+        let page = scan_page_gap(&db, SIZE, number, &hints).rebuilding(Rebuilding::Exact);
+        page.rows().map(|rows| rows.len())
     };
     assert_eq!(rows(2), Ok(1));
     for number in 3..=9 {
@@ -152,7 +157,7 @@ fn lists_are_used_again_for_the_next_page() {
     let _one = MEASURING.lock();
     let db = tablet(2);
     let part = &db[..4 * SIZE];
-    let rows = scan_every_page_gap(Rebuilding::Exact, part, SIZE, &[Hint::Any; 2]).unwrap();
+    let rows = guesses(scan_every_page_gap(part, SIZE, &[Hint::Any; 2]));
     let (pages, most) = measured(|| by_page(rows));
     // On page 1 two cell pointers read as a row.
     let expected = [(1, Ok(1)), (2, Ok(1)), (3, Ok(65_523)), (4, Ok(65_523))];
@@ -166,8 +171,8 @@ fn a_limit_is_the_bytes_of_the_lists() {
     let db = tablet(5);
     let page = &db[2 * SIZE..3 * SIZE];
     let rows = |memory| {
-        let rows = scan_single_page_gap(Rebuilding::Exact, page, 0, 0, &[Hint::Any; 5], memory);
-        rows.map(|rows| rows.len())
+        let page = scan_single_page_gap(page, 0, 0, &[Hint::Any; 5]).rebuilding(Rebuilding::Exact);
+        page.memory(memory).rows().map(|rows| rows.len())
     };
     for limit in [0, 1 << 10, 1 << 20, 13 << 20] {
         let (refused, most) = measured(|| rows(limit));

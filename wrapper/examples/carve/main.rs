@@ -1,10 +1,14 @@
-//! carve [-a] [-w] FILE HINTS [PAGE]: prints the deleted rows of a table that are left in the free space of FILE's pages.
+//! carve [-a] [-g] [-w] FILE HINTS [PAGE]: prints the deleted rows of a table that are left in the free space of FILE's pages.
 //! It goes page by page and holds one page, so a file may be of any size. HINTS has a letter for each column, N for an INTEGER
 //! PRIMARY KEY, which a record stores as NULL. PAGE is the page size where the file's header does not name it.
 //!
-//! SQLite overwrites the first four bytes of a freed cell. In a small table the fourth is the type of the first column. A key has
-//! no body, so the hints behind it bring the row back, and carve looks with these, too. Any other first column takes the length of
-//! its body with it: hints from the second column on would read every value from the wrong place, and are not used.
+//! SQLite overwrites the first four bytes of a freed cell. What is left of it in a freed block is found as a guess, a row whose header's
+//! length is made up; in the gap that is so where the length is gone. -g brings guesses; without it there are whole records of the gap
+//! and whole cells of freed blocks.
+//!
+//! In a small table the fourth byte is the type of the first column. A key has no body, so the hints behind it bring the row back, and
+//! -g looks with these, too. Any other first column takes the length of its body with it: hints from the second column on would read
+//! every value from the wrong place, and are not used.
 //!
 //! A row is printed if its confidence is at least 0.85, it is not all NULL, and it stands where a cell can: behind its length and
 //! its row id, or behind the link that overwrote these. Such links are left in freed blocks, also in joined ones, and in the gap of
@@ -19,7 +23,7 @@ mod places;
 
 use phsarodil::{
     parse_cells_from_freeblock, scan_single_page_gap, Hint, Rebuilding, Record, Refusal, Scan,
-    DEFAULT_MEMORY, MOST_COLUMNS,
+    MOST_COLUMNS,
 };
 use places::{Page, LINK, TABLE_LEAF};
 use std::fs::File;
@@ -27,15 +31,17 @@ use std::io::{self, BufWriter, Read, StdoutLock, Write};
 use std::ops::Range;
 use std::process::ExitCode;
 
-const USAGE: &str = "usage: carve [-a] [-w] FILE HINTS [PAGE]
+const USAGE: &str = "usage: carve [-a] [-g] [-w] FILE HINTS [PAGE]
 Prints the deleted rows of a table that are left in the free space of FILE's pages.
 HINTS has a letter for each column: I integer, R real, T text, B blob, N null, A any;
 or a digit, its code from 0 to 5. An INTEGER PRIMARY KEY has N. A REAL column that may hold whole numbers has A:
 they are stored as integers.
 PAGE is the page size, if it is not to be the one that the file's header names.
 A row that is padded has a number in its header that takes more bytes than it needs: SQLite writes none so.
--a, --all    all that reads as a row: most are none
--w, --whole  whole pages, for a table that was cleared: rows that are not deleted are listed, too";
+A guess is a row whose start was overwritten when it was deleted: its header's length is made up, and it may be none.
+-a, --all      all that reads as a row: most are none
+-g, --guesses  guesses, too
+-w, --whole    whole pages, for a table that was cleared: rows that are not deleted are listed, too";
 
 /// Rows below it are printed only if all are asked for.
 const KEPT: f32 = 0.85;
@@ -56,6 +62,7 @@ struct Job {
     size: Option<usize>,
     all: bool,
     whole: bool,
+    rebuilding: Rebuilding,
 }
 
 fn main() -> ExitCode {
@@ -79,9 +86,11 @@ fn main() -> ExitCode {
 impl Job {
     fn of_words(words: impl Iterator<Item = String>) -> Result<Job, String> {
         let (mut all, mut whole, mut rest) = (false, false, Vec::new());
+        let mut rebuilding = Rebuilding::default();
         for word in words {
             match word.as_str() {
                 "-a" | "--all" => all = true,
+                "-g" | "--guesses" => rebuilding = Rebuilding::Exact,
                 "-w" | "--whole" => whole = true,
                 option if option.starts_with('-') => return Err(USAGE.into()),
                 _ => rest.push(word),
@@ -98,7 +107,12 @@ impl Job {
             size,
             all,
             whole,
+            rebuilding,
         })
+    }
+
+    fn guesses(&self) -> bool {
+        self.rebuilding != Rebuilding::NoGuesses
     }
 
     fn has_key(&self) -> bool {
@@ -171,6 +185,9 @@ fn carve_file(job: &Job) -> Result<bool, String> {
         bytes.clear();
     }
     carving.end()?;
+    if !job.guesses() && !job.whole {
+        eprintln!("carve: no guesses were made; -g brings back rows whose start was overwritten");
+    }
     Ok(all_carved)
 }
 
@@ -268,18 +285,15 @@ impl Carving<'_> {
         if let Some((start, end)) = gap {
             self.scan(page, start, end)?;
         }
-        let ways = if self.job.has_key() { 2 } else { 1 };
-        for skip in 0..ways {
-            self.carve_blocks(page, skip)?;
+        self.carve_blocks(page, 0)?;
+        // The hints behind the key and the links in the gap are for guesses.
+        if !self.job.guesses() {
+            return Ok(());
         }
-        let gap = gap.unwrap_or((0, 0));
-        // Only what links say they are of is lent: zeros would read as rows.
-        for stretch in page.stretches(gap) {
-            for skip in 0..ways {
-                self.carve_stretch(page, gap, stretch.clone(), skip)?;
-            }
+        if self.job.has_key() {
+            self.carve_blocks(page, 1)?;
         }
-        Ok(())
+        self.carve_gap(page, gap.unwrap_or((0, 0)))
     }
 
     /// Prints the rows from `start` on that end before `end`. The scan goes on behind a row that is kept, and inside of one that is
@@ -302,19 +316,23 @@ impl Carving<'_> {
     /// Prints the rows in the freed blocks, by the hints behind the first `skip` ones.
     fn carve_blocks(&mut self, page: &mut Page, skip: usize) -> Result<(), Trouble> {
         let hints = &self.job.hints[skip..];
-        let records = scan_single_page_gap(
-            Rebuilding::Exact,
-            page.bytes,
-            page.header,
-            page.base,
-            hints,
-            DEFAULT_MEMORY,
-        )?;
-        for mut record in records {
+        let space = scan_single_page_gap(page.bytes, page.header, page.base, hints);
+        for mut record in space.rebuilding(self.job.rebuilding).rows()? {
             // The others are the gap's.
             if page.is_in_block(&record) {
                 let head = page.freed_head(&mut record, skip);
                 self.take(page, &record, 0, skip, head)?;
+            }
+        }
+        Ok(())
+    }
+
+    /// Prints the rows of freed cells in the gap. Only what links say they are of is lent: zeros would read as rows.
+    fn carve_gap(&mut self, page: &mut Page, gap: (usize, usize)) -> Result<(), Trouble> {
+        let ways = if self.job.has_key() { 2 } else { 1 };
+        for stretch in page.stretches(gap) {
+            for skip in 0..ways {
+                self.carve_stretch(page, gap, stretch.clone(), skip)?;
             }
         }
         Ok(())
@@ -330,14 +348,11 @@ impl Carving<'_> {
         skip: usize,
     ) -> Result<(), Trouble> {
         let start = stretch.start;
-        let records = parse_cells_from_freeblock(
-            Rebuilding::Exact,
-            &page.bytes[stretch],
-            page.base + start as u64,
-            &self.job.hints[skip..],
-            DEFAULT_MEMORY,
-        )?;
-        let freed: Vec<Record> = records
+        let (base, hints) = (page.base + start as u64, &self.job.hints[skip..]);
+        let block = parse_cells_from_freeblock(&page.bytes[stretch], base, hints);
+        let freed: Vec<Record> = block
+            .rebuilding(self.job.rebuilding)
+            .rows()?
             .filter(|record| page.is_freed_in_gap(record, gap, skip))
             .collect();
         for record in freed.iter().rev() {

@@ -27,7 +27,7 @@
  *
  * Padded numbers. A varint is padded if it takes more bytes than the shortest one of its value, as 80 01 does for 1. SQLite
  * writes none, so a padded one in a header is a strong hint that the row is none. PHS_ROW_PADDED is 1 where the header's length
- * is padded, or a type that was read for the row, also a last one that runs past the header's end. Rebuilt rows and those of
+ * is padded, or a type that was read for the row, also a last one that runs past the header's end. Guesses and rows of
  * PHS_MODE_COLUMNS_ONLY and PHS_MODE_FIRST_COL_MISSING have no header length, so there it tells of types alone. The record's
  * length and the row id of a cell do not count. No row is left out for it, and no confidence is less.
  *
@@ -40,7 +40,8 @@
  * 127 and a record of at most 127 bytes, which may be all of a small table.
  *     An INTEGER PRIMARY KEY as the first column has a type, that of NULL, and no body: its value is the row id. Records that
  *     have all types need PHS_HINT_NULL in its place. In freed blocks of such rows the key's type is gone, and the hints
- *     behind the key bring all other columns back. So for such a table make two calls on free space, with either hints.
+ *     behind the key bring all other columns back, as guesses (enum phs_rebuilding). So for such a table make two calls on free
+ *     space, with either hints.
  *     Of any other first column the length of the body is lost with the type, and that body stands before all others. HINTS
  *     FROM THE SECOND COLUMN ON MUST NOT BE LENT FOR IT: types and confidence look right, and every value is read from the
  *     wrong place, unless that body has no bytes. Lend fewer hints than columns for a key alone.
@@ -114,16 +115,16 @@ enum phs_hint {
 };
 
 /*
- * Whether the calls on free space bring guesses, and which. A guess is a row whose header length is made up: at each byte of a freed
- * block types are taken to begin, and all before them to be lost.
- *     PHS_NO_GUESSES: none is made. The rows are those of the gap and of whole cells. A code that nobody set and that is 0 is this
- *         one.
+ * Whether the calls on free space bring guesses, and which. A guess is a row whose header length is made up: at each byte of a
+ * freed block types are taken to begin, and all before them to be lost.
+ *     PHS_NO_GUESSES: none is made. The rows are those of the gap and of whole cells. A code that nobody set and that is 0 is
+ *         this one.
  *     PHS_ONE_BYTE: the types of all columns take one byte each, and the bodies stand behind so many bytes. A type of more
  *         bytes makes no row, or, in the last column, one whose bodies are read from inside that type. This is what the Rust
  *         does that the library is held against. More than PHS_MOST_ONE_BYTE_COLUMNS columns are refused.
  *     PHS_EXACT: as many types as there are columns, of one to nine bytes each, and the bodies stand behind the last of them.
  *         There is no row where the types take more than 510 bytes.
- * Most deleted rows of a small table come back as guesses alone, and most guesses are no rows (docs/BENCH.md). It is proved
+ * Rows deleted between others mostly come back as guesses alone, and most guesses are none (docs/BENCH.md). It is proved
  * (docs/RULES.md, 11.13) that with room for either list that of PHS_NO_GUESSES is that of each other code without its guesses, in
  * the same order. The words of a row do not say that it is a guess: in what phs_parse_cells_from_freeblock lists it is one if it
  * has no row id, in other lists if that of PHS_NO_GUESSES lacks it.
@@ -369,14 +370,16 @@ uint64_t phs_recover_slice_freeblocks(const uint8_t *page, size_t len, size_t he
  *     page or is not larger, and for 1,024 blocks at the most; a block of a size below 4 or past the page is left out.
  * In a block whole cells come first: a record's length, a row id and the record; behind one that is a row the search goes
  * on at the record's end, elsewhere at the next byte. PHS_ROW_HAS_ID is 1 for these alone, and the offset is the record's.
- * Then come the guesses, if `rebuilding` asks for them: a header is rebuilt at each byte of the block. The offset of such a row is that
- * of its first type, and PHS_ROW_CONSUMED is counted from there. A row at the offset of one of this block's cells is left out.
- * The source is PHS_SOURCE_CARVED_INTRA_PAGE. The confidence is the share of columns that suit, of rebuilt rows times 0.9;
+ * Then come the guesses, if `rebuilding` asks for them: a header is rebuilt at each byte of the block. The offset of such a
+ * row is that of its first type, and PHS_ROW_CONSUMED is counted from there. A row at the offset of one of this block's cells
+ * is left out.
+ * The source is PHS_SOURCE_CARVED_INTRA_PAGE. The confidence is the share of columns that suit, of guesses times 0.9;
  * PHS_ROW_PERCENT is the same in whole hundredths, cut down.
- * On real pages most rows listed are none. The ones to keep have a confidence of 0.85 or more and are not all NULL; of those
- * that share bytes it is the one with the most values that are not NULL. docs/BENCH.md has what that brings and loses. Rows
- * that were deleted from the end on may lie in the gap without their first four bytes, and no header is rebuilt there: lend the
- * gap to phs_parse_cells_from_freeblock. Whoever lends fewer hints than columns reads "Deleted rows", above, first.
+ * With guesses most rows listed on real pages are none. The ones to keep have a confidence of 0.85 or more and are not all
+ * NULL; of those that share bytes it is the one with the most values that are not NULL. docs/BENCH.md has what that brings and
+ * loses. Rows that were deleted from the end on may lie in the gap without their first four bytes, and no header is rebuilt
+ * there: lend the gap to phs_parse_cells_from_freeblock, with guesses. Whoever lends fewer hints than columns reads "Deleted
+ * rows", above, first.
  * out, 1 word: the rows written.
  * Returns as phs_recover_freeblocks does, and so are rows and entries; PHS_COLUMN_COUNT also where `rebuilding` is
  * PHS_ONE_BYTE and any table has more than PHS_MOST_ONE_BYTE_COLUMNS columns, PHS_MALFORMED also where it is above PHS_EXACT.

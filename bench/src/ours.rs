@@ -65,7 +65,7 @@ impl Ours {
     pub fn answer(&self, case: &Case, lent: &mut Lent, value: u64, width: usize) -> Answer {
         let (number, out) = (self.one)(case, lent, value);
         let written = out.first().map_or(0, |&n| n as usize);
-        Answer { number, lists: lent.written(case.call, written, width), out }
+        Answer::new(number, out, lent.written(case.call, written, width))
     }
 }
 

@@ -16,11 +16,20 @@ pub struct Case {
 
 /// What one call leaves: its number, the words of `out`, and the cells that it wrote at the front of each lent list.
 /// The cells behind them keep the pattern.
-#[derive(Clone, Debug, Default, PartialEq, Eq)]
+#[derive(Clone, Debug, Default)]
 pub struct Answer {
     pub number: u64,
     pub out: Vec<u64>,
     pub lists: Vec<Vec<u64>>,
+    /// Which rows of free space have a rebuilt header. The rules know; no word of a row says so.
+    pub rebuilt: Vec<bool>,
+}
+
+/// Equal answers leave the same.
+impl PartialEq for Answer {
+    fn eq(&self, other: &Answer) -> bool {
+        (self.number, &self.out, &self.lists) == (other.number, &other.out, &other.lists)
+    }
 }
 
 /// What a lent list holds before a call, so that an untouched cell is known from a written one.
@@ -141,8 +150,13 @@ impl Case {
 }
 
 impl Answer {
+    /// One of a call that rebuilds no header.
+    pub fn new(number: u64, out: Vec<u64>, lists: Vec<Vec<u64>>) -> Answer {
+        Answer { number, out, lists, rebuilt: Vec::new() }
+    }
+
     /// A refusal that writes nothing.
     pub fn refused(number: u64, out: usize, lists: usize) -> Answer {
-        Answer { number, out: vec![0; out], lists: vec![Vec::new(); lists] }
+        Answer::new(number, vec![0; out], vec![Vec::new(); lists])
     }
 }

@@ -57,7 +57,7 @@ const GROUPS: [(usize, Group); 8] = [
 /// The same for the calls on pages, whose random cases come on top.
 const PAGE_GROUPS: [(usize, Group); 4] = [(1, numbers::all), (30, chains::all), (8, walks::all), (8, tables::all)];
 
-/// The same for the carver of gaps and freed blocks, where each case goes both ways.
+/// The same for the carver of gaps and freed blocks, where each case goes three ways.
 const GAP_GROUPS: [(usize, Group); 4] = [(28, gaps::all), (10, gaps::walks), (24, blocks::all), (2, rebuilding::all)];
 
 /// The same for the three modes, and for learning.

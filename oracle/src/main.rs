@@ -5,6 +5,7 @@ mod calls;
 mod case;
 mod cases;
 mod compare;
+mod guesses;
 mod only;
 mod options;
 mod panics;

@@ -5,13 +5,13 @@ mod file;
 mod line;
 mod program;
 
-use crate::calls::{self, Given, BLOCK, GAPS, LEAVES, RECOVER};
+use crate::calls::{self, rebuilding, Given, BLOCK, GAPS, LEAVES, RECOVER};
 use crate::case::Case;
 use crate::cases::worked::{self, Worked};
 use crate::cases::{self, limits, regions, telling, Plan};
 use crate::compare::{against_the_rust, expected, Asked};
 use crate::panics;
-use crate::rules::limits::Limits;
+use crate::rules::limits::{Limits, NO_GUESSES};
 use crate::runner::Sink;
 use crate::selftest::noticing;
 use crate::text;
@@ -44,8 +44,8 @@ struct Recorder {
     carved: Program,
     walked: Program,
     limits: Limits,
-    /// By call, number and rows: how many came, and the next one to take.
-    kinds: HashMap<(u8, u64, u64), (usize, f64)>,
+    /// By call, whether it is without guesses, number and rows: how many came, and the next one to take.
+    kinds: HashMap<(u8, bool, u64, u64), (usize, f64)>,
     /// As the server would have them, so that none comes twice.
     taken: HashSet<Vec<u8>>,
     keep_all: bool,
@@ -69,7 +69,9 @@ impl Recorder {
         }
         let answer = (calls::of(case).answer)(&self.limits, case);
         let found = answer.out[0].min(3);
-        let (seen, next) = self.kinds.entry((case.call, answer.number, found)).or_insert((0, 0.0));
+        let without_guesses = rebuilding(case).0 == Some(NO_GUESSES);
+        let kind = (case.call, without_guesses, answer.number, found);
+        let (seen, next) = self.kinds.entry(kind).or_insert((0, 0.0));
         *seen += 1;
         if *seen <= FIRST || *seen as f64 >= *next {
             *next = *seen as f64 * (GROWTH + case.size() as f64 * GROWTH_BY_SIZE);

@@ -2,8 +2,9 @@
 //! archive does not have is held against the Rust alone.
 
 use crate::calls;
-use crate::case::Case;
+use crate::case::{Answer, Case};
 use crate::compare::{against_ours, against_the_rust, expected};
+use crate::guesses::{same_but_for_the_way, without, Without};
 use crate::only::{every_list, Tried};
 use crate::panics;
 use crate::resuming::{in_parts, rows_of};
@@ -57,11 +58,13 @@ impl Sink for Runner {
         if self.difference.is_some() {
             return;
         }
-        self.size += case.size();
-        self.batch.push(case);
-        if self.batch.len() >= BATCH_CASES || self.size >= BATCH_SIZE {
+        let full = self.batch.len() >= BATCH_CASES || self.size >= BATCH_SIZE;
+        // The ways of one case stay in one batch.
+        if full && !self.batch.last().is_some_and(|last| same_but_for_the_way(last, &case)) {
             self.finish();
         }
+        self.size += case.size();
+        self.batch.push(case);
     }
 }
 
@@ -96,6 +99,7 @@ impl Runner {
         if sent.is_err() {
             return self.one_by_one(batch);
         }
+        let mut without = Without::default();
         for (case, (answer, asked)) in batch.iter().zip(&due) {
             let rust = against_the_rust(case, asked).filter(|_| self.sides != Sides::OursOnly);
             let mut differs = None;
@@ -103,7 +107,8 @@ impl Runner {
                 let Ok(ours) = self.server.receive(case) else {
                     return self.one_by_one(batch);
                 };
-                differs = against_ours(case, answer, &ours).filter(|_| self.sides != Sides::RustOnly);
+                differs = against_ours(case, answer, &ours).or_else(|| without.put(case, answer, ours));
+                differs = differs.filter(|_| self.sides != Sides::RustOnly);
             }
             if let Some(why) = rust.or(differs) {
                 self.restart();
@@ -111,6 +116,7 @@ impl Runner {
             }
             self.tally.add(case, answer, asked);
         }
+        self.tally.with_guesses(without.lists, without.rebuilt);
         self.first_in_parts(batch)
     }
 
@@ -167,12 +173,20 @@ impl Runner {
         }
         match self.server.ask(case) {
             Ok(ours) => against_ours(case, &answer, &ours)
-                .or_else(|| self.first_in_parts(slice::from_ref(case)).map(|differs| differs.1)),
+                .or_else(|| self.first_in_parts(slice::from_ref(case)).map(|differs| differs.1))
+                .or_else(|| self.with_guesses(case, &answer, ours)),
             Err(e) => {
                 self.restart();
                 Some(format!("the server died: {e}"))
             }
         }
+    }
+
+    /// Why what was left in a case does not belong to what is left in it without guesses.
+    fn with_guesses(&mut self, case: &Case, answer: &Answer, ours: Left) -> Option<String> {
+        let plain = without(case)?;
+        let left = self.server.ask(&plain).ok()?;
+        Without::after(&plain, left).put(case, answer, ours)
     }
 
     /// What our side leaves, for showing it.

@@ -1,6 +1,7 @@
 //! The comparison can fail: with one number of the rules changed by one, a difference must be found and cut down,
 //! against our side and, where the Rust has that number too, against the Rust.
 
+mod guesses;
 pub mod noticing;
 mod padding;
 mod rebuilding;
@@ -495,7 +496,7 @@ const CHANGES: &[Change] = &[
 ];
 
 fn changes() -> impl Iterator<Item = &'static Change> {
-    CHANGES.iter().chain(rebuilding::CHANGES).chain(padding::CHANGES)
+    CHANGES.iter().chain(rebuilding::CHANGES).chain(guesses::CHANGES).chain(padding::CHANGES)
 }
 
 pub fn run(server: &[String]) -> bool {

@@ -39,6 +39,7 @@ pub enum Way {
     Scan,
     Offsets,
     Freed,
+    NoGuesses,
     OneByte,
     Exact,
     /// The gap of each leaf, rebuilt as a freed block is.
@@ -49,12 +50,13 @@ pub enum Way {
     Together,
 }
 
-const WAYS: [Way; 7] = [Way::Scan, Way::Offsets, Way::Freed, Way::OneByte, Way::Exact, Way::Modes, Way::Learned];
+const WAYS: [Way; 8] =
+    [Way::Scan, Way::Offsets, Way::Freed, Way::NoGuesses, Way::OneByte, Way::Exact, Way::Modes, Way::Learned];
 /// For rows that went one behind the other, and so came to lie in the gap.
-const WAYS_AND_GAP: [Way; 8] =
-    [Way::Scan, Way::Offsets, Way::Freed, Way::OneByte, Way::Exact, Way::Modes, Way::Learned, Way::Gap];
+const WAYS_AND_GAP: [Way; 9] =
+    [Way::Scan, Way::Offsets, Way::Freed, Way::NoGuesses, Way::OneByte, Way::Exact, Way::Modes, Way::Learned, Way::Gap];
 /// The ways that look into the free space of a table's leaves.
-const OF_FREE_SPACE: [Way; 4] = [Way::Freed, Way::OneByte, Way::Exact, Way::Gap];
+const OF_FREE_SPACE: [Way; 5] = [Way::Freed, Way::NoGuesses, Way::OneByte, Way::Exact, Way::Gap];
 
 /// A database by its name, which says all but the page size, and what was measured on it.
 #[derive(Clone, Debug, PartialEq, Eq, Hash)]
@@ -114,6 +116,7 @@ pub fn run(runner: &mut Runner, folder: &str) -> io::Result<bool> {
     println!("the statements, every page and every frame of a log, a damaged copy of each, and rows at every offset; the tables'");
     println!("leaves, each free block, the rows that are learned from, and a damaged copy of each of these.");
     runner.tally.print_in_parts();
+    runner.tally.print_with_guesses();
     padded(runner, folder, &names)
 }
 

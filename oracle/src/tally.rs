@@ -30,6 +30,9 @@ pub struct Tally {
     scans_in_parts: u64,
     ways: u64,
     not_in_parts: u64,
+    /// Lists with guesses that were held against those without, and the rows that they have more.
+    with_guesses: u64,
+    rebuilt: u64,
 }
 
 impl Tally {
@@ -43,7 +46,22 @@ impl Tally {
             scans_in_parts: 0,
             ways: 0,
             not_in_parts: 0,
+            with_guesses: 0,
+            rebuilt: 0,
         }
+    }
+
+    /// So many lists with guesses were held against those without, and have so many rows more.
+    pub fn with_guesses(&mut self, lists: usize, rebuilt: usize) {
+        self.with_guesses += lists as u64;
+        self.rebuilt += rebuilt as u64;
+    }
+
+    pub fn print_with_guesses(&self) {
+        println!(
+            "{} lists with guesses, less their {} rebuilt rows, are those without, in order and word for word",
+            self.with_guesses, self.rebuilt
+        );
     }
 
     /// So many scans were made in parts, in so many ways, and so many were not.
@@ -134,6 +152,7 @@ impl Tally {
             println!("NOT REACHED: rows of {} that are marked as padded, and others", call.name);
         }
         self.print_in_parts();
+        self.print_with_guesses();
         println!("column states read by a call (0 to 3, above): {:?}", self.states_read);
         println!("values read (none, NULL, integer, real, text, blob): {:?}", self.values);
     }

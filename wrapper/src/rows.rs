@@ -53,7 +53,7 @@ pub struct Row {
     /// The table's index, where tables are lent, else 0; [`Record::table`] has the table itself, with its name.
     pub table: usize,
     /// Whether its header's length or a type that was read for it is padded ([`Varint::padded`](crate::Varint::padded)): a strong
-    /// hint that the row is none. Rebuilt rows and those of [`Mode::ColumnsOnly`] and [`Mode::FirstColMissing`] have no header
+    /// hint that the row is none. Guesses and rows of [`Mode::ColumnsOnly`] and [`Mode::FirstColMissing`] have no header
     /// length, so there it tells of types alone. The record's length and the row id of a cell do not count.
     pub padded: bool,
 }

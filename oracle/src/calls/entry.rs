@@ -20,7 +20,7 @@ pub fn read(_: &Limits, case: &Case) -> Answer {
         return Answer::refused(2, 4, 0);
     };
     let length = if has_bytes(&v) { v.length } else { 0 };
-    Answer { number: 0, out: vec![v.tag, v.bits, v.start, length], lists: Vec::new() }
+    Answer::new(0, vec![v.tag, v.bits, v.start, length], Vec::new())
 }
 
 /// What the Rust decodes where a good entry with a body points.
@@ -53,7 +53,7 @@ pub fn given_read(case: &Case, answer: &Answer) -> Given {
 pub fn view(_: &Limits, case: &Case) -> Answer {
     let value = read_entry(entry(case), &case.slices[0]);
     let seen = value.filter(|v| has_bytes(v) && v.length > 0);
-    Answer { number: 0, out: seen.map_or(vec![0, 0], |v| vec![v.start, v.length]), lists: Vec::new() }
+    Answer::new(0, seen.map_or(vec![0, 0], |v| vec![v.start, v.length]), Vec::new())
 }
 
 pub fn given_view(case: &Case, answer: &Answer) -> Given {

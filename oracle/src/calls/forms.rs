@@ -5,7 +5,7 @@ use super::scan::signature;
 use super::sheet::{same_rows, Lent, Said, Sheet};
 use super::{held, rebuilding, Given};
 use crate::case::{Answer, Case};
-use crate::rules::limits::{first, room, unknown, Limits, ONE_BYTE};
+use crate::rules::limits::{first, room, Limits, ONE_BYTE};
 use crate::rules::page::{self, Page};
 use crate::rules::walk::{walk, End};
 use given::btree::get_page_data;
@@ -68,7 +68,7 @@ fn tables_refusal(limits: &Limits, case: &Case) -> Option<u64> {
     let unlike = roots.len() != counts.len() || all_hints != hints.len() as u128;
     first(&[
         (1, counts.iter().any(|&count| limits.bad_table(count, rebuilding))),
-        (2, unknown(rebuilding) || unlike || hints.iter().any(|&h| h > limits.hint)),
+        (2, limits.unknown(rebuilding) || unlike || hints.iter().any(|&h| h > limits.hint)),
         (3, db.len() > limits.region || roots.len() > limits.tables),
         (5, !limits.page_size(numbers[0])),
     ])

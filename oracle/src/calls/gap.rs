@@ -7,7 +7,7 @@ use super::sheet::{same_rows, Header, Lent, Row, Said, Sheet, INTRA_PAGE};
 use super::{rebuilding, Given};
 use crate::case::{Answer, Case};
 use crate::rules::gap::{block_rows, rows, Carved, Origin, Sought};
-use crate::rules::limits::{room, Limits};
+use crate::rules::limits::{room, Limits, NO_GUESSES};
 use crate::rules::page::Page;
 use crate::rules::walk::End;
 use given::btree::get_page_data;
@@ -34,12 +34,14 @@ fn write(limits: &Limits, sheet: &mut Sheet, rows: Vec<Carved>, start: usize, ta
             mode: 4 * table.index as u64,
             padded: carved.found.padded,
         };
-        sheet.put(&row, &entries(place, &carved.found))
+        let fits = sheet.put(&row, &entries(place, &carved.found));
+        sheet.rebuilt.extend(fits.then_some(carved.origin == Origin::Rebuilt));
+        fits
     })
 }
 
 fn sought<'a>(table: &Table<'a>) -> Sought<'a> {
-    Sought { hints: table.hints, rebuilding: table.rebuilding.unwrap_or(0) }
+    Sought { hints: table.hints, rebuilding: table.rebuilding.unwrap_or(NO_GUESSES) }
 }
 
 fn carve(limits: &Limits, sheet: &mut Sheet, page: &Page, table: &Table) -> bool {

@@ -13,7 +13,7 @@ pub fn data(limits: &Limits, case: &Case) -> Answer {
     let found = page(limits, db, size, number);
     let refused = first(&[(3, db.len() > limits.region), (5, !limits.page_size(size)), (6, found.is_none())]);
     match found.filter(|_| refused.is_none()) {
-        Some(page) => Answer { number: 0, out: vec![page.start as u64, size, page.header as u64], lists: Vec::new() },
+        Some(page) => Answer::new(0, vec![page.start as u64, size, page.header as u64], Vec::new()),
         None => Answer::refused(refused.unwrap_or(0), 3, 0),
     }
 }
@@ -73,7 +73,7 @@ pub fn leaves(limits: &Limits, case: &Case) -> Answer {
         });
     }
     let [flags, stack] = cleared(case);
-    Answer { number: refusal_of(end), out: vec![leaves.len() as u64], lists: vec![flags, stack, leaves] }
+    Answer::new(refusal_of(end), vec![leaves.len() as u64], vec![flags, stack, leaves])
 }
 
 /// Whether the Rust has something to say of a walk: it has no refusals before the work.

@@ -47,11 +47,14 @@ pub struct Sheet {
     written: usize,
     rows: Vec<u64>,
     entries: Vec<u64>,
+    /// Of rows of free space: whether each has a rebuilt header.
+    pub rebuilt: Vec<bool>,
 }
 
 impl Sheet {
     pub fn new(rows: usize, entries: usize, width: usize) -> Sheet {
-        Sheet { room: room(rows, entries, width.max(1)), width, written: 0, rows: Vec::new(), entries: Vec::new() }
+        let room = room(rows, entries, width.max(1));
+        Sheet { room, width, written: 0, rows: Vec::new(), entries: Vec::new(), rebuilt: Vec::new() }
     }
 
     /// Writes a row and its entries; false where it finds no room.
@@ -69,7 +72,7 @@ impl Sheet {
     /// The answer of a call that is lent other lists before these two.
     pub fn answer(self, end: End, mut before: Vec<Vec<u64>>) -> Answer {
         before.extend([self.rows, self.entries]);
-        Answer { number: refusal_of(end), out: vec![self.written as u64], lists: before }
+        Answer { number: refusal_of(end), out: vec![self.written as u64], lists: before, rebuilt: self.rebuilt }
     }
 }
 

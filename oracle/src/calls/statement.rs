@@ -10,7 +10,7 @@ use given::schema_sig::{boyer_moore_search, ColumnTypeHint, SchemaSignature};
 pub fn list(found: Vec<u64>, room: usize) -> Answer {
     let number = if found.len() > room { 9 } else { 0 };
     let written: Vec<u64> = found.into_iter().take(room).collect();
-    Answer { number, out: vec![written.len() as u64], lists: vec![written] }
+    Answer::new(number, vec![written.len() as u64], vec![written])
 }
 
 pub fn statement(limits: &Limits, case: &Case) -> Answer {

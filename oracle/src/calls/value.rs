@@ -11,7 +11,7 @@ use given::schema_sig::{ColumnTypeHint, SchemaSignature};
 use given::varint::read_varint;
 
 fn words(out: &[u64]) -> Answer {
-    Answer { number: 0, out: out.to_vec(), lists: Vec::new() }
+    Answer::new(0, out.to_vec(), Vec::new())
 }
 
 pub fn varint(limits: &Limits, case: &Case) -> Answer {

@@ -1,7 +1,7 @@
 //! The payload of one freed block: every short one, cells of every width packed and cut off, and rebuilt headers.
 
 use super::bytes::{every, telling_numbers, varint, width, TELLING, TYPES};
-use super::gaps::{both_ways, cell, few_hints, WAYS};
+use super::gaps::{cell, each_way, few_hints, WAYS};
 use super::records::{damage, junk};
 use super::regions::{lists, with_tail};
 use crate::calls::BLOCK;
@@ -32,7 +32,7 @@ pub fn all(sink: &mut dyn Sink, random: &mut Random, count: usize) {
 
 pub fn block(sink: &mut dyn Sink, payload: &[u8], hints: &[u8], rows: usize) {
     let lists = lists(rows, hints.len());
-    both_ways(sink, Case::new(BLOCK, &[0], &[payload, hints], &lists));
+    each_way(sink, Case::new(BLOCK, &[0], &[payload, hints], &lists));
 }
 
 fn short(sink: &mut dyn Sink) {
@@ -171,7 +171,7 @@ fn bases(sink: &mut dyn Sink) {
     let top = 1u64 << 48;
     for base in [0, 1, 1 << 32, top - 1, top, top + 1, 1 << 63, u64::MAX] {
         for rows in 0..=4 {
-            both_ways(sink, Case::new(BLOCK, &[base], &[&[3, 7, 2, 1, 9, 8, 8], &[0]], &lists(rows, 1)));
+            each_way(sink, Case::new(BLOCK, &[base], &[&[3, 7, 2, 1, 9, 8, 8], &[0]], &lists(rows, 1)));
         }
     }
 }
@@ -186,7 +186,7 @@ pub fn refusals(sink: &mut dyn Sink, payload: &[u8]) {
             }
             for rows in [0, 1] {
                 for base in [0, 1 << 48, (1 << 48) + 1] {
-                    both_ways(sink, Case::new(BLOCK, &[base], &[payload, &hints], &lists(rows, columns.max(1))));
+                    each_way(sink, Case::new(BLOCK, &[base], &[payload, &hints], &lists(rows, columns.max(1))));
                 }
             }
         }
@@ -219,7 +219,7 @@ fn random_block(sink: &mut dyn Sink, random: &mut Random) {
     let rows = if random.once_in(5) { random.below(6) } else { payload.len().min(40) };
     let [r, c] = lists(rows, hints.len());
     let room = [r + random.below(WORDS_PER_ROW), c + random.below(4 * hints.len())];
-    both_ways(sink, Case::new(BLOCK, &[base], &[&payload, &hints], &room));
+    each_way(sink, Case::new(BLOCK, &[base], &[&payload, &hints], &room));
 }
 
 /// Bytes at random: all kinds, or those that begin cells and rows.
@@ -247,7 +247,7 @@ fn rooms(sink: &mut dyn Sink, random: &mut Random) {
         for lent in
             [[r, c], [r, most_c], [most_r, c], [r + WORDS_PER_ROW - 1, c + 4 * hints.len() - 1], [r.max(1) - 1, c]]
         {
-            both_ways(sink, Case::new(BLOCK, &[1 << 20], &[&payload, &hints], &lent));
+            each_way(sink, Case::new(BLOCK, &[1 << 20], &[&payload, &hints], &lent));
         }
     }
 }

@@ -1,5 +1,5 @@
 //! Pages for the gap's carver: every short gap, chains by its own rule, every size of page, and pages as they are left
-//! where rows were deleted. What the calls on free blocks are lent is lent to its calls, too. All go both ways of rebuilding.
+//! where rows were deleted. What the calls on free blocks are lent is lent to its calls, too. All go each way of rebuilding.
 
 use super::bytes::{every, width, TELLING};
 use super::chains::{self, full_of_rows, numbered, slice};
@@ -11,13 +11,14 @@ use crate::calls::{GAPS, GAP_PAGE, GAP_SLICE, RECOVER, RECOVER_PAGE, RECOVER_SLI
 use crate::case::Case;
 use crate::random::Random;
 use crate::rules::gap::{rows, Sought};
-use crate::rules::limits::{Limits, EXACT, ONE_BYTE, WORDS_PER_ROW};
+use crate::rules::limits::{Limits, EXACT, NO_GUESSES, ONE_BYTE, WORDS_PER_ROW};
 use crate::runner::Sink;
 
-pub const WAYS: [u64; 2] = [ONE_BYTE, EXACT];
+pub const WAYS: [u64; 3] = [NO_GUESSES, ONE_BYTE, EXACT];
 
-/// Puts a case of a call that rebuilds headers, which comes without a way to do so, once for each.
-pub fn both_ways(sink: &mut dyn Sink, case: Case) {
+/// Puts a case of a call that may rebuild headers, which comes without a way to do so, once for each. Without guesses comes first:
+/// what is left there is held against what is left in the others.
+pub fn each_way(sink: &mut dyn Sink, case: Case) {
     for way in WAYS {
         let numbers = [&[way][..], &case.numbers].concat();
         sink.put(Case { numbers, ..case.clone() });
@@ -40,7 +41,7 @@ impl Sink for AsGaps<'_> {
         let mut case = Case { call, ..case };
         let sheet = case.lists.len() - 2;
         case.lists[sheet..].iter_mut().for_each(|cells| *cells *= MORE);
-        both_ways(self.0, case);
+        each_way(self.0, case);
     }
 }
 
@@ -405,7 +406,7 @@ fn random_page(sink: &mut dyn Sink, random: &mut Random) {
     let rows = if random.once_in(4) { random.below(6) } else { 24 };
     let [r, c] = lists(rows, hints.len());
     let room = [r + random.below(WORDS_PER_ROW), c + random.below(4 * hints.len())];
-    both_ways(sink, Case::new(GAP_SLICE, &[at as u64, base], &[&page, &hints], &room));
+    each_way(sink, Case::new(GAP_SLICE, &[at as u64, base], &[&page, &hints], &room));
 }
 
 /// A page of a database, given both ways; most are of the least size.
@@ -434,14 +435,14 @@ fn rooms(sink: &mut dyn Sink, random: &mut Random) {
         for lent in
             [[r, c], [r, most_c], [most_r, c], [r + WORDS_PER_ROW - 1, c + 4 * hints.len() - 1], [r.max(1) - 1, c]]
         {
-            both_ways(sink, Case::new(GAP_SLICE, &[0, 1 << 20], &[&page, &hints], &lent));
-            both_ways(sink, Case::new(GAP_PAGE, &[512, 2], &[&db, &hints], &lent));
+            each_way(sink, Case::new(GAP_SLICE, &[0, 1 << 20], &[&page, &hints], &lent));
+            each_way(sink, Case::new(GAP_PAGE, &[512, 2], &[&db, &hints], &lent));
         }
     }
 }
 
 /// Leaves of every size, the first page and another, with a row in the gap, in a cell and behind a made-up length.
-fn leaves_of_every_size(sink: &mut dyn Sink) {
+pub fn leaves_of_every_size(sink: &mut dyn Sink) {
     for size in SIZES {
         for leaf in 1..=2 {
             let mut db = Database::new(size, 2);

@@ -2,7 +2,7 @@
 
 use super::bytes::varint;
 use super::databases::Database;
-use super::gaps::{both_ways, AsGaps};
+use super::gaps::{each_way, AsGaps};
 use super::limits::refusals;
 use super::regions::{attempt, lists, scan};
 use super::{chains, tables};
@@ -139,12 +139,12 @@ pub fn gaps(sink: &mut dyn Sink) {
     let bytes = vec![2; LARGEST + 1];
     for hints in [&[][..], &[6], &[0]] {
         for base in [0, 1 << 60] {
-            both_ways(sink, Case::new(BLOCK, &[base], &[&bytes, hints], &[0, 0]));
-            both_ways(sink, Case::new(GAP_SLICE, &[0, base], &[&bytes, hints], &[0, 0]));
+            each_way(sink, Case::new(BLOCK, &[base], &[&bytes, hints], &[0, 0]));
+            each_way(sink, Case::new(GAP_SLICE, &[0, base], &[&bytes, hints], &[0, 0]));
         }
-        both_ways(sink, Case::new(GAP_PAGE, &[0, 0], &[&bytes, hints], &[0, 0]));
+        each_way(sink, Case::new(GAP_PAGE, &[0, 0], &[&bytes, hints], &[0, 0]));
         let lent = Case::new(GAPS, &[0], &[&bytes, hints], &[0, 0, 0, 0]);
-        both_ways(sink, lent.with_words(&[&[1], &[hints.len() as u64]]));
+        each_way(sink, lent.with_words(&[&[1], &[hints.len() as u64]]));
     }
 }
 
@@ -153,7 +153,7 @@ pub fn freed(sink: &mut dyn Sink, length: usize) {
     let mut payload = vec![1; length];
     payload[..5].copy_from_slice(&[3, 7, 2, 15, 9]);
     payload[length - 5..].copy_from_slice(&[3, 8, 2, 15, 9]);
-    both_ways(sink, Case::new(BLOCK, &[1 << 48], &[&payload, &[2]], &lists(8, 1)));
+    each_way(sink, Case::new(BLOCK, &[1 << 48], &[&payload, &[2]], &lists(8, 1)));
 }
 
 /// Blocks in three modes, bytes to learn from and regions to carve, of the largest size and one more.

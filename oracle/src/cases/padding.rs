@@ -3,7 +3,7 @@
 use super::bytes::{telling_numbers, varint, width};
 use super::chains::{numbered, slice};
 use super::databases::{leaf, put, Database};
-use super::gaps::{both_ways, AsGaps};
+use super::gaps::{each_way, AsGaps};
 use super::rebuilding::bare;
 use super::regions::{attempt, lists, scan};
 use super::tables;
@@ -89,7 +89,7 @@ pub fn types(sink: &mut dyn Sink) {
     for widths in all_widths() {
         let types: Vec<(u64, usize)> = TYPES.into_iter().zip(widths).collect();
         let alone = [bare(&types), vec![0, 0]].concat();
-        both_ways(sink, Case::new(BLOCK, &[0], &[&alone, &HINTS], &lists(5, 3)));
+        each_way(sink, Case::new(BLOCK, &[0], &[&alone, &HINTS], &lists(5, 3)));
         modes(sink, &alone);
         modes(sink, &[&[0; 4][..], &alone].concat());
     }
@@ -106,7 +106,7 @@ pub fn cells(sink: &mut dyn Sink) {
     for record in records() {
         for (length, id) in [(1, 1), (2, 1), (1, 2), (9, 9)] {
             let payload = [varint(record.len() as u64, length), varint(7, id), record.clone()].concat();
-            both_ways(sink, Case::new(BLOCK, &[0], &[&payload, &HINTS], &lists(8, 3)));
+            each_way(sink, Case::new(BLOCK, &[0], &[&payload, &HINTS], &lists(8, 3)));
         }
     }
 }
@@ -154,7 +154,7 @@ pub fn learned(sink: &mut dyn Sink) {
 /// As many types of a byte as make a length of one byte or two.
 pub fn made_up(sink: &mut dyn Sink) {
     for columns in [1, 125, 126, 127, 128, 510] {
-        both_ways(sink, Case::new(BLOCK, &[0], &[&vec![8; columns], &vec![0; columns]], &lists(1, columns)));
+        each_way(sink, Case::new(BLOCK, &[0], &[&vec![8; columns], &vec![0; columns]], &lists(1, columns)));
     }
 }
 
@@ -178,7 +178,7 @@ fn random_record(sink: &mut dyn Sink, random: &mut Random) {
     scan(sink, &record, &hints, 3);
     let length = record.len() as u64;
     let cell = [varint(length, 1 + random.below(3)), varint(random.any_width() >> 1, 9), record.clone()].concat();
-    both_ways(sink, Case::new(BLOCK, &[0], &[&cell, &hints], &lists(4, columns)));
+    each_way(sink, Case::new(BLOCK, &[0], &[&cell, &hints], &lists(4, columns)));
     let mut page = vec![0; 12 + record.len()];
     leaf(&mut page, 0, &[record.clone()]);
     slice(sink, &page, 0, &hints, 1);

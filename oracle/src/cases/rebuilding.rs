@@ -5,7 +5,7 @@ use super::blocks::block;
 use super::bytes::{varint, width};
 use super::chains::{numbered, slice};
 use super::databases::Database;
-use super::gaps::{both_ways, AsGaps, WIDE};
+use super::gaps::{each_way, AsGaps, WIDE};
 use super::limits::spread;
 use super::records::{damage, header};
 use super::regions::lists;
@@ -13,7 +13,7 @@ use super::tables;
 use crate::calls::{BLOCK, GAPS, GAP_PAGE, GAP_SLICE};
 use crate::case::Case;
 use crate::random::Random;
-use crate::rules::limits::EXACT;
+use crate::rules::limits::{EXACT, NO_GUESSES};
 use crate::rules::value::body_length;
 use crate::runner::Sink;
 
@@ -33,7 +33,7 @@ pub fn all(sink: &mut dyn Sink, random: &mut Random, count: usize) {
     }
 }
 
-/// Codes that name no way, and both that do, with each refusal that comes before that one and each behind.
+/// Codes that name no way, and all that do, with each refusal that comes before that one and each behind.
 pub fn codes(sink: &mut dyn Sink) {
     let mut db = Database::new(512, 1);
     db.leaf(1, &[vec![2, 8, 2, 9]]);
@@ -148,7 +148,7 @@ pub fn notes(sink: &mut dyn Sink) {
 /// Bytes of types for which the header length takes two.
 pub const TWO_BYTES: [usize; 3] = [127, 128, 510];
 
-/// The longest rows and those of a byte more, with types in so many bytes.
+/// The longest rows and those of a byte more, with types in so many bytes; blocks.rs has those of one byte for each type.
 pub fn long_rows(sink: &mut dyn Sink, types: &[usize]) {
     const LONG: usize = 3;
     for &types in types {
@@ -157,7 +157,9 @@ pub fn long_rows(sink: &mut dyn Sink, types: &[usize]) {
             let text = varint(13 + 2 * (total - types) as u64, LONG);
             let mut payload = [&vec![8; columns - 1][..], &text].concat();
             payload.resize(total, 0x80);
-            sink.put(Case::new(BLOCK, &[EXACT, 0], &[&payload, &vec![2; columns]], &lists(total % 2, columns)));
+            for way in [NO_GUESSES, EXACT] {
+                sink.put(Case::new(BLOCK, &[way, 0], &[&payload, &vec![2; columns]], &lists(total % 2, columns)));
+            }
         }
     }
 }
@@ -176,7 +178,7 @@ pub fn at_cells(sink: &mut dyn Sink) {
     }
 }
 
-/// Counts of columns up to the most of either way and past it, each with a leaf that has a row in its gap, one in a cell, and one
+/// Counts of columns up to the most of each way and past it, each with a leaf that has a row in its gap, one in a cell, and one
 /// whose header length is lost; it is page 2, and page 1 leads to it.
 fn leaves() -> impl Iterator<Item = (Vec<u8>, Database)> {
     const CONTENT: usize = 4096 - 3;
@@ -195,7 +197,7 @@ fn leaves() -> impl Iterator<Item = (Vec<u8>, Database)> {
 }
 
 /// The leaf by itself and by its number.
-fn pages(sink: &mut dyn Sink) {
+pub fn pages(sink: &mut dyn Sink) {
     for (hints, mut db) in leaves() {
         let (page, header) = db.page(2);
         for rows in 0..2 {
@@ -248,5 +250,5 @@ fn random_types(sink: &mut dyn Sink, random: &mut Random) {
     let hints: Vec<u8> = (0..columns).map(|_| random.below(6) as u8).collect();
     let rows = random.below(4);
     let lent = lists(rows, columns);
-    both_ways(sink, Case::new(BLOCK, &[random.any_width() >> 16], &[&payload, &hints], &lent));
+    each_way(sink, Case::new(BLOCK, &[random.any_width() >> 16], &[&payload, &hints], &lent));
 }

@@ -82,7 +82,7 @@ mod tests {
 
     fn search(written: Vec<u64>, lent: usize) -> String {
         let case = Case::new(SEARCH, &[], &[&[], &[]], &[lent]);
-        line("x", &case, &Answer { number: 0, out: vec![written.len() as u64], lists: vec![written] }, true)
+        line("x", &case, &Answer::new(0, vec![written.len() as u64], vec![written]), true)
     }
 
     #[test]
@@ -95,7 +95,7 @@ mod tests {
     #[test]
     fn a_call_without_lists() {
         let case = Case::new(BODY_LENGTH, &[7], &[], &[]);
-        let answer = Answer { number: 0, out: vec![1, 8], lists: Vec::new() };
+        let answer = Answer::new(0, vec![1, 8], Vec::new());
         assert_eq!(line("case 3", &case, &answer, false), "rules case 3: answers 0, out 1 8\n");
     }
 
@@ -118,7 +118,7 @@ mod tests {
     fn rows_and_entries_are_in_groups() {
         let case = Case::new(SCAN, &[0, 0], &[&[], &[2]], &[3 * WORDS_PER_ROW, 8]);
         let rows = (0..18).map(|i| if i == 9 { word_pattern(9) } else { i }).collect();
-        let answer = Answer { number: 9, out: vec![2, 6, 4], lists: vec![rows, vec![0, 15, 2, 1, 0, 15, 5, 1]] };
+        let answer = Answer::new(9, vec![2, 6, 4], vec![rows, vec![0, 15, 2, 1, 0, 15, 5, 1]]);
         let due = "; rows 0 1 2 3 4 5 6 7 8 @10 10 11 12 13 14 15 16 17; entries 0 15 2 1 | 0 15 5 1\n";
         assert_eq!(line("x", &case, &answer, true), format!("Rust  x: answers 9, out 2 6 4{due}"));
         let rows: Vec<u64> = (0..10).collect();
@@ -128,11 +128,11 @@ mod tests {
     #[test]
     fn bytes_and_flags_have_one_pattern() {
         let case = Case::new(LEAVES, &[512, 1], &[&[]], &[2, 1, 1]);
-        let answer = Answer { number: 0, out: vec![0], lists: vec![vec![0, 0], vec![0], vec![]] };
+        let answer = Answer::new(0, vec![0], vec![vec![0, 0], vec![0], vec![]]);
         assert_eq!(line("x", &case, &answer, true), "Rust  x: answers 0, out 0; flags 0 0; stack 0; leaves -\n");
         assert_eq!(shown(Cell::Flag, &[200, 201]), " -");
         let case = Case::new(STATEMENT, &[], &[&[]], &[4]);
-        let answer = Answer { number: 0, out: vec![2], lists: vec![vec![0, 5]] };
+        let answer = Answer::new(0, vec![2], vec![vec![0, 5]]);
         assert_eq!(line("x", &case, &answer, true), "Rust  x: answers 0, out 2; hints 0 5\n");
     }
 

@@ -68,7 +68,7 @@ mod tests {
     fn headings_count_as_places_and_come_with_their_cases() {
         let mut program = Program::default();
         let case = Case::new(BODY_LENGTH, &[7], &[], &[]);
-        let answer = Answer { number: 0, out: vec![1, 8], lists: Vec::new() };
+        let answer = Answer::new(0, vec![1, 8], Vec::new());
         program.head("without cases");
         program.head("lengths");
         program.put("of a real", &case, &answer, true);

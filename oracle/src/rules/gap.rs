@@ -42,7 +42,7 @@ impl Carved {
     }
 }
 
-/// What rows are looked for: those that suit these hints, with headers rebuilt in that way.
+/// What rows are looked for: those that suit these hints, with headers rebuilt in that way, if in any.
 #[derive(Clone, Copy)]
 pub struct Sought<'a> {
     pub hints: &'a [u8],
@@ -103,12 +103,16 @@ pub fn payloads(limits: &Limits, page: &[u8], head: usize) -> Vec<Range<usize>> 
 /// The rows of a block's payload: its cells, then the rebuilt ones that stand where no cell's row does.
 pub fn block_rows(limits: &Limits, payload: &[u8], sought: Sought) -> Vec<Carved> {
     let mut rows = Vec::new();
-    let rebuilt = if sought.rebuilding == EXACT { exact } else { one_byte };
+    let way = sought.rebuilding;
     each_cell(limits, payload, sought.hints, |cell, found| {
+        let found = found.filter(|_| (limits.cells)(way));
         rows.extend(found.map(|found| Carved { at: cell.start, origin: Origin::Cell(cell.id), found }));
     });
     let cells: HashSet<usize> = rows.iter().map(|row| row.at).collect();
-    for at in (0..payload.len()).filter(|at| !cells.contains(at)) {
+    // Where no header is made up, no start has a row.
+    let starts = if (limits.guesses)(way) { 0..payload.len() } else { 0..0 };
+    let rebuilt = if way == EXACT { exact } else { one_byte };
+    for at in starts.filter(|at| !cells.contains(at)) {
         let Some(mut found) = rebuilt(limits, &payload[at..], sought.hints) else {
             continue;
         };

@@ -5,8 +5,11 @@ use crate::rules::varint::written;
 #[derive(Clone, Debug)]
 pub struct Limits {
     pub columns: usize,
-    /// The most columns where a header length of one byte is made up.
-    pub one_byte_columns: usize,
+    /// The ways of rebuilding headers: the code of each, and the most columns that it takes.
+    pub ways: &'static [(u64, usize)],
+    /// Whether headers are made up in a way, and whether cells have rows in it.
+    pub guesses: fn(u64) -> bool,
+    pub cells: fn(u64) -> bool,
     pub hint: u8,
     pub region: usize,
     pub base: u64,
@@ -82,7 +85,8 @@ pub struct Marks {
     pub made_up: bool,
 }
 
-/// The codes of the ways in which headers are rebuilt.
+/// The codes of the ways in which headers are rebuilt; in the first none is.
+pub const NO_GUESSES: u64 = 0;
 pub const ONE_BYTE: u64 = 1;
 pub const EXACT: u64 = 2;
 
@@ -95,7 +99,9 @@ impl Limits {
     pub fn of_the_rules() -> Limits {
         Limits {
             columns: 510,
-            one_byte_columns: 126,
+            ways: &[(NO_GUESSES, 510), (ONE_BYTE, 126), (EXACT, 510)],
+            guesses: |code| code != NO_GUESSES,
+            cells: |_| true,
             hint: 5,
             region: 16_777_216,
             base: 1 << 48,
@@ -156,14 +162,25 @@ impl Limits {
 
     /// The same in a call that may rebuild headers.
     pub fn bad_table(&self, columns: u64, rebuilding: Option<u64>) -> bool {
-        self.bad_count(columns) || rebuilding == Some(ONE_BYTE) && columns > self.one_byte_columns as u64
+        let most = rebuilding.and_then(|code| self.most_columns(code));
+        self.bad_count(columns) || most.is_some_and(|most| columns > most as u64)
+    }
+
+    /// Whether headers are to be rebuilt in a way that there is not.
+    pub fn unknown(&self, rebuilding: Option<u64>) -> bool {
+        rebuilding.is_some_and(|code| self.most_columns(code).is_none())
+    }
+
+    /// The most columns of the way that a code names, if it names one.
+    fn most_columns(&self, code: u64) -> Option<usize> {
+        self.ways.iter().find(|way| way.0 == code).map(|way| way.1)
     }
 
     /// The first refusal of a call over one region and one table, which may rebuild headers.
     pub fn region_refusal(&self, region: &[u8], hints: &[u8], base: u64, rebuilding: Option<u64>) -> Option<u64> {
         first(&[
             (1, self.bad_table(hints.len() as u64, rebuilding)),
-            (2, unknown(rebuilding) || hints.iter().any(|&h| h > self.hint)),
+            (2, self.unknown(rebuilding) || hints.iter().any(|&h| h > self.hint)),
             (3, region.len() > self.region),
             (4, base > self.base),
         ])
@@ -173,11 +190,6 @@ impl Limits {
     pub fn page_size(&self, size: u64) -> bool {
         size.is_power_of_two() && (self.least_page..=self.most_page).contains(&size)
     }
-}
-
-/// Whether headers are to be rebuilt in a way that there is not.
-pub fn unknown(rebuilding: Option<u64>) -> bool {
-    rebuilding.is_some_and(|code| ![ONE_BYTE, EXACT].contains(&code))
 }
 
 /// The number of the first test that holds.

@@ -3,11 +3,12 @@
 use super::Change;
 use crate::calls::{BLOCK, GAPS};
 use crate::cases::rebuilding::{columns, long_rows, notes, type_bytes, walks, TWO_BYTES};
+use crate::rules::limits::{EXACT, NO_GUESSES, ONE_BYTE};
 
 pub const CHANGES: &[Change] = &[
     Change {
         what: "126 columns are too many for a made-up byte",
-        change: |l| l.one_byte_columns = 125,
+        change: |l| l.ways = &[(NO_GUESSES, 510), (ONE_BYTE, 125), (EXACT, 510)],
         call: BLOCK,
         cases: |sink, _, _| columns(sink),
         in_the_rust: false,
@@ -15,7 +16,7 @@ pub const CHANGES: &[Change] = &[
     },
     Change {
         what: "127 columns are not too many for a made-up byte",
-        change: |l| l.one_byte_columns = 127,
+        change: |l| l.ways = &[(NO_GUESSES, 510), (ONE_BYTE, 127), (EXACT, 510)],
         call: BLOCK,
         cases: |sink, _, _| columns(sink),
         in_the_rust: true,
@@ -23,7 +24,7 @@ pub const CHANGES: &[Change] = &[
     },
     Change {
         what: "a walk over a table of 126 columns is refused where a byte is made up",
-        change: |l| l.one_byte_columns = 125,
+        change: |l| l.ways = &[(NO_GUESSES, 510), (ONE_BYTE, 125), (EXACT, 510)],
         call: GAPS,
         cases: |sink, _, _| walks(sink),
         in_the_rust: false,

@@ -9,10 +9,11 @@ use crate::calls::{
 };
 use crate::case::{Answer, Case};
 use crate::cases::databases::LEAF;
+use crate::cases::gaps::WAYS;
 use crate::cases::regions::lists;
 use crate::random::Random;
 use crate::rules::attempt::attempt;
-use crate::rules::limits::{Limits, EXACT, ONE_BYTE, WORDS_PER_ENTRY, WORDS_PER_ROW};
+use crate::rules::limits::{Limits, EXACT, NO_GUESSES, ONE_BYTE, WORDS_PER_ENTRY, WORDS_PER_ROW};
 use crate::rules::page::{chain, number};
 use crate::runner::{Runner, Sink};
 
@@ -41,6 +42,7 @@ impl File<'_> {
 pub fn rows(runner: &mut Runner, lent: &Lent, file: &File, way: Way) -> Option<Vec<Row>> {
     let carver = match way {
         Way::Freed => FREED_BLOCKS,
+        Way::NoGuesses => Carver { way: Some(NO_GUESSES), ..ONE_BYTE_GAPS },
         Way::OneByte => ONE_BYTE_GAPS,
         Way::Exact => Carver { way: Some(EXACT), ..ONE_BYTE_GAPS },
         Way::Scan => return scanned(runner, lent, file),
@@ -198,7 +200,7 @@ fn modes(runner: &mut Runner, lent: &Lent, file: &File) -> Option<Vec<Row>> {
             let (at, bytes) = (page.at + block.start, &page.bytes[block.start..][..block.size]);
             let case = Case::new(MODES, &[at as u64, width as u64], &[bytes], &[0, 0]);
             rows.extend(carved(runner, lent, case, width, at)?);
-            for way in [ONE_BYTE, EXACT] {
+            for way in WAYS {
                 let case = Case::new(BLOCK, &[way, at as u64 + 4], &[&bytes[4..], &lent.hints], &[0, 0]);
                 let (case, _) = fitted(runner, case, width);
                 put_damaged(runner, &case, at as u64);

@@ -1,7 +1,7 @@
 //! The tables of docs/BENCH.md, as they stand there.
 
 use super::rows::{Back, Counts};
-use super::{List, Measured, Of, Way};
+use super::{List, Measured, Of, Way, OF_FREE_SPACE};
 
 const PAGES: [usize; 4] = [512, 1024, 4096, 65_536];
 /// Of the wide tables.
@@ -30,7 +30,7 @@ struct Table {
 const KEPT: Table =
     Table { title: "", way: Way::Exact, sizes: &[100, 1000], lists: EVERY, deletions: SOME, chosen: |back| back.kept };
 
-const TABLES: [Table; 10] = [
+const TABLES: [Table; 11] = [
     Table {
         title: "All that comes back, without pieces",
         way: Way::Together,
@@ -47,6 +47,7 @@ const TABLES: [Table; 10] = [
         lists: &[List::All, List::NullForKey, List::BehindKey],
         ..KEPT
     },
+    Table { title: "In free space, without guesses", way: Way::NoGuesses, lists: BEST, ..KEPT },
     Table { title: "In freed blocks", way: Way::Freed, lists: WHOLE, ..KEPT },
     Table { title: "At every offset", way: Way::Offsets, lists: WHOLE, deletions: EACH, ..KEPT },
     Table { title: "By the scan", way: Way::Scan, sizes: &[1000], lists: WHOLE, deletions: EACH, ..KEPT },
@@ -86,7 +87,7 @@ fn print_behind_the_key(measured: &Measured) {
 
 /// How many deleted rows are found and not kept, and how many are kept and left out as pieces.
 fn print_losses(measured: &Measured) {
-    for way in [Way::Freed, Way::OneByte, Way::Exact, Way::Gap, Way::Scan, Way::Offsets, Way::Together] {
+    for way in OF_FREE_SPACE.into_iter().chain([Way::Scan, Way::Offsets, Way::Together]) {
         let (mut kept, mut apart) = (0, 0);
         for (_, back) in measured.back.iter().filter(|(of, _)| of.way == way && !of.kind.contains("whole")) {
             kept += back.all.map_or(0, |all| all.deleted - back.kept.deleted);
@@ -135,7 +136,12 @@ fn print_values(measured: &Measured) {
 
 fn print_logs(measured: &Measured) {
     head("With the log kept", &["Hints", "File", "By"]);
-    let ways = [(Way::Scan, "the scan"), (Way::Offsets, "every offset"), (Way::Exact, "free space, exact")];
+    let ways = [
+        (Way::Scan, "the scan"),
+        (Way::Offsets, "every offset"),
+        (Way::NoGuesses, "free space, no guesses"),
+        (Way::Exact, "free space, exact"),
+    ];
     for list in WHOLE {
         for (file, end) in [("the database", ""), ("the log", "-frames")] {
             for (way, by) in ways {
@@ -149,13 +155,14 @@ fn print_logs(measured: &Measured) {
 
 fn print_wide(measured: &Measured) {
     println!("\nWide tables\n");
-    println!("| Columns | Notes | Page size | The scan | Every offset | Freed blocks | Free space, exact | Learned |");
-    println!("|{}", "---|".repeat(8));
+    let by = "The scan | Every offset | Freed blocks | Free space, no guesses | Free space, exact | Learned";
+    println!("| Columns | Notes | Page size | {by} |");
+    println!("|{}", "---|".repeat(9));
     for columns in [150, 500] {
         for note in &NOTES[..2] {
             for page in LARGE_PAGES {
                 let kind = format!("wide{columns}-1000-{note}-some");
-                let ways = [Way::Scan, Way::Offsets, Way::Freed, Way::Exact, Way::Learned];
+                let ways = [Way::Scan, Way::Offsets, Way::Freed, Way::NoGuesses, Way::Exact, Way::Learned];
                 let cells = ways.map(|way| cell(measured, &kind, List::All, way, page, |back| back.kept));
                 line(&[columns.to_string(), note.to_string(), page.to_string()], &cells);
             }
@@ -172,6 +179,7 @@ fn print_padded(measured: &Measured) {
         (Way::Scan, "the scan"),
         (Way::Offsets, "every offset"),
         (Way::Freed, "freed blocks"),
+        (Way::NoGuesses, "free space, no guesses"),
         (Way::OneByte, "free space, one byte"),
         (Way::Exact, "free space, exact"),
         (Way::Modes, "three modes"),

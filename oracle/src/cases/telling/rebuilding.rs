@@ -1,11 +1,11 @@
-//! Headers rebuilt exactly: where the bodies start, types up to the most bytes and past them, columns up to the most of either
+//! Headers rebuilt exactly: where the bodies start, types up to the most bytes and past them, columns up to the most of each
 //! way, codes that name none, and a cell's place.
 
 use crate::calls::{BLOCK, GAPS, GAP_PAGE, GAP_SLICE};
 use crate::case::Case;
 use crate::cases::blocks::block;
 use crate::cases::databases::leaf;
-use crate::cases::gaps::both_ways;
+use crate::cases::gaps::each_way;
 use crate::cases::limits::spread;
 use crate::cases::rebuilding::bare;
 use crate::cases::records::header;
@@ -42,7 +42,7 @@ fn wide_types(sink: &mut dyn Sink) {
     }
 }
 
-/// Notes of as many bytes as a type of one byte takes, and of one more, first, in the middle and last, both ways.
+/// Notes of as many bytes as a type of one byte takes, and of one more, first, in the middle and last, each way.
 fn notes(sink: &mut dyn Sink) {
     for (note, wide) in [(57, 1), (58, 2)] {
         let text = (13 + 2 * note, wide);
@@ -69,13 +69,13 @@ fn type_bytes(sink: &mut dyn Sink) {
     }
 }
 
-/// As many columns as either way takes, and one more.
+/// As many columns as each way takes, and one more.
 fn columns(sink: &mut dyn Sink) {
     for columns in [126, 127, 511] {
         let hints = vec![0; columns];
         block(sink, &vec![8; columns], &hints, usize::from(columns < 511));
         let walk = Case::new(GAPS, &[512], &[&[], &hints], &[0, 1, 0, 0]);
-        both_ways(sink, walk.with_words(&[&[1], &[columns as u64]]));
+        each_way(sink, walk.with_words(&[&[1], &[columns as u64]]));
     }
 }
 
@@ -84,7 +84,7 @@ fn codes(sink: &mut dyn Sink) {
     let mut page = vec![0; 512];
     leaf(&mut page, 0, &[vec![2, 8, 2, 9]]);
     let room = lists(1, 1);
-    for code in [0, 3, (1 << 32) + 2, 1 << 63] {
+    for code in [3, (1 << 32) + 2, 1 << 63, u64::MAX] {
         for (columns, base, size) in [(1, 0, 512), (0, 0, 512), (127, 1 << 60, 0), (511, 0, 0)] {
             let hints = vec![0; columns];
             sink.put(Case::new(BLOCK, &[code, base], &[&[2, 8, 2, 9], &hints], &room));
@@ -94,17 +94,17 @@ fn codes(sink: &mut dyn Sink) {
     }
 }
 
-/// Where a cell is a row, no rebuilt one stands at its record; where it is none, one may.
+/// Where a cell is a row, no rebuilt one stands at its record; where it is none, one may. Each way.
 fn at_cells(sink: &mut dyn Sink) {
     for types in [[(8, 1), (9, 1)], [(8, 2), (9, 1)], [(8, 1), (9, 2)]] {
         let record = header(&types, 1);
         for length in [record.len() - 1, record.len()] {
-            exact(sink, &[&[length as u8, 7][..], &record, &[8, 8]].concat(), &[0, 5], 8);
+            block(sink, &[&[length as u8, 7][..], &record, &[8, 8]].concat(), &[0, 5], 8);
         }
     }
 }
 
-/// A gap with a whole row, and a block with one whose header length is lost, on a slice and by number, both ways.
+/// A gap with a whole row, and a block with one whose header length is lost, on a slice and by number, each way.
 fn pages(sink: &mut dyn Sink) {
     for types in [&[(1, 1), (15, 2)][..], &[(8, 1); 127]] {
         let mut page = vec![0; 512];
@@ -117,7 +117,7 @@ fn pages(sink: &mut dyn Sink) {
         page[4] = 80;
         let hints = vec![0; types.len()];
         let room = lists(3, types.len());
-        both_ways(sink, Case::new(GAP_SLICE, &[0, 1000], &[&page, &hints], &room));
-        both_ways(sink, Case::new(GAP_PAGE, &[512, 2], &[&page.repeat(2), &hints], &room));
+        each_way(sink, Case::new(GAP_SLICE, &[0, 1000], &[&page, &hints], &room));
+        each_way(sink, Case::new(GAP_PAGE, &[512, 2], &[&page.repeat(2), &hints], &room));
     }
 }

@@ -7,7 +7,7 @@ use crate::case::Case;
 use crate::rules::limits::{WORDS_PER_ENTRY, WORDS_PER_ROW};
 
 /// The ways in which headers are rebuilt, by their codes.
-pub use crate::rules::limits::{EXACT, ONE_BYTE};
+pub use crate::rules::limits::{EXACT, NO_GUESSES, ONE_BYTE};
 
 /// The hint codes.
 pub const INTEGER: u8 = 0;

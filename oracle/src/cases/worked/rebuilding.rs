@@ -1,12 +1,15 @@
-//! Section 11, 11.6 to 11.10: rebuilt headers, and the rows of a page.
+//! Section 11, 11.6 to 11.13: rebuilt headers, and the rows of a page.
 
 use super::making::*;
 use super::tablet::{one_leaf, tablet, SIZE};
 use super::Worked;
+use crate::cases::{bytes, records};
 use crate::rules::limits::WORDS_PER_ROW;
 
+const MODES: [(&str, u64); 3] = [("no guesses", NO_GUESSES), ("one-byte", ONE_BYTE), ("exact", EXACT)];
+
 pub fn all() -> Vec<Worked> {
-    [one_byte(), pages(), exact(), padded(), long_rows(), counts(), codes()].into_iter().flatten().collect()
+    [one_byte(), pages(), exact(), padded(), long_rows(), counts(), codes(), guesses()].into_iter().flatten().collect()
 }
 
 fn one_byte() -> Vec<Worked> {
@@ -25,7 +28,7 @@ fn one_byte() -> Vec<Worked> {
 const GAP_AND_CELL: &str = "0d 000c 0000 000c 00 0208 0000 0000 0008 02 07 0208";
 
 /// The second page of a database.
-fn second(page: &str) -> Vec<u8> {
+fn second(page: impl Lent) -> Vec<u8> {
     let page = page.lent();
     joined(&[&times(0, 512), &page, &times(0, 512 - page.len())])
 }
@@ -61,7 +64,7 @@ fn padded() -> Vec<Worked> {
     let table = tables(&[1], &[2], "0002");
     let space = Space { flags: 1, stack: 1, rows: 1 };
     let mut all = vec![heading("11.9, 11.6, 11.10 A type padded to two bytes, by the number of the mode")];
-    for (mode, code) in [("one-byte", ONE_BYTE), ("exact", EXACT), ("code 3", 3)] {
+    for (mode, code) in MODES.into_iter().chain([("code 3", 3)]) {
         let db = one_leaf(PADDED);
         all.push(gap_slice(format!("a slice, {mode}"), code, &db, [100, 0], "0002", 1));
         all.push(gap_page(format!("page 1, {mode}"), code, &db, [SIZE, 1], "0002", 1));
@@ -97,9 +100,19 @@ fn nulls(name: &str, code: u64, columns: usize) -> Worked {
     with_lists(block(name, code, times(0, columns), 0, times(ANY, columns), 1), &[WORDS_PER_ROW, 2044])
 }
 
+/// A cell with the row id 7 and so many columns, each the integer 0.
+fn cell(name: &str, columns: usize) -> Worked {
+    let record = records::header(&vec![(8, 1); columns], 1);
+    let cell = joined(&[&bytes::varint(record.len() as u64, 2), &"07", &record]);
+    with_lists(block(name, NO_GUESSES, cell, 0, times(INTEGER, columns), 1), &[WORDS_PER_ROW, 2044])
+}
+
 fn counts() -> Vec<Worked> {
     vec![
-        heading("11.10 Counts of columns in both modes"),
+        heading("11.10 Counts of columns by the mode"),
+        cell("127 columns, no guesses", 127),
+        cell("510 columns, no guesses", 510),
+        cell("511 columns, no guesses", 511),
         nulls("126 columns, one-byte", ONE_BYTE, 126),
         nulls("127 columns, one-byte", ONE_BYTE, 127),
         nulls("126 columns, exact", EXACT, 126),
@@ -114,13 +127,31 @@ fn codes() -> Vec<Worked> {
     let lent = |name: &str, code| free_space(name, code, tablet(), SIZE, &wide, Space { flags: 6, stack: 7, rows: 2 });
     vec![
         heading("11.10 Numbers that name no mode"),
-        nulls("code 0, 510 columns", 0, 510),
         nulls("code 3, 1 column", 3, 1),
+        nulls("code 2^64 - 1, 1 column", u64::MAX, 1),
         nulls("code 3, no column", 3, 0),
         nulls("code 3, 511 columns", 3, 511),
         heading("11.10 A table of 3 columns and one of 127, of the tablet's page 6"),
+        lent("no guesses", NO_GUESSES),
         lent("one-byte", ONE_BYTE),
         lent("exact", EXACT),
         lent("code 3", 3),
     ]
+}
+
+/// A cell with the row id 7, and behind it the type of a text of one byte, padded to two bytes, and its body.
+const CELL_AND_TYPE: &str = "03 07 020f61 800f62";
+
+fn guesses() -> Vec<Worked> {
+    let page = joined(&[&"0d 000c 0000 000c 00 020d 0000 0000 000c", &CELL_AND_TYPE]);
+    let db = second(&page);
+    let (table, space) = (tables(&[2], &[1], "02"), Space { flags: 2, stack: 1, rows: 6 });
+    let mut all =
+        vec![heading("11.13 With guesses and without: a cell, a type behind it, and a row in the gap of their page")];
+    all.extend(MODES.map(|(mode, code)| block(format!("the payload, {mode}"), code, CELL_AND_TYPE, 0, "02", 5)));
+    all.extend(MODES.map(|(mode, code)| gap_slice(format!("a slice, {mode}"), code, &page, [0, 0], "02", 6)));
+    all.extend(MODES.map(|(mode, code)| gap_page(format!("page 2, {mode}"), code, &db, [SIZE, 2], "02", 6)));
+    let walk = |(mode, code)| free_space(format!("the table of root 2, {mode}"), code, &db, SIZE, &table, space);
+    all.extend(MODES.map(walk));
+    all
 }

@@ -60,8 +60,9 @@ fn free() -> Vec<Worked> {
         free_space(name, code, tablet(), SIZE, &of_the_tablet(), Space { flags: 6, stack, rows })
     };
     vec![
-        heading("9.13, 9.14, 11.1 to 11.9 Free space of the same: the gap of page 3 has two rows, and each of its blocks a cell; \
+        heading("9.13, 9.14, 11.1 to 11.10 Free space of the same: the gap of page 3 has two rows, and each of its blocks a cell; \
              the first blocks of pages 4, 5 and 6 have a cell each"),
+        lent("no guesses, room for 20", NO_GUESSES, 7, 20),
         lent("room for 20", ONE_BYTE, 7, 20),
         lent("room for 1", ONE_BYTE, 7, 1),
         lent("room for 6", ONE_BYTE, 7, 6),

@@ -1,5 +1,5 @@
 // Rows in the free space of pages: of tables, of a page by its number, of a page slice, and of the payload of one freed block. Each takes
-// the code of the way in which lost headers are rebuilt.
+// the code of the way in which headers are rebuilt; 0 is in none.
 use carving::gaps::parse_cells_from_freeblock;
 use carving::gaps::scan_page_gap;
 use carving::gaps::scan_single_page_gap;

@@ -10,7 +10,7 @@ use Rattle.rebuild.specs.declared.rebuilding.Rebuilding.the-variants.{No
 use Rattle.sheet.specs.Refusal.{refusalNumber}
 use Rattle.sheet.specs.declared.refusal.Refusal.the-variants.{ColumnCount, Malformed}
 
--- Rule 11.13: a zero that nobody set brings no guesses
+-- Rule 11.10: so that a zero that nobody set brings no guesses
 abbrev pub named : ℕ → Way
 named code = cond (eqb code 0) (By NoGuesses) (cond (eqb code 1) (By OneByte) (cond (eqb code 2) (By Exact) Unnamed))
 

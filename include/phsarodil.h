@@ -124,9 +124,9 @@ enum phs_hint {
  *         does that the library is held against. More than PHS_MOST_ONE_BYTE_COLUMNS columns are refused.
  *     PHS_EXACT: as many types as there are columns, of one to nine bytes each, and the bodies stand behind the last of them.
  *         There is no row where the types take more than 510 bytes.
- * Rows deleted between others mostly come back as guesses alone, and most guesses are none (docs/BENCH.md). It is proved
- * (docs/RULES.md, 11.13) that with room for either list that of PHS_NO_GUESSES is that of each other code without its guesses, in
- * the same order. The words of a row do not say that it is a guess: in what phs_parse_cells_from_freeblock lists it is one if it
+ * What these calls bring back of rows deleted between others are mostly guesses, and most guesses are none (docs/BENCH.md). It
+ * is proved (docs/RULES.md, 11.13) that with room for either list that of PHS_NO_GUESSES is that of each other code without its
+ * guesses, in the same order. The words of a row do not say that it is a guess: in what phs_parse_cells_from_freeblock lists it is one if it
  * has no row id, in other lists if that of PHS_NO_GUESSES lacks it.
  * Whoever wants guesses lends PHS_EXACT, unless the rows are to be those of the Rust: from 58 bytes of text or blob on a type takes
  * two bytes, so a note that long needs it, and so does a table of more columns. At a byte from which on all types take one byte

@@ -10,8 +10,9 @@
 //! page does. Both list rows that are none. The example `carve` keeps those with a confidence of at least 0.85 that are not all NULL
 //! and stand where a cell can.
 //!
-//! In freed blocks all but whole cells comes back as guesses, rows whose header length is made up ([`Rebuilding`]). Calls on one page, such
-//! as [`scan_page_gap`], leave guesses out unless [`PageGap::rebuilding`] asks for them; walks, such as [`scan_page_gaps`], make them.
+//! The calls on free space find whole cells in freed blocks, and all else there as guesses, rows whose header length is made up
+//! ([`Rebuilding`]). Those on one page, such as [`scan_page_gap`], leave guesses out unless [`PageGap::rebuilding`] asks for them; walks,
+//! such as [`scan_page_gaps`], make them.
 //!
 //! ```
 //! use phsarodil::{scan, Hint, Value};

@@ -40,12 +40,12 @@ module _ (k : Lfts 4) where
   slice-outcome x s = rowOutcome x (now (s .1 .1 .1 .1 .1 .0)) (now (s .1 .1 .1 .1 .1 .1 .0))
 
   -- THE LAW
-  pub slice-unguessed : (a b : Dens k slice-kinds.ps) → slice-question k b ≡ slicedBy (Gaps NoGuesses) (slice-question k a)
+  pub slice-plain : (a b : Dens k slice-kinds.ps) → slice-question k b ≡ slicedBy (Gaps NoGuesses) (slice-question k a)
       → (x y : resT slice-kinds.r k .Denot) (s t : AtExit (endedOf 4 slice-kinds.ps slice-kinds.r) k)
       → scan-single-page-gap.Post k a x s → scan-single-page-gap.Post k b y t → filledNumber x ≡ 0 →
       let q = slice-question k a in
       Unguessed (allRows (length (q .hints)) (q .rows) (q .cols)) (pageParts (a .0) (q .page) (q .head) (q .hints) (sliceSpot (q .base))) (slice-outcome x s) (slice-outcome y t)
-  slice-unguessed a b e x y s t p r through =
+  slice-plain a b e x y s t p r through =
       let q = slice-question k a in
       rows-unguessed (page-both (a .0) (q .page) (q .head) (q .base) (q .hints) (q .rows) (q .cols) (sym (p .number) ∙ through)) p (subst (λ (c : SliceAsked). FillsRows (sliceFilling c) (slice-outcome y t)) e r)
 
@@ -57,12 +57,12 @@ module _ (k : Lfts 4) where
   payload-outcome x s = rowOutcome x (now (s .1 .1 .1 .1 .0)) (now (s .1 .1 .1 .1 .1 .0))
 
   -- THE LAW
-  pub payload-unguessed : (a b : Dens k payload-kinds.ps) → payload-question b ≡ slicedBy (Payload NoGuesses) (payload-question a)
+  pub payload-plain : (a b : Dens k payload-kinds.ps) → payload-question b ≡ slicedBy (Payload NoGuesses) (payload-question a)
       → (x y : resT payload-kinds.r k .Denot) (s t : AtExit (endedOf 4 payload-kinds.ps payload-kinds.r) k)
       → parse-cells-from-freeblock.Post k a x s → parse-cells-from-freeblock.Post k b y t → filledNumber x ≡ 0 →
       let q = payload-question a in
       Unguessed (allRows (length (q .hints)) (q .rows) (q .cols)) (payloadParts (a .0) (sliceSpot (q .base)) 0 (q .page) (q .hints)) (payload-outcome x s) (payload-outcome y t)
-  payload-unguessed a b e x y s t p r through =
+  payload-plain a b e x y s t p r through =
       let q = payload-question a in
       rows-unguessed (payload-both (a .0) (q .page) 0 (q .base) (q .hints) (q .rows) (q .cols) (sym (p .number) ∙ through)) p (subst (λ (c : SliceAsked). FillsRows (sliceFilling c) (payload-outcome y t)) e r)
 
@@ -71,12 +71,12 @@ module _ (k : Lfts 4) where
   page-outcome x s = rowOutcome x (now (s .1 .1 .1 .1 .1 .0)) (now (s .1 .1 .1 .1 .1 .1 .0))
 
   -- THE LAW
-  pub page-unguessed : (a b : Dens k page-kinds.ps) → page-question k b ≡ numberedBy (Gaps NoGuesses) (page-question k a)
+  pub page-plain : (a b : Dens k page-kinds.ps) → page-question k b ≡ numberedBy (Gaps NoGuesses) (page-question k a)
       → (x y : resT page-kinds.r k .Denot) (s t : AtExit (endedOf 4 page-kinds.ps page-kinds.r) k)
       → scan-page-gap.Post k a x s → scan-page-gap.Post k b y t → filledNumber x ≡ 0 →
       let q = page-question k a in
       Unguessed (allRows (length (q .hints)) (q .rows) (q .cols)) (leafParts (a .0) (q .db) (q .size) 0 (q .hints) (q .page)) (page-outcome x s) (page-outcome y t)
-  page-unguessed a b e x y s t p r through =
+  page-plain a b e x y s t p r through =
       let q = page-question k a in
       rows-unguessed (numbered-both (a .0) (q .db) (q .size) (q .page) (q .hints) (q .rows) (q .cols) (sym (p .number) ∙ through)) p (subst (λ (c : NumberedAsked). FillsRows (numberedFilling c) (page-outcome y t)) e r)
 
@@ -92,10 +92,10 @@ module _ (k : Lfts 8) where
       onTables x (now (s .1 .1 .1 .1 .1 .1 .0)) (now (s .1 .1 .1 .1 .1 .1 .1 .0)) (now (s .1 .1 .1 .1 .1 .1 .1 .1 .0)) (now (s .1 .1 .1 .1 .1 .1 .1 .1 .1 .0))
 
   -- THE LAW
-  pub tables-unguessed : (a b : Dens k tables-kinds.ps) → tables-question b ≡ tabledBy (Gaps NoGuesses) (tables-question a)
+  pub tables-plain : (a b : Dens k tables-kinds.ps) → tables-question b ≡ tabledBy (Gaps NoGuesses) (tables-question a)
       → (x y : resT tables-kinds.r k .Denot) (s t : AtExit (endedOf 8 tables-kinds.ps tables-kinds.r) k)
       → scan-page-gaps.Post k a x s → scan-page-gaps.Post k b y t → walkedNumber x ≡ 0 →
       let q = tables-question a in Unguessed (allTabled q) (tabledParts (a .0) q) (tables-outcome x s) (tables-outcome y t)
-  tables-unguessed a b e x y s t p r through =
+  tables-plain a b e x y s t p r through =
       let w = tabled-both (a .0) (tables-question a) (sym (p .number) ∙ through) in
       record { guessing-is = tables-fixed _ _ _ p (w .0); plain-is = tables-fixed _ _ _ (subst (λ (c : Asked). TablesPromises c (tables-outcome y t)) e r) (w .1) }

@@ -52,13 +52,13 @@ module _ (k : Lfts 5) (how : Rebuilding) where
   slice-return x s = rowReturn x (now (s .1 .1 .1 .1 .1 .1 .1 .0)) (now (s .1 .1 .1 .1 .1 .0)) (now (s .1 .1 .1 .1 .1 .1 .0))
 
   -- THE LAW
-  pub slice-unguessed : (a b : Dens k slice-kinds.ps) → named (a .0) ≡ By how → b .0 ≡ 0 → slice-question k NoGuesses b ≡ slicedBy (Gaps NoGuesses) (slice-question k how a)
+  pub slice-plain : (a b : Dens k slice-kinds.ps) → named (a .0) ≡ By how → b .0 ≡ 0 → slice-question k NoGuesses b ≡ slicedBy (Gaps NoGuesses) (slice-question k how a)
       → (x y : resT slice-kinds.r k .Denot) (s t : AtExit (endedOf 5 slice-kinds.ps slice-kinds.r) k)
       → phs-scan-single-page-gap.Post k a x s → phs-scan-single-page-gap.Post k b y t → slice-return x s .number ≡ 0 →
       let q = slice-question k how a in
       Unguessed (λ hits. rowReturnOf (allRows (length (q .hints)) (q .rows) (q .cols) hits)) (pageParts how (q .page) (q .head) (q .hints) (sliceSpot (q .base)))
       (slice-return x s) (slice-return y t)
-  slice-unguessed a b n z e x y s t p r through =
+  slice-plain a b n z e x y s t p r through =
       let q = slice-question k how a in
       let plain : slice-return y t ≡ filledRows (sliceFilling (slice-question k NoGuesses b)) = rw (zero-named (b .0) z) at r in
       rows-unguessed _ _ _ (page-both how (q .page) (q .head) (q .base) (q .hints) (q .rows) (q .cols)) (slice-return x s) (slice-return y t) (rw n at p) (subst (λ (c : SliceAsked). slice-return y t ≡ filledRows (sliceFilling c)) e plain) through
@@ -71,13 +71,13 @@ module _ (k : Lfts 5) (how : Rebuilding) where
   payload-return x s = rowReturn x (now (s .1 .1 .1 .1 .1 .1 .0)) (now (s .1 .1 .1 .1 .0)) (now (s .1 .1 .1 .1 .1 .0))
 
   -- THE LAW
-  pub payload-unguessed : (a b : Dens k payload-kinds.ps) → named (a .0) ≡ By how → b .0 ≡ 0 → payload-question NoGuesses b ≡ slicedBy (Payload NoGuesses) (payload-question how a)
+  pub payload-plain : (a b : Dens k payload-kinds.ps) → named (a .0) ≡ By how → b .0 ≡ 0 → payload-question NoGuesses b ≡ slicedBy (Payload NoGuesses) (payload-question how a)
       → (x y : resT payload-kinds.r k .Denot) (s t : AtExit (endedOf 5 payload-kinds.ps payload-kinds.r) k)
       → phs-parse-cells-from-freeblock.Post k a x s → phs-parse-cells-from-freeblock.Post k b y t → payload-return x s .number ≡ 0 →
       let q = payload-question how a in
       Unguessed (λ hits. rowReturnOf (allRows (length (q .hints)) (q .rows) (q .cols) hits)) (payloadParts how (sliceSpot (q .base)) 0 (q .page) (q .hints))
       (payload-return x s) (payload-return y t)
-  payload-unguessed a b n z e x y s t p r through =
+  payload-plain a b n z e x y s t p r through =
       let q = payload-question how a in
       let plain : payload-return y t ≡ filledRows (sliceFilling (payload-question NoGuesses b)) = rw (zero-named (b .0) z) at r in
       rows-unguessed _ _ _ (payload-both how (q .page) 0 (q .base) (q .hints) (q .rows) (q .cols)) (payload-return x s) (payload-return y t) (rw n at p) (subst (λ (c : SliceAsked). payload-return y t ≡ filledRows (sliceFilling c)) e plain) through
@@ -87,13 +87,13 @@ module _ (k : Lfts 5) (how : Rebuilding) where
   page-return x s = rowReturn x (now (s .1 .1 .1 .1 .1 .1 .1 .0)) (now (s .1 .1 .1 .1 .1 .0)) (now (s .1 .1 .1 .1 .1 .1 .0))
 
   -- THE LAW
-  pub page-unguessed : (a b : Dens k page-kinds.ps) → named (a .0) ≡ By how → b .0 ≡ 0 → page-question k NoGuesses b ≡ numberedBy (Gaps NoGuesses) (page-question k how a)
+  pub page-plain : (a b : Dens k page-kinds.ps) → named (a .0) ≡ By how → b .0 ≡ 0 → page-question k NoGuesses b ≡ numberedBy (Gaps NoGuesses) (page-question k how a)
       → (x y : resT page-kinds.r k .Denot) (s t : AtExit (endedOf 5 page-kinds.ps page-kinds.r) k)
       → phs-scan-page-gap.Post k a x s → phs-scan-page-gap.Post k b y t → page-return x s .number ≡ 0 →
       let q = page-question k how a in
       Unguessed (λ hits. rowReturnOf (allRows (length (q .hints)) (q .rows) (q .cols) hits)) (leafParts how (q .db) (q .size) 0 (q .hints) (q .page))
       (page-return x s) (page-return y t)
-  page-unguessed a b n z e x y s t p r through =
+  page-plain a b n z e x y s t p r through =
       let q = page-question k how a in
       let plain : page-return y t ≡ filledRows (numberedFilling (page-question k NoGuesses b)) = rw (zero-named (b .0) z) at r in
       rows-unguessed _ _ _ (numbered-both how (q .db) (q .size) (q .page) (q .hints) (q .rows) (q .cols)) (page-return x s) (page-return y t) (rw n at p) (subst (λ (c : NumberedAsked). page-return y t ≡ filledRows (numberedFilling c)) e plain) through
@@ -119,11 +119,11 @@ module _ (k : Lfts 9) (how : Rebuilding) where
       (now (s .1 .1 .1 .1 .1 .1 .1 .1 .1 .0))
 
   -- THE LAW
-  pub tables-unguessed : (a b : Dens k tables-kinds.ps) → named (a .0) ≡ By how → b .0 ≡ 0 → tables-question NoGuesses b ≡ tabledBy (Gaps NoGuesses) (tables-question how a)
+  pub tables-plain : (a b : Dens k tables-kinds.ps) → named (a .0) ≡ By how → b .0 ≡ 0 → tables-question NoGuesses b ≡ tabledBy (Gaps NoGuesses) (tables-question how a)
       → (x y : resT tables-kinds.r k .Denot) (s t : AtExit (endedOf 9 tables-kinds.ps tables-kinds.r) k)
       → phs-scan-page-gaps.Post k a x s → phs-scan-page-gaps.Post k b y t → tables-return x s .number ≡ 0 →
       let q = tables-question how a in Unguessed (λ hits. tablesReturnOf (allTabled q hits)) (tabledParts how q) (tables-return x s) (tables-return y t)
-  tables-unguessed a b n z e x y s t p r through =
+  tables-plain a b n z e x y s t p r through =
       let q = tables-question how a in
       let told : tables-return x s ≡ carvedTables q = rw n at p in
       let plain : tables-return y t ≡ carvedTables (tables-question NoGuesses b) = rw (zero-named (b .0) z) at r in

@@ -13,7 +13,7 @@ pub const LOST: u64 = 2;
 // or the entry only pads a group. No state is higher.
 pub const UNUSED: u64 = 3;
 
-#[derive(Drop)]
+#[derive(Clone, Copy)]
 pub struct Entry {
     pub state: u64,
     // The serial type.
@@ -22,7 +22,7 @@ pub struct Entry {
     pub len: u64,
 }
 
-#[derive(Drop)]
+#[derive(Clone, Copy)]
 pub enum EntryRead {
     Of(Value),
     // Refusal 2.

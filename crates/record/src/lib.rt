@@ -1,4 +1,6 @@
 // Records of the SQLite file format: varints, serial types, values, and the column entries that name them.
+#![tactic(auto)]
+
 pub mod entry;
 pub mod inner;
 pub mod record;

@@ -8,14 +8,14 @@ ghost use Rattle.record.specs.declared.record.Length.TheVariants.{Bytes};
 
 use crate::inner::big_endian;
 
-#[derive(Drop)]
+#[derive(Clone, Copy)]
 pub enum Length {
     Bytes(usize),
     // Types 10 and 11 stand for nothing.
     Reserved,
 }
 
-#[derive(Drop)]
+#[derive(Clone, Copy)]
 pub enum Value {
     Null,
     Int(i64),
@@ -53,7 +53,7 @@ impl Value {
     }
 }
 
-#[derive(Drop)]
+#[derive(Clone, Copy)]
 pub enum Decoded {
     // The value, and how many bytes its body takes.
     Of(Value, usize),
@@ -96,7 +96,7 @@ pub fn body_length(kind: u64) -> Length
 // The integer that n bytes are: their number, less two to the width, `whole`, where the top bit is set.
 fn int_at(bytes: &[u8], at: usize, n: usize, whole: u64) -> i64
     requires n_in_bounds { at + n ≤ length bytes.now }
-    requires le_n { (1 ≤ n) × (n < 8) × (whole ≡ 2 ^ (8 * n)) }
+    requires whole_of_n_bytes { (1 ≤ n) × (n < 8) × (whole ≡ 2 ^ (8 * n)) }
     ensures { result ≡ twos_complement (8 * n) (big_endian bytes.now at n) }
 {
     let v = big_endian(bytes, at, n);
@@ -132,7 +132,7 @@ fn float_of(pattern: u64) -> f64
 // The value of a type whose body is the n bytes at `at`. An integer's bytes are counted beside two to their width.
 fn value_of(kind: u64, bytes: &[u8], at: usize, n: usize) -> Value
     requires kind_value { body_length kind ≡ Bytes n }
-    requires at_value { body_fits kind n bytes.now at ≡ true }
+    requires body_there { body_fits kind n bytes.now at ≡ true }
     ensures { result ≡ value_of kind bytes.now at n }
 {
     match kind {

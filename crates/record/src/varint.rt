@@ -6,13 +6,13 @@ use crate::inner::wide;
 
 // A place in a slice that stands beside it, and whether the number that was read before it is padded: longer than its shortest form. Where
 // none was read, it is not.
-#[derive(Drop)]
+#[derive(Clone, Copy)]
 pub struct Cursor {
     pub at: usize,
     pub padded: bool,
 }
 
-#[derive(Drop)]
+#[derive(Clone, Copy)]
 pub enum Varint {
     // The value, and the cursor behind its bytes.
     Value(u64, Cursor),
@@ -20,7 +20,7 @@ pub enum Varint {
     Short,
 }
 
-#[derive(Drop)]
+#[derive(Clone, Copy)]
 pub enum Read {
     // The value, how many bytes it takes, and whether it is padded.
     Number(u64, usize, bool),

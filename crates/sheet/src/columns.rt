@@ -6,7 +6,7 @@ use crate::{WORDS_PER_ENTRY, WORDS_PER_ROW};
 use record::entry::{BODY, LOST, UNFIT, UNUSED};
 
 // A case for each state of an entry.
-#[derive(Drop)]
+#[derive(Clone, Copy)]
 pub enum Column {
     // The serial type, and where the body lies in the lent slice.
     Body { kind: u64, start: u64, len: u64 },

@@ -5,7 +5,7 @@ ghost use Rattle.sheet.specs.Filled.{filled_number, filled_written};
 use crate::refusal;
 use crate::refusal::{FULL, Refusal};
 
-#[derive(Drop)]
+#[derive(Clone, Copy)]
 pub enum Filled {
     // How many things there are, all of them written.
     Done(usize),

@@ -12,7 +12,7 @@ use crate::row::Row;
 use crate::{WORDS_PER_ENTRY, WORDS_PER_ROW, columns, row};
 
 // What carving came to: how many rows there are now; or a row found no room.
-#[derive(Drop)]
+#[derive(Clone, Copy)]
 pub enum Carved {
     On(usize),
     Full,

@@ -1,6 +1,8 @@
 // What the sheet is made of: rows and column entries as words of lent lists, confidences, hints, and the answers with their refusals.
 // The region scan uses a part of it: `Freelist` to `CarvedUnalloc`, the three modes, `freed`, `rebuilt`, `percent` and `put_unused` are
 // the other carvers'.
+#![tactic(auto)]
+
 pub mod columns;
 pub mod confidence;
 pub mod filled;

@@ -5,7 +5,7 @@ ghost use Rattle.sheet.specs.Refusal.{refusal_number};
 
 pub use crate::hint::hints_known;
 
-#[derive(Drop)]
+#[derive(Clone, Copy)]
 pub enum Refusal {
     // No columns, or more than there may be: as lent, or as a statement gives them.
     ColumnCount,
@@ -28,7 +28,7 @@ pub enum Refusal {
 }
 
 // What the checks before a call come to.
-#[derive(Drop)]
+#[derive(Clone, Copy)]
 pub enum Checked {
     Passed,
     Refused(Refusal),

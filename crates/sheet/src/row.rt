@@ -7,7 +7,7 @@ ghost use Rattle.sheet.specs.Row.{presence, id_bits, source_code, source_percent
 use crate::WORDS_PER_ROW;
 
 // Where a row was found, with its percent where there is one.
-#[derive(Drop)]
+#[derive(Clone, Copy)]
 pub enum Source {
     Scan,
     Freelist,
@@ -16,7 +16,7 @@ pub enum Source {
 }
 
 // Which of the three modes read the row.
-#[derive(Drop)]
+#[derive(Clone, Copy)]
 pub enum Mode {
     // None of them.
     Plain,
@@ -25,14 +25,14 @@ pub enum Mode {
     FirstColMissing,
 }
 
-#[derive(Drop)]
+#[derive(Clone, Copy)]
 pub enum RowId {
     Absent,
     // The id's 64 bits.
     Present(u64),
 }
 
-#[derive(Drop)]
+#[derive(Clone, Copy)]
 pub struct Row {
     pub offset: u64,
     pub consumed: u64,

@@ -14,9 +14,9 @@ use lib.Dec.{leb, ltb, eqb, leb-suc-suc}
 use lib.ListN.{length, take, drop, get_or, length-drop, length-reverse}
 use lib.Seq.{drop-cons, drop-length, take-suc, take_all, take-length, length-take-le, drop-drop}
 use Rattle.record.proofs.Numbers.{by_test}
-use Rattle.words.specs.Inner.{AllIn, Kept, WordEnds, PieceEnds, pieces_from}
+use Rattle.words.specs.Inner.{AllIn, Leads, Kept, WordEnds, PieceEnds, pieces_from}
 use Rattle.words.specs.Runs.{is_blank, in_word, is_unlike, take_while, drop_while, drop_while_end, is_not, has, behind_first, before_last}
-use Rattle.words.specs.Words.{comma, pieces, first_word, behind_word, word_behind, raise, starts_with, holds}
+use Rattle.words.specs.Words.{comma, pieces, second_word, behind_word, word_behind, raise, starts_with, holds}
 
 -- ---- a byte, and what stands behind or before it
 pub from_at : (s : List ℕ) (i : ℕ) → i < length s → drop i s ≡ get_or s i 0 ∷ drop (i + 1) s
@@ -247,3 +247,12 @@ holds_cut w (b ∷ s) h = refl
 
 pub holds_at : (w s : List ℕ) (i : ℕ) → 0 < length w → holds w (drop i s) ≡ (starts_with w (drop i s) || holds w (drop (i + 1) s))
 holds_at w s i h = holds_cut w (drop i s) h ∙ rw drop-drop
+
+-- what whole blocks leave of a run is counted in the part behind them
+pub run_rest : (p : ℕ → Bool) (s : List ℕ) (i : ℕ) → Leads p s i → i + length (take_while p (take (length s - i) (drop i s))) ≡ length (take_while p s)
+run_rest p s i w = rw (part_from s i) (sym w.rest)
+
+-- the second word is the word behind one other
+pub second_behind : (s : List ℕ) → second_word s ≡ word_behind 1 s
+unfolding second_word word_behind behind_word
+second_behind s = refl

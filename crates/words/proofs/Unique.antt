@@ -12,6 +12,7 @@ use Rattle.words.proofs.runs.leading.Reads as leading
 use Rattle.words.proofs.runs.long_run.Reads as long-run
 use Rattle.words.proofs.words.first_word.Reads as first_word
 use Rattle.words.proofs.words.raised.Reads as raised
+use Rattle.words.proofs.words.second_word.Reads as second_word
 use Rattle.words.proofs.words.starts_with.Reads as starts_with
 use Rattle.words.proofs.words.trimmed.Reads as trimmed
 use Rattle.words.proofs.words.word_behind.Reads as word-behind
@@ -52,6 +53,9 @@ trimmed_fixed k a x y s t p q = p ∙ sym q
 
 pub first_word_fixed : FixesSeen first_word.Post (λ k r s. r.now)
 first_word_fixed k a x y s t p q = p ∙ sym q
+
+pub second_word_fixed : FixesSeen second_word.Post (λ k r s. r.now)
+second_word_fixed k a x y s t p q = p ∙ sym q
 
 pub word_behind_fixed : FixesSeen word-behind.Post (λ k r s. r.now)
 word_behind_fixed k a x y s t p q = p ∙ sym q

@@ -44,6 +44,10 @@ pieces (b ∷ s) = cond (eqb b comma) ([] ∷ pieces s) (into_first b (pieces s)
 unfoldable pub first_word : List ℕ → List ℕ
 first_word s = take_while in_word (drop_while is_blank s)
 
+-- the first word of what stands behind the first word; nothing, where there is none
+unfoldable pub second_word : List ℕ → List ℕ
+second_word s = first_word (drop_while in_word (drop_while is_blank s))
+
 -- what stands behind the first word
 unfoldable pub behind_word : List ℕ → List ℕ
 behind_word s = drop_while in_word (drop_while is_blank s)
@@ -52,10 +56,6 @@ behind_word s = drop_while in_word (drop_while is_blank s)
 unfoldable pub word_behind : ℕ → List ℕ → List ℕ
 word_behind zero s = first_word s
 word_behind (suc k) s = word_behind k (behind_word s)
-
--- the second word
-abbrev pub second_word : List ℕ → List ℕ
-second_word = word_behind 1
 
 -- whether s, raised, starts with the word w
 unfoldable pub starts_with : List ℕ → List ℕ → Bool

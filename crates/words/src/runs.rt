@@ -4,7 +4,7 @@ ghost use Rattle.words.specs.Inner.{AllIn, Leads, Kept};
 ghost use Rattle.words.specs.Runs.{is_blank, in_run, take_while, drop_while, drop_while_end, before_first, behind_first};
 
 // Bytes of one kind, one behind the other.
-#[derive(Drop)]
+#[derive(Clone, Copy)]
 pub enum Run {
     Blanks,
     // Bytes that are no blanks.

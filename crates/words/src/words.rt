@@ -1,7 +1,7 @@
 // Words between blanks, and the letters that they are compared by.
 ghost use Rattle.std.specs.Prelude.{◌≡◌};
 ghost use Rattle.words.specs.Inner.{WordEnds};
-ghost use Rattle.words.specs.Words.{raise, trim, first_word, word_behind, starts_with};
+ghost use Rattle.words.specs.Words.{raise, trim, first_word, second_word, word_behind, starts_with};
 
 use crate::runs::{Run, dropped, kept, leading};
 
@@ -19,6 +19,12 @@ pub fn first_word(s: &[u8]) -> &[u8]
     let from = dropped(s, Run::Blanks);
     let n = leading(from, Run::Word);
     &from[..n]
+}
+
+pub fn second_word(s: &[u8]) -> &[u8]
+    ensures { result.now ≡ second_word s.now }
+{
+    first_word(dropped(dropped(s, Run::Blanks), Run::Word))
 }
 
 // Where the first word ends.

@@ -1,0 +1,31 @@
+-- `sheet::row::float_bits` meets its contract: only a NaN differs from itself, and of any other f32 the pattern is what `to_bits` gives.
+-- Assumes nothing.
+use mathlib.Core.Path.{◌≡◌, refl, sym, subst, ◌∙◌}
+use mathlib.Core.Bool.{true, false, not}
+use native.Mathlib.Omega.{arith}
+use lib.Dec.{T}
+use lib.Ieee.{Float, nan, inf, fin, binary32, ne, is_nan, to_bits}
+use lib.Ieee.Bits.{to_bits-lt}
+use lib.Ieee.Compare.{differs_from_itself, nan_differs}
+use denote.Floats.{passes}
+use Rattle.sheet.proofs.row.float_bits.Goals as goal
+
+nan_bits : (x : Float) → ne x x ≡ true → 0x7fc00000 ≡ to_bits binary32 x
+unfolding to_bits
+nan_bits x h = rw (differs_from_itself x (passes _ h)) refl
+
+-- what equals itself is no NaN
+number : (x : Float) → ne x x ≡ false → T (not (is_nan x))
+unfolding is_nan
+number nan h = subst T (sym nan_differs ∙ h) tt
+number (inf s) h = tt
+number (fin s m e) h = tt
+
+pub returns-then-x : goal.returns-then-x
+returns-then-x c = nan_bits _ c.if-x.true
+
+pub float_to_bits-result : goal.float_to_bits-result
+float_to_bits-result c = number _ c.if-x.false
+
+pub overflow_cast-result : goal.overflow_cast-result
+overflow_cast-result c = omega (arith, to_bits-lt binary32 c.args.x (passes _ c.well_formed.0.1))

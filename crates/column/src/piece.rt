@@ -11,7 +11,7 @@ use words::inner::keywords::{begins, holds_word, is_word};
 use words::runs::{Run, before_first, leading};
 use words::words::{trimmed, word_behind};
 
-#[derive(Drop)]
+#[derive(Clone, Copy)]
 pub enum Reading {
     // As the Rust reads it, for comparing with the Rust.
     AsRust,
@@ -20,7 +20,7 @@ pub enum Reading {
 }
 
 // What a piece gives.
-#[derive(Drop)]
+#[derive(Clone, Copy)]
 pub enum Given {
     Hint(u8),
     Nothing,

@@ -1,2 +1,3 @@
+mod Cases
 mod StatementLaws
 pub mod Unique

@@ -9,12 +9,10 @@ use borrow.Author.Tests.{lt-ltb, le-ltb, le-leb, lt-leb, leb-true, leb-false}
 use lib.Dec.{leb}
 use lib.ListN.{length, take, drop, length-append}
 use lib.Seq.{sets, set_out, take_all, take-nil, take-append_seam, take-append-le, length-take-le}
-use Rattle.statement.specs.Statement.{between, all_hints, hints_of, statement_checks, statement_filling}
-use Rattle.column.specs.Column.{piece_hints}
-use Rattle.column.specs.declared.piece.Reading.{Reading}
+use Rattle.statement.specs.Statement.{opening, closing, between, piece_hints, all_hints, hints_of, statement_checks, statement_filling}
 use Rattle.words.specs.Inner.{Kept, PieceEnds, pieces_from}
 use Rattle.words.specs.Runs.{is_not, has, behind_first, before_last}
-use Rattle.words.specs.Words.{opening, closing, trim, pieces}
+use Rattle.words.specs.Words.{trim, pieces}
 use Rattle.words.proofs.Laws.{behind_has, kept_has, kept_before, pieces_none}
 use Rattle.sheet.specs.Filled.{laid, list_outcome, FillsList}
 use Rattle.sheet.specs.Limits.{most_columns, largest_statement, count_fits}
@@ -28,14 +26,14 @@ use Rattle.sheet.proofs.Laws.{overlay_length, overlay_more}
 use Rattle.sheet.proofs.Filling.{list_refused, list_filled}
 
 -- ---- the hints of the pieces from a place on
-pub hints_next : (reading : Reading) {s : List ℕ} {at e : ℕ} → PieceEnds s at e →
-    all_hints reading (pieces_from s at) ≡ piece_hints reading (trim (take (e - at) (drop at s))) ++ all_hints reading (pieces_from s (e + 1))
+pub hints_next : {s : List ℕ} {at e : ℕ} → PieceEnds s at e →
+    all_hints (pieces_from s at) ≡ piece_hints (trim (take (e - at) (drop at s))) ++ all_hints (pieces_from s (e + 1))
 unfolding all_hints
-hints_next reading p = rw p.next
+hints_next p = rw p.next
 
-pub hints_none : (reading : Reading) (s : List ℕ) (at : ℕ) → length s < at → all_hints reading (pieces_from s at) ≡ []
+pub hints_none : (s : List ℕ) (at : ℕ) → length s < at → all_hints (pieces_from s at) ≡ []
 unfolding all_hints
-hints_none reading s at h = rw (pieces_none s at h)
+hints_none s at h = rw (pieces_none s at h)
 
 -- ---- writing
 -- one hint more, or none, where there is room for it
@@ -98,18 +96,18 @@ pub fits_most : (n : ℕ) → count_fits n ≡ true → n ≤ most_columns
 unfolding count_fits
 fits_most n h = leb-true n most_columns ((and-eq-true_iff (leb 1 n) (leb n most_columns)).0 h).1
 
-abbrev Answers : Reading → List ℕ → List ℕ → Filled → List ℕ → Type 0
-Answers reading s old r hints = FillsList (statement_filling reading s old) (list_outcome r hints)
+abbrev Answers : List ℕ → List ℕ → Filled → List ℕ → Type 0
+Answers s old r hints = FillsList (statement_filling s old) (list_outcome r hints)
 
 -- THE LAW: the first check that holds refuses, and leaves the list as it was
-pub too_large_lem : (reading : Reading) (s old : List ℕ) → largest_statement < length s → Answers reading s old (Refused TooLarge) old
+pub too_large_lem : (s old : List ℕ) → largest_statement < length s → Answers s old (Refused TooLarge) old
 unfolding statement_checks
-too_large_lem reading s old h = list_refused _ _ (simp (lt-ltb largest_statement (length s) h))
+too_large_lem s old h = list_refused _ _ (simp (lt-ltb largest_statement (length s) h))
 
-pub no_list : (reading : Reading) (s old rest : List ℕ) (e : ℕ) → length s ≤ largest_statement → rest ≡ behind_first opening s → Kept (is_not closing) rest e → e ≡ 0 →
-    Answers reading s old (Refused NoColumnList) old
+pub no_list : (s old rest : List ℕ) (e : ℕ) → length s ≤ largest_statement → rest ≡ behind_first opening s → Kept (is_not closing) rest e → e ≡ 0 →
+    Answers s old (Refused NoColumnList) old
 unfolding statement_checks
-no_list reading s old rest e small behind k z =
+no_list s old rest e small behind k z =
     let none : has closing (behind_first opening s) ≡ false = rw (← behind) (kept_has closing rest e k ∙ rw z) in
     list_refused _ _ (simp (le-ltb largest_statement (length s) small, behind_has opening closing s ∙ ap not none))
 
@@ -129,34 +127,34 @@ lists_at s rest e small behind k h = record {
 }
 
 -- and n, which counts their hints
-pub record Counts (reading : Reading) (s columns : List ℕ) (n : ℕ) : Type 0 where
+pub record Counts (s columns : List ℕ) (n : ℕ) : Type 0 where
   pub lists : Lists s columns
-  pub number : n ≡ length (all_hints reading (pieces columns))
+  pub number : n ≡ length (all_hints (pieces columns))
 
-module _ {reading : Reading} {s columns : List ℕ} {n : ℕ} (k : Counts reading s columns n) where
-  counted : length (hints_of reading s) ≡ n
+module _ {s columns : List ℕ} {n : ℕ} (k : Counts s columns n) where
+  counted : length (hints_of s) ≡ n
   unfolding hints_of
   counted = rw (← k.lists.are) (sym k.number)
 
-  last_check : first_held (statement_checks reading s) ≡ cond (not (count_fits n)) (Stopped ColumnCount) Passed
+  last_check : first_held (statement_checks s) ≡ cond (not (count_fits n)) (Stopped ColumnCount) Passed
   unfolding statement_checks
   last_check =
       simp (le-ltb largest_statement (length s) k.lists.small, behind_has opening closing s ∙ ap not k.lists.listed, counted)
 
-  pub bad_count : (old : List ℕ) → count_fits n ≡ false → Answers reading s old (Refused ColumnCount) old
+  pub bad_count : (old : List ℕ) → count_fits n ≡ false → Answers s old (Refused ColumnCount) old
   bad_count old h = list_refused _ _ (last_check ∙ rw h)
 
   -- THE LAW: past the checks the first hints are written, and the room decides
-  module _ (old hints : List ℕ) (fits : count_fits n ≡ true) (put : hints ≡ laid (all_hints reading (pieces columns)) old) where
-    passed : first_held (statement_checks reading s) ≡ Passed
+  module _ (old hints : List ℕ) (fits : count_fits n ≡ true) (put : hints ≡ laid (all_hints (pieces columns)) old) where
+    passed : first_held (statement_checks s) ≡ Passed
     passed = last_check ∙ rw fits
 
-    written : hints ≡ laid (hints_of reading s) old
+    written : hints ≡ laid (hints_of s) old
     unfolding hints_of
     written = rw (← k.lists.are) put
 
-    pub full : length old < n → Answers reading s old (Full (length old)) hints
+    pub full : length old < n → Answers s old (Full (length old)) hints
     full h = list_filled _ _ passed (simp (counted, lt-leb n (length old) h)) written
 
-    pub done : n ≤ length old → Answers reading s old (Done n) hints
+    pub done : n ≤ length old → Answers s old (Done n) hints
     done h = list_filled _ _ passed (simp (counted, le-leb n (length old) h)) written

@@ -1,21 +1,131 @@
 // The hints of the columns that a CREATE TABLE statement lists, read where the statement lies.
 ghost use Rattle.std.specs.Prelude.{◌≡◌, ◌+◌, ◌≤◌, ◌<◌, length};
 ghost use Rattle.std.proofs.lemmas.List.Edits.{sets};
-ghost use Rattle.column.specs.Inner.{given_hints};
-ghost use Rattle.column.specs.declared.piece.Reading.TheVariants.{AsRust, ByFormat};
 ghost use Rattle.sheet.specs.Filled.{laid, list_outcome, FillsList};
-ghost use Rattle.statement.specs.Statement.{all_hints, statement_filling};
+ghost use Rattle.statement.specs.Inner.{given_hints};
+ghost use Rattle.statement.specs.Statement.{closing, is_integer, is_text, is_real, is_blob, hint_of, is_row_id, is_constraint, is_skipped};
+ghost use Rattle.statement.specs.Statement.{piece_hints, all_hints, statement_filling};
 ghost use Rattle.words.specs.Inner.{Kept};
 ghost use Rattle.words.specs.Runs.{is_not};
-ghost use Rattle.words.specs.Words.{closing, pieces};
+ghost use Rattle.words.specs.Words.{trim, pieces};
 
-use column::piece::{Given, Reading, piece_hint};
 use sheet::filled::Filled;
-use sheet::hint::{ANY, hint_count_fits};
+use sheet::hint::{ANY, BLOB, INTEGER, REAL, TEXT, hint_count_fits};
 use sheet::refusal::Refusal;
 use sheet::{LARGEST_STATEMENT, MOST_COLUMNS};
+use words::inner::keywords::{begins, holds_word, is_word};
 use words::inner::pieces::piece_end;
 use words::runs::{Run, behind_first, kept};
+use words::words::{second_word, trimmed};
+
+// In bytes.
+
+// What a piece gives.
+#[derive(Clone, Copy)]
+enum Given {
+    Hint(u8),
+    Nothing,
+}
+
+fn is_integer(word: &[u8]) -> bool
+    ensures { result ≡ is_integer word.now }
+{
+    begins(word, b"INT")
+        | is_word(word, b"BOOLEAN")
+        | is_word(word, b"TINYINT")
+        | is_word(word, b"SMALLINT")
+        | is_word(word, b"BIGINT")
+        | is_word(word, b"MEDIUMINT")
+}
+
+fn is_text(word: &[u8]) -> bool
+    ensures { result ≡ is_text word.now }
+{
+    begins(word, b"TEXT")
+        | begins(word, b"CHAR")
+        | begins(word, b"VARCHAR")
+        | begins(word, b"NCHAR")
+        | begins(word, b"NVARCHAR")
+        | is_word(word, b"CLOB")
+}
+
+fn is_real(word: &[u8]) -> bool
+    ensures { result ≡ is_real word.now }
+{
+    begins(word, b"REAL")
+        | begins(word, b"FLOAT")
+        | begins(word, b"DOUBLE")
+        | begins(word, b"NUMERIC")
+        | begins(word, b"DECIMAL")
+}
+
+fn is_blob(word: &[u8]) -> bool
+    ensures { result ≡ is_blob word.now }
+{
+    begins(word, b"BLOB") | is_word(word, b"BINARY") | is_word(word, b"VARBINARY")
+}
+
+fn is_constraint(piece: &[u8]) -> bool
+    ensures { result ≡ is_constraint piece.now }
+{
+    begins(piece, b"PRIMARY")
+        | begins(piece, b"UNIQUE")
+        | begins(piece, b"CHECK")
+        | begins(piece, b"FOREIGN")
+        | begins(piece, b"CONSTRAINT")
+}
+
+fn sql_type_to_hint(word: &[u8]) -> u8
+    ensures { result ≡ hint_of word.now }
+{
+    if is_integer(word) {
+        return INTEGER;
+    }
+    if is_text(word) {
+        return TEXT;
+    }
+    if is_real(word) {
+        return REAL;
+    }
+    if is_blob(word) {
+        return BLOB;
+    }
+    ANY
+}
+
+fn is_row_id(piece: &[u8]) -> bool
+    ensures { result ≡ is_row_id piece.now }
+{
+    if !holds_word(piece, b"KEY") {
+        return false;
+    }
+    if !holds_word(piece, b"PRIMARY") {
+        return false;
+    }
+    holds_word(piece, b"INTEGER")
+}
+
+fn is_skipped(piece: &[u8]) -> bool
+    ensures { result ≡ is_skipped piece.now }
+{
+    if piece.len() == 0 {
+        return true;
+    }
+    if is_row_id(piece) {
+        return true;
+    }
+    is_constraint(piece)
+}
+
+fn piece_hint(piece: &[u8]) -> Given
+    ensures { given_hints result ≡ piece_hints (trim piece.now) }
+{
+    let column = trimmed(piece);
+    if is_skipped(column) {
+        return Given::Nothing;
+    }
+    Given::Hint(sql_type_to_hint(second_word(column)))
+}
 
 // A hint too many is only counted.
 fn put(hints: &mut [u8], n: usize, given: Given) -> usize
@@ -35,15 +145,15 @@ fn put(hints: &mut [u8], n: usize, given: Given) -> usize
 }
 
 // Writes as many hints as there is room for, and counts them all.
-fn read_hints(reading: Reading, columns: &[u8], hints: &mut [u8]) -> usize
-    ensures value { result ≡ length (all_hints reading (pieces columns.now)) }
-    ensures list { hints.new ≡ laid (all_hints reading (pieces columns.now)) hints.old }
+fn read_hints(columns: &[u8], hints: &mut [u8]) -> usize
+    ensures value { result ≡ length (all_hints (pieces columns.now)) }
+    ensures list { hints.new ≡ laid (all_hints (pieces columns.now)) hints.old }
 {
     let mut at = 0;
     let mut n = 0;
     while at <= columns.len() {
         let end = piece_end(columns, at);
-        n = put(hints, n, piece_hint(reading, &columns[at..end]));
+        n = put(hints, n, piece_hint(&columns[at..end]));
         at = end + 1;
     }
     n
@@ -69,8 +179,8 @@ fn list_end(rest: &[u8]) -> usize
     kept(rest, Run::Until(b')'))
 }
 
-fn read_statement(reading: Reading, statement: &[u8], hints: &mut [u8]) -> Filled
-    ensures { FillsList (statement_filling reading statement.now hints.old)
+pub fn from_create_sql(statement: &[u8], hints: &mut [u8]) -> Filled
+    ensures { FillsList (statement_filling statement.now hints.old)
         (list_outcome result hints.new) }
 {
     if statement.len() > LARGEST_STATEMENT {
@@ -84,7 +194,7 @@ fn read_statement(reading: Reading, statement: &[u8], hints: &mut [u8]) -> Fille
     }
     let columns = &rest[..end - 1];
     let mut found = [ANY; MOST_COLUMNS];
-    let count = read_hints(reading, columns, &mut found);
+    let count = read_hints(columns, &mut found);
     if !hint_count_fits(count) {
         return Filled::Refused(Refusal::ColumnCount);
     }
@@ -94,18 +204,4 @@ fn read_statement(reading: Reading, statement: &[u8], hints: &mut [u8]) -> Fille
         return Filled::Full(room);
     }
     Filled::Done(count)
-}
-
-pub fn from_create_sql(statement: &[u8], hints: &mut [u8]) -> Filled
-    ensures { FillsList (statement_filling AsRust statement.now hints.old)
-        (list_outcome result hints.new) }
-{
-    read_statement(Reading::AsRust, statement, hints)
-}
-
-pub fn column_hints(statement: &[u8], hints: &mut [u8]) -> Filled
-    ensures { FillsList (statement_filling ByFormat statement.now hints.old)
-        (list_outcome result hints.new) }
-{
-    read_statement(Reading::ByFormat, statement, hints)
 }

@@ -8,9 +8,9 @@ use lib.ListN.{replicate}
 use Rattle.column.specs.Column.{hint_of, is_row_id, name_of, is_keyed, is_dropped, column_hint, piece_hints}
 use Rattle.column.specs.declared.piece.Reading.{Reading}
 use Rattle.column.specs.declared.piece.Reading.TheVariants.{AsRust, ByFormat}
-use Rattle.statement.specs.Statement.{between, all_hints, hints_of, statement_checks, statement_filling}
+use Rattle.readings.specs.Statement.{between, all_hints, hints_of, statement_checks, statement_filling}
 use Rattle.words.specs.Runs.{is_blank, take_while, drop_while, has, before_first, behind_first, before_last}
-use Rattle.words.specs.Words.{bytes, raise, trim, pieces, first_word, behind_word, word_behind, starts_with, equals, holds}
+use Rattle.words.specs.Words.{bytes, raise, trim, pieces, first_word, second_word, behind_word, word_behind, starts_with, equals, holds}
 use Rattle.sheet.specs.Filled.{list_number, list_written, list_left}
 use Rattle.sheet.specs.Limits.{count_fits}
 
@@ -84,7 +84,7 @@ reads : List Read
 reads = keys ++ names ++ types
 
 hints_table : map hinted reads ≡ reads
-unfolding reads keys names types hinted hints_of all_hints piece_hints column_hint is_dropped is_keyed is_row_id name_of hint_of between equals holds starts_with word_behind behind_word first_word pieces before_last behind_first before_first has trim drop_while take_while raise is_blank
+unfolding reads keys names types hinted hints_of all_hints piece_hints column_hint is_dropped is_keyed is_row_id name_of hint_of between equals holds starts_with second_word word_behind behind_word first_word pieces before_last behind_first before_first has trim drop_while take_while raise is_blank
 hints_table = refl
 
 -- ---- answers: a reading, a statement and how many cells are lent, with the answer's number, how many hints are written, and the cells
@@ -135,5 +135,5 @@ cases : List Case
 cases = alone ++ either AsRust ++ either ByFormat
 
 answers_table : map computed cases ≡ cases
-unfolding cases alone either several computed list_number list_written list_left statement_checks hints_of all_hints piece_hints column_hint is_dropped is_keyed is_row_id name_of hint_of between equals holds starts_with word_behind behind_word first_word pieces before_last behind_first before_first has trim drop_while take_while raise is_blank count_fits
+unfolding cases alone either several computed list_number list_written list_left statement_checks hints_of all_hints piece_hints column_hint is_dropped is_keyed is_row_id name_of hint_of between equals holds starts_with second_word word_behind behind_word first_word pieces before_last behind_first before_first has trim drop_while take_while raise is_blank count_fits
 answers_table = refl

@@ -1,2 +1,3 @@
+pub mod AsRust
 mod Cases
 pub mod Readings

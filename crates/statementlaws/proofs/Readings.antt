@@ -2,16 +2,17 @@
 -- Assumes nothing.
 use Prim.Native.Nat.{ℕ}
 use mathlib.Core.Path.{◌≡◌, refl, sym, ◌∙◌}
-use mathlib.Core.Bool.{true, false, false≢true, not, and-eq-true_iff, and_false, or-true}
+use mathlib.Core.Bool.{true, false, false≢true, not, and-eq-true_iff, and-false, or-true}
 use mathlib.Core.List.{List, [], ◌∷◌, ◌++◌}
 use borrow.Author.Tests.{not-true}
 use Rattle.record.proofs.Numbers.{by_test}
 use Rattle.words.specs.Words.{bytes, trim, pieces, holds}
 use Rattle.words.proofs.Held.{holds_word_lem}
+use Rattle.words.proofs.Laws.{second_behind}
 use Rattle.column.specs.Column.{is_row_id, begins_as_constraint, is_dropped, is_keyed, is_key, column_hint, piece_hints}
 use Rattle.column.specs.declared.piece.Reading.TheVariants.{AsRust, ByFormat}
 use Rattle.column.proofs.Laws.{no_constraint}
-use Rattle.statement.specs.Statement.{between, all_hints, hints_of, statement_checks, statement_filling}
+use Rattle.readings.specs.Statement.{between, all_hints, hints_of, statement_checks, statement_filling}
 use Rattle.statementlaws.specs.Plain.{is_plain, are_plain, plain_statement, LeftOf, none, kept, out}
 
 -- ---- pieces
@@ -30,7 +31,7 @@ module _ (p : List ℕ) (taken : is_dropped AsRust p ≡ false) where
   not_key =
       by_test (is_key p)
       (λ t.
-      let one = (and-eq-true_iff _ _).0 t in
+      let one = (and-eq-true_iff _ _).0 (rw (second_behind p) at t) in
       let two = (and-eq-true_iff _ _).0 one.1 in
       absurd (false≢true (sym not_row_id ∙ rw (holds_word_lem _ _ 1 one.0, holds_word_lem _ _ 2 two.0, holds_word_lem _ _ 3 two.1))))
       (λ f. f)
@@ -45,7 +46,7 @@ plain_taken : (p : List ℕ) → is_plain p ≡ true → is_dropped AsRust p ≡
 unfolding is_dropped is_row_id
 plain_taken p h =
     let both = (and-eq-true_iff (not (holds (bytes "KEY") p)) (not (begins_as_constraint p))).0 h in
-    rw (not-true (holds (bytes "KEY") p) both.0, not-true (begins_as_constraint p) both.1) (rw and_false)
+    rw (not-true (holds (bytes "KEY") p) both.0, not-true (begins_as_constraint p) both.1) (rw and-false)
 
 same_all : (ps : List (List ℕ)) → are_plain ps ≡ true → all_hints AsRust ps ≡ all_hints ByFormat ps
 unfolding all_hints are_plain

@@ -3,7 +3,7 @@
 use Rattle.std.specs.Prelude.{ℕ, Bool, true, not, ◌&&◌, List, [], ◌∷◌}
 use Rattle.words.specs.Words.{bytes, trim, pieces, holds}
 use Rattle.column.specs.Column.{begins_as_constraint}
-use Rattle.statement.specs.Statement.{between}
+use Rattle.readings.specs.Statement.{between}
 
 -- a piece that neither holds KEY nor begins with the letters of a constraint
 abbrev pub is_plain : List ℕ → Bool

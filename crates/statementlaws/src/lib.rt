@@ -1,1 +1,3 @@
 // Laws of statements; no code.
+
+#![tactic(auto)]

@@ -1,0 +1,2 @@
+mod StatementLaws
+pub mod Unique

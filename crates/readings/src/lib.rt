@@ -1,0 +1,4 @@
+// Statements read in either of two readings.
+#![tactic(auto)]
+
+pub mod statement;

@@ -10,7 +10,7 @@ use lib.Dec.{leb, ltb, eqb}
 use lib.ListN.{length, length-append}
 use lib.Seq.{get_or-append-add}
 use borrow.Author.Tests.{le-leb, lt-leb}
-use Rattle.attempt.specs.Attempt.{Types, kinds, is_whole, types_from, Bodies, unfit, laid, before, bodies_from, Tried, miss, hit, sized, judged, judged_whole, attempt_at, most_bytes}
+use Rattle.attempt.specs.Attempt.{Types, kinds, is_whole, types_from, Bodies, unfit, laid, before, bodies_from, Tried, miss, hit, sized, judged, attempt_at, most_bytes}
 use Rattle.attempt.specs.Hints.{suited}
 use Rattle.attempt.specs.Inner.{body_size, columns_at, header_types, judged_header}
 use Rattle.attempt.specs.Moved.{moved_one, moved, back_one, back}

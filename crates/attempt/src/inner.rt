@@ -4,7 +4,7 @@ mod header;
 ghost use Rattle.std.specs.Prelude.{◌≡◌, ◌||◌, ◌+◌, ◌*◌, ◌≤◌, min, length};
 ghost use Rattle.std.proofs.lemmas.List.Edits.{sets};
 ghost use Rattle.attempt.specs.Attempt.{kinds, header_fits, attempt_at};
-ghost use Rattle.attempt.specs.Hints.{is_integer, is_real, is_text, is_blob, suits as suitsHint};
+ghost use Rattle.attempt.specs.Hints.{is_integer, is_real, is_text, is_blob, suits as suits_hint};
 ghost use Rattle.attempt.specs.Inner.{suits_at, too_long, body_size, sizes, columns_at, header_types, Headed, WholeIs, Walked};
 ghost use Rattle.attempt.specs.Inner.{Judged, Tells};
 ghost use Rattle.attempt.specs.Places.{attempt_places};
@@ -22,7 +22,7 @@ use sheet::{MOST_HEADER, WORDS_PER_ENTRY};
 
 // What the types of a header come to: how many there are, how many suit, the length of all bodies, where reading stopped, and whether a
 // number of the header is padded.
-#[derive(Drop)]
+#[derive(Clone, Copy)]
 enum Walk {
     Whole {
         count: usize,
@@ -37,7 +37,7 @@ enum Walk {
 
 // A row that an attempt found: its header's length, where its types start, the bytes that it takes, how many of its types suit, the
 // header bytes that were read, and whether a number of its header is padded.
-#[derive(Drop)]
+#[derive(Clone, Copy)]
 pub struct Find {
     pub head: usize,
     pub from: usize,
@@ -47,7 +47,7 @@ pub struct Find {
     pub padded: bool,
 }
 
-#[derive(Drop)]
+#[derive(Clone, Copy)]
 pub enum Verdict {
     Hit(Find),
     // The header bytes that were read.
@@ -88,7 +88,7 @@ fn is_blob(kind: u64) -> bool
 }
 
 pub fn suits(hint: u8, kind: u64) -> bool
-    ensures { result ≡ suitsHint hint kind }
+    ensures { result ≡ suits_hint hint kind }
 {
     if hint == INTEGER {
         return is_integer(kind);
@@ -288,9 +288,9 @@ pub fn put_columns(
     k: usize,
 )
     requires headed { Headed bytes.now o head from }
-    requires from_in_bounds { o + head + sizes (kinds (header_types bytes.now o head from)) ≤ length bytes.now }
+    requires bodies_in_bounds { o + head + sizes (kinds (header_types bytes.now o head from)) ≤ length bytes.now }
     requires bytes_bound { by + length bytes.now ≤ largest_region }
-    requires from_in_bounds_2 { k + words_per_entry * length (kinds (header_types bytes.now o head from)) ≤ length cols.old }
+    requires room_for_entries { k + words_per_entry * length (kinds (header_types bytes.now o head from)) ≤ length cols.old }
     ensures { cols.new ≡ sets cols.old k
         (columns_words (columns_at (by + (o + head)) (kinds (header_types bytes.now o head from)))) }
 {

@@ -6,7 +6,7 @@ use crate::inner::suits;
 use sheet::HIGHEST_HINT;
 use sheet::refusal::{Refusal, number};
 
-#[derive(Drop)]
+#[derive(Clone, Copy)]
 pub enum Compatible {
     Suits,
     Differs,

@@ -8,19 +8,19 @@ ghost use Rattle.sheet.specs.Limits.{most_columns, largest_region};
 
 pub use crate::inner::high::High;
 use crate::inner::high::{lesser, run_around, varint_end};
-use crate::inner::types::{may_have, may_stand, soon_ends, too_long_lem, types_end};
+use crate::inner::types::{may_have, may_stand, soon_ends, too_long, types_end};
 use attempt::inner::{Find, Verdict, attempt};
 use record::inner::wide;
 
 // Up to where offsets are passed over, and the header bytes that attempts there read.
-#[derive(Drop)]
+#[derive(Clone, Copy)]
 struct PassedOver {
     to: usize,
     read: usize,
 }
 
 // The same, and the run of high bytes that was met last.
-#[derive(Drop)]
+#[derive(Clone, Copy)]
 struct PassedWithRun {
     to: usize,
     read: usize,
@@ -28,14 +28,14 @@ struct PassedWithRun {
 }
 
 // A row that starts here, with the run that was met last, or how far it is passed over.
-#[derive(Drop)]
+#[derive(Clone, Copy)]
 enum Step {
     Row { find: Find, run: High },
     On(PassedWithRun),
 }
 
 // The next row, and the header bytes that attempts before it read; or there is none.
-#[derive(Drop)]
+#[derive(Clone, Copy)]
 pub enum Next {
     Row {
         at: usize,
@@ -49,7 +49,7 @@ pub enum Next {
 // The header bytes that an attempt at o reads, where its header of one byte's length shows soon that it fails; else 0.
 fn look_header(bytes: &[u8], hints: &[u8], o: usize, head: usize) -> usize
     requires o_in_bounds { (o < length bytes.now) × (head ≡ get_or bytes.now o 0) × (2 ≤ head) × (head < 128) }
-    requires bytes_len_bound { (length bytes.now ≤ largest_region) × (length hints.now ≤ most_columns) }
+    requires sizes_fit { (length bytes.now ≤ largest_region) × (length hints.now ≤ most_columns) }
     ensures { Dismissed bytes.now hints.now o result }
 {
     let columns = hints.len();
@@ -57,7 +57,7 @@ fn look_header(bytes: &[u8], hints: &[u8], o: usize, head: usize) -> usize
         return 1;
     }
     // A way out of its own, since text takes it.
-    if too_long_lem(columns, head) {
+    if too_long(columns, head) {
         return soon_ends(bytes, o, head);
     }
     if may_have(columns, bytes, o, head) {
@@ -69,7 +69,7 @@ fn look_header(bytes: &[u8], hints: &[u8], o: usize, head: usize) -> usize
 // The same at any first byte from 2 up. From 133 up it begins a number above 512, of two or three bytes most often.
 fn look(bytes: &[u8], hints: &[u8], o: usize) -> usize
     requires o_in_bounds { (o + 2 < length bytes.now) × (2 ≤ get_or bytes.now o 0) }
-    requires bytes_len_bound { (length bytes.now ≤ largest_region) × (length hints.now ≤ most_columns) }
+    requires sizes_fit { (length bytes.now ≤ largest_region) × (length hints.now ≤ most_columns) }
     ensures { Dismissed bytes.now hints.now o result }
 {
     let first = wide(bytes[o]) as usize;
@@ -147,7 +147,7 @@ fn pass_high(bytes: &[u8], hints: &[u8], start: usize, last: usize, run: High) -
 // A header of 2 to 127 bytes that ends in a run.
 fn pass_header(bytes: &[u8], hints: &[u8], o: usize, head: usize, run: High) -> PassedWithRun
     requires o_in_bounds { (o < length bytes.now) × (head ≡ get_or bytes.now o 0) × (2 ≤ head) × (head < 128) }
-    requires bytes_len_bound { (length bytes.now ≤ largest_region) × (length hints.now ≤ most_columns) }
+    requires sizes_fit { (length bytes.now ≤ largest_region) × (length hints.now ≤ most_columns) }
     requires high { IsHigh bytes.now run }
     ensures { PassedWithRunIs bytes.now hints.now o (o + 1) result }
 {

@@ -9,7 +9,7 @@ use record::entry::{Entry, UNUSED};
 use sheet::WORDS_PER_ENTRY;
 
 // What judging entries comes to.
-#[derive(Drop)]
+#[derive(Clone, Copy)]
 pub enum Judged {
     // All are good, and so many columns are used.
     Columns(usize),

@@ -22,7 +22,7 @@ use sheet::{LARGEST_REGION, MOST_ROWS, WORDS_PER_ENTRY};
 const COUNTERS: usize = 8_192;
 
 // A type, and how often it occurs.
-#[derive(Drop)]
+#[derive(Clone, Copy)]
 struct Leader {
     kind: u64,
     count: usize,
@@ -215,7 +215,7 @@ fn look_up(kinds: &[u64], table: &[u16], kind: u64) -> usize
 // The leader, or the type that comes before it.
 fn challenge(kinds: &[u64], table: &[u16], leader: Leader, kind: u64) -> Leader
     requires tallied { Tallied table.now kinds.now }
-    requires counts_2 { Counts kinds.now leader }
+    requires leader_counted { Counts kinds.now leader }
     ensures kind_value { result.kind ≡ better kinds.now leader.kind kind }
     ensures counts { Counts kinds.now result }
 {
@@ -314,7 +314,7 @@ fn put_hints(
 
 // A table of counters that are all 0.
 fn counters() -> [u16; COUNTERS]
-    ensures counter_count_value { counter_count ≡ length result }
+    ensures counters_length { counter_count ≡ length result }
     ensures clear { Tallied result [] }
 {
     [0; COUNTERS]

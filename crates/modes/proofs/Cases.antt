@@ -1,7 +1,7 @@
 -- Worked cases as one table that is computed at once: the bytes, the count of columns, and the length of both lists. The slice's first byte has
 -- the offset 100.
 -- Assumes nothing.
-use Prim.Native.Nat.{ℕ, ◌+◌}
+use Prim.Native.Nat.{ℕ}
 use mathlib.Core.Path.{◌≡◌, refl}
 use mathlib.Core.List.{List, [], ◌∷◌, ◌++◌, map}
 use lib.Count.{count_leading_zeros}

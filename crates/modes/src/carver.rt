@@ -2,8 +2,8 @@
 ghost use Rattle.std.specs.Prelude.{◌≡◌, false, ◌+◌, ◌≤◌, length};
 ghost use Rattle.modes.specs.Found.{found_hits};
 ghost use Rattle.modes.specs.Inner.{TriedIs, TriedFits, tried_hits, Ready};
-ghost use Rattle.modes.specs.Modes.{normal as normalStyle, columns_only as columnsOnlyStyle};
-ghost use Rattle.modes.specs.Modes.{first_col_missing as firstColMissingStyle, headless_in, normal_at, normal_found};
+ghost use Rattle.modes.specs.Modes.{normal as normal_style, columns_only as columns_only_style};
+ghost use Rattle.modes.specs.Modes.{first_col_missing as first_col_missing_style, headless_in, normal_at, normal_found};
 ghost use Rattle.modes.specs.Modes.{first_col_missing_in, headless_found, modes_found, modes_filling};
 ghost use Rattle.sheet.specs.Hits.{FillsRows, row_outcome};
 ghost use Rattle.sheet.specs.Inner.{carved_as, Carves};
@@ -23,7 +23,7 @@ const LEAST_ROW: usize = 3;
 const GONE: usize = 4;
 
 fn normal() -> Style
-    ensures { result ≡ normalStyle }
+    ensures { result ≡ normal_style }
 {
     Style {
         source: Source::Freelist,
@@ -34,7 +34,7 @@ fn normal() -> Style
 }
 
 fn columns_only() -> Style
-    ensures { result ≡ columnsOnlyStyle }
+    ensures { result ≡ columns_only_style }
 {
     Style {
         source: Source::Freelist,
@@ -45,7 +45,7 @@ fn columns_only() -> Style
 }
 
 fn first_col_missing() -> Style
-    ensures { result ≡ firstColMissingStyle }
+    ensures { result ≡ first_col_missing_style }
 {
     Style {
         source: Source::Freelist,

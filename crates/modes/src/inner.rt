@@ -1,7 +1,7 @@
 // Types up to a count, their bodies, and the words of a row, for our own crates: callers show by proof that there is room.
 ghost use Rattle.std.specs.Prelude.{◌≡◌, ◌+◌, ◌*◌, ◌≤◌, length};
 ghost use Rattle.std.proofs.lemmas.List.Edits.{sets};
-ghost use Rattle.modes.specs.Found.{types_from, column_at, behind as behindOf, columns_from, end_from, lost_columns, end_of, found_hit};
+ghost use Rattle.modes.specs.Found.{types_from, column_at, behind as behind_of, columns_from, end_from, lost_columns, end_of, found_hit};
 ghost use Rattle.modes.specs.Inner.{kinds_at, TypesAre, found_in, Fitting};
 ghost use Rattle.record.specs.Places.{types_padded};
 ghost use Rattle.sheet.specs.Limits.{words_per_row, words_per_entry, largest_region};
@@ -18,7 +18,7 @@ use sheet::row::{Mode, Row, RowId, Source};
 
 // What a way of carving says of each of its rows: beside three of a row's words, how many columns, one at most, are lost before those that
 // are read.
-#[derive(Drop)]
+#[derive(Clone, Copy)]
 pub struct Style {
     pub source: Source,
     pub confidence: f32,
@@ -28,7 +28,7 @@ pub struct Style {
 
 // A row that was found: its place, where its types start and how many there are, where its bodies start, and whether a number of its
 // header is padded.
-#[derive(Drop)]
+#[derive(Clone, Copy)]
 pub struct Find {
     pub style: Style,
     pub at: usize,
@@ -38,13 +38,13 @@ pub struct Find {
     pub padded: bool,
 }
 
-#[derive(Drop)]
+#[derive(Clone, Copy)]
 pub enum Tried {
     Hit(Find),
     Miss,
 }
 
-#[derive(Drop)]
+#[derive(Clone, Copy)]
 pub enum TypesRead {
     // How many there are, where reading them ended, and whether one is padded.
     Whole {
@@ -93,7 +93,7 @@ pub fn read_types(bytes: &[u8], from: usize, stop: usize, most: usize) -> TypesR
 pub fn column_at(len: usize, at: usize, kind: u64) -> Column
     requires { at ≤ len }
     ensures value { result ≡ column_at len at kind }
-    ensures inside { behindOf at result ≤ len }
+    ensures inside { behind_of at result ≤ len }
 {
     let Length::Bytes(n) = body_length(kind) else {
         return Column::Unfit(kind);
@@ -110,8 +110,8 @@ pub fn column_at(len: usize, at: usize, kind: u64) -> Column
 
 // Where the next body starts: one that does not fit moves nothing.
 pub fn behind(at: usize, column: Column) -> usize
-    requires { behindOf at column ≤ largest_region }
-    ensures { result ≡ behindOf at column }
+    requires { behind_of at column ≤ largest_region }
+    ensures { result ≡ behind_of at column }
 {
     match column {
         Column::Body { len, .. } => at + len as usize,

@@ -6,7 +6,7 @@ use crate::inner::{head_of, size_fits};
 use sheet::refusal::Refusal;
 use sheet::{LARGEST_REGION, refusal};
 
-#[derive(Drop)]
+#[derive(Clone, Copy)]
 pub enum Paged {
     // Where the page lies in the database, and where its b-tree header stands in it.
     At {

@@ -24,7 +24,7 @@ use sheet::refusal::{Checked, FULL, Refusal, number};
 use sheet::row::{Mode, Row, RowId, Source};
 use sheet::slice::check_slice;
 
-#[derive(Drop)]
+#[derive(Clone, Copy)]
 pub enum Scanned {
     Done {
         rows: usize,
@@ -94,7 +94,7 @@ fn put_found(
     rows: &mut [u64],
     cols: &mut [u64],
 )
-    requires columns_le_most_columns { (columns ≤ most_columns) × (base ≤ largest_base) × (length bytes.now ≤ largest_region) }
+    requires limits_kept { (columns ≤ most_columns) × (base ≤ largest_base) × (length bytes.now ≤ largest_region) }
     requires headed { Headed bytes.now o find.head find.from }
     requires find_in_bounds { o + find.head + sizes (kinds (find_types bytes.now o find)) ≤ length bytes.now }
     requires find_len { length (kinds (find_types bytes.now o find)) ≡ columns }

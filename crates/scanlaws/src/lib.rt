@@ -1,1 +1,3 @@
 // Laws of the region scan; no code.
+
+#![tactic(auto)]

@@ -23,7 +23,7 @@ use sheet::row::{Mode, Source};
 use sheet::slice::check_counted;
 
 // What the types of a header come to: how many there are, how many match, and whether one is padded.
-#[derive(Drop)]
+#[derive(Clone, Copy)]
 enum Reading {
     Whole {
         count: usize,
@@ -156,7 +156,7 @@ fn learned(matched: usize, columns: usize) -> Style
 
 fn try_parse_record(region: &[u8], types: &[u64], o: usize) -> Tried
     requires o_in_bounds { (o ≤ length region.now) × (length region.now ≤ largest_region) }
-    requires in_bounds { (1 ≤ length types.now) × (length types.now ≤ most_columns) }
+    requires types_len_bound { (1 ≤ length types.now) × (length types.now ≤ most_columns) }
     ensures { TriedIs region.now (length types.now)
         (attempt_at region.now types.now o) result }
 {
@@ -203,7 +203,7 @@ fn try_parse_record(region: &[u8], types: &[u64], o: usize) -> Tried
 // Most bytes begin no header: it is empty, or its length is above 512.
 fn try_at(region: &[u8], types: &[u64], o: usize) -> Tried
     requires o_in_bounds { (o < length region.now) × (length region.now ≤ largest_region) }
-    requires in_bounds { (1 ≤ length types.now) × (length types.now ≤ most_columns) }
+    requires types_len_bound { (1 ≤ length types.now) × (length types.now ≤ most_columns) }
     ensures { TriedIs region.now (length types.now)
         (attempt_at region.now types.now o) result }
 {

@@ -8,14 +8,14 @@ ghost use Rattle.walk.specs.Walk.{child_in, cells_from, push_all, page_done, pop
 use page::inner::{cell_count, child, head_of, page_type, pointer};
 
 // The stack's height behind what was pushed; or there was no room for it.
-#[derive(Drop)]
+#[derive(Clone, Copy)]
 pub enum Pushed {
     On(usize),
     Overflow,
 }
 
 // What popping a page came to, and the stack's height.
-#[derive(Drop)]
+#[derive(Clone, Copy)]
 pub enum Step {
     Leaf(usize),
     On(usize),
@@ -23,7 +23,7 @@ pub enum Step {
 }
 
 // The next leaf, and the stack's height behind it.
-#[derive(Drop)]
+#[derive(Clone, Copy)]
 pub enum Next {
     Leaf { page: u64, top: usize },
     Done,
@@ -108,7 +108,7 @@ fn expand(page: &[u8], head: usize, stack: &mut [u64], top: usize) -> Step
 fn visit(db: &[u8], size: usize, p: u64, flags: &mut [u8], stack: &mut [u64], top: usize) -> Step
     requires le_size { 512 ≤ size }
     requires size_bound { size ≤ 65536 }
-    requires size_in_bounds { length db.now / size ≤ length flags.old }
+    requires flag_for_each_page { length db.now / size ≤ length flags.old }
     requires top_in_bounds { top ≤ length stack.old }
     ensures result_after { stepped_as stack.new result ≡ popped db.now size (length stack.old)
         (take (length db.now / size) flags.old) p (tops stack.old top) }
@@ -137,7 +137,7 @@ fn visit(db: &[u8], size: usize, p: u64, flags: &mut [u8], stack: &mut [u64], to
 pub fn next_leaf(db: &[u8], size: usize, flags: &mut [u8], stack: &mut [u64], top: usize) -> Next
     requires le_size { 512 ≤ size }
     requires size_bound { size ≤ 65536 }
-    requires size_in_bounds { length db.now / size ≤ length flags.old }
+    requires flag_for_each_page { length db.now / size ≤ length flags.old }
     requires top_in_bounds { top ≤ length stack.old }
     ensures { NextSays db.now size flags.old stack.old top flags.new
         stack.new result }

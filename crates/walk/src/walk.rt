@@ -11,7 +11,7 @@ use sheet::refusal::{Checked, FULL, Refusal};
 use sheet::{LARGEST_REGION, refusal};
 
 // What is written while walking: leaves, or rows out of them.
-#[derive(Drop)]
+#[derive(Clone, Copy)]
 pub enum Walked {
     // All of it: how many.
     Done(usize),

@@ -3,7 +3,7 @@ ghost use Rattle.std.specs.Prelude.{◌≡◌, ◌+◌, ◌≤◌, ◌<◌, min,
 ghost use Rattle.filter.specs.Inner.{Begins, Stops, IsHigh, Holds};
 
 // From one place up to another; nothing where these are the same.
-#[derive(Drop)]
+#[derive(Clone, Copy)]
 pub struct High {
     pub from: usize,
     pub to: usize,

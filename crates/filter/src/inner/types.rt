@@ -8,7 +8,7 @@ use crate::inner::high::{High, varint_end};
 use record::inner::skip_varint;
 
 // A type has nine bytes at the most, so a longer header has more types.
-pub fn too_long_lem(columns: usize, head: usize) -> bool
+pub fn too_long(columns: usize, head: usize) -> bool
     requires { (columns ≤ most_columns) × (1 ≤ head) }
     ensures { TooLong columns head result }
 {
@@ -55,7 +55,7 @@ pub fn may_stand(columns: usize, bytes: &[u8], o: usize, head: usize) -> bool
     requires { (columns ≤ most_columns) × (2 ≤ head) × (o + head ≤ length bytes.now) }
     ensures { MayHave (header_types bytes.now o head (o + 1)) columns result }
 {
-    if too_long_lem(columns, head) {
+    if too_long(columns, head) {
         return false;
     }
     may_have(columns, bytes, o, head)
@@ -78,7 +78,7 @@ pub fn soon_ends(bytes: &[u8], o: usize, head: usize) -> usize
 
 // Where reading the types ends if the header's last byte is in a run: it comes to the run's start, and there a varint follows on another.
 pub fn types_end(bytes: &[u8], o: usize, head: usize, run: High) -> usize
-    requires le_head { (2 ≤ head) × (o + head ≤ length bytes.now) × (get_or bytes.now o 0 < 128) }
+    requires header_there { (2 ≤ head) × (o + head ≤ length bytes.now) × (get_or bytes.now o 0 < 128) }
     requires holds { Holds bytes.now (o + head - 1) run }
     ensures { result ≡ reach bytes.now (header_types bytes.now o head (o + 1)) }
 {

@@ -2,7 +2,7 @@
 ghost use Rattle.std.specs.Prelude.{◌≡◌, not, ◌||◌, max, eqb, length};
 ghost use Rattle.sheet.specs.Limits.{hints_known};
 ghost use Rattle.sheet.specs.Refusal.{first_held};
-ghost use Rattle.walk.specs.Carve.{sum_of, widest as widestOf, counts_fit, table_checks};
+ghost use Rattle.walk.specs.Carve.{sum_of, widest as widest_of, counts_fit, table_checks};
 
 use page::inner::size_fits;
 use sheet::hint::hint_count_fits;
@@ -45,7 +45,7 @@ fn larger(x: u64, y: u64) -> u64
 }
 
 pub fn widest(counts: &[u64]) -> usize
-    ensures { result ≡ widestOf counts.now }
+    ensures { result ≡ widest_of counts.now }
 {
     let mut most: u64 = 0;
     let mut i = 0;

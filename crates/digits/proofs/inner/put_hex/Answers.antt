@@ -1,0 +1,21 @@
+-- `digits::inner::put_hex` meets its contract.
+-- Assumes nothing.
+use Rattle.digits.specs.Digits.{hex8}
+use Rattle.digits.proofs.inner.put_hex.Goals as goal
+
+pub returns : goal.returns
+unfolding hex8
+returns c =
+    record {
+      put = rw (
+        ← c.hex_digit.ensures,
+        ← c.hex_digit-2.ensures,
+        ← c.hex_digit-3.ensures,
+        ← c.hex_digit-4.ensures,
+        ← c.hex_digit-5.ensures,
+        ← c.hex_digit-6.ensures,
+        ← c.hex_digit-7.ensures,
+        ← c.hex_digit-8.ensures,
+      ) c.put_bytes.ensures;
+      near = c.put_bytes.ensures.ends;
+    }

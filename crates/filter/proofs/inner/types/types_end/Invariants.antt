@@ -1,0 +1,11 @@
+-- `filter::inner::types::types_end` meets its contract: reading on from `at` ends where reading the header's types does (`Ends`).
+-- Assumes nothing.
+use Prim.Native.Nat.{◌+◌, ◌-◌, ◌≤◌}
+use Rattle.attempt.specs.Inner.{header_types, Ends}
+use Rattle.filter.proofs.inner.types.types_end.Given as goal
+
+abbrev pub invariant-loop-at : goal.invariant-loop-at
+invariant-loop-at l = (l.run.from ≤ l.at) × Ends l.bytes (header_types l.bytes l.o l.head (l.o + 1)) l.at (l.o + l.head)
+
+abbrev pub decreases-loop-at : goal.decreases-loop-at
+decreases-loop-at l = l.stop - l.at

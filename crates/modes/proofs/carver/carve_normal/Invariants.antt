@@ -1,0 +1,12 @@
+-- `modes::carver::carve_normal` meets its contract: what the loop has written are the rows so far (`Normals`).
+-- Assumes nothing.
+use Prim.Native.Nat.{◌-◌}
+use lib.ListN.{length}
+use Rattle.modes.proofs.Running.{Normals}
+use Rattle.modes.proofs.carver.carve_normal.Given as goal
+
+abbrev pub invariant-loop-o : goal.invariant-loop-o
+invariant-loop-o l = Normals l.bytes l.base l.columns l.room l.initial.rows l.initial.cols l.rows l.cols l.o l.n
+
+abbrev pub decreases-loop-o : goal.decreases-loop-o
+decreases-loop-o l = length l.bytes - l.o

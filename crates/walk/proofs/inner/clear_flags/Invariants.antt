@@ -1,0 +1,12 @@
+-- `walk::inner::clear_flags` meets its contract: the cells below i are zero.
+-- Assumes nothing.
+use Prim.Native.Nat.{◌-◌, ◌≤◌}
+use mathlib.Core.Path.{◌≡◌}
+use lib.ListN.{length, take, replicate}
+use Rattle.walk.proofs.inner.clear_flags.Given as goal
+
+abbrev pub invariant-loop-i : goal.invariant-loop-i
+invariant-loop-i l = (l.i ≤ length l.flags) × (length l.flags ≡ length l.initial.flags) × (take l.i l.flags ≡ replicate l.i 0)
+
+abbrev pub decreases-loop-i : goal.decreases-loop-i
+decreases-loop-i l = length l.flags - l.i

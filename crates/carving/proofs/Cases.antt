@@ -13,7 +13,7 @@ use Rattle.carving.specs.declared.inner.Carving.{Carving}
 use Rattle.carving.specs.declared.inner.Carving.TheVariants.{Freeblocks, Gaps, Payload}
 use Rattle.freeblock.proofs.Cases.{page, row, pair}
 use Rattle.freeblock.specs.Freeblock.{chain_ends, blocks_from, freeblocks, first_from, first_start, block_hits, page_hits}
-use Rattle.gap.specs.Gap.{has_gap, gap_hits, chain_from, chain, chain_ends as gapChainEnds, page_hits as gapPageHits}
+use Rattle.gap.specs.Gap.{has_gap, gap_hits, chain_from, chain, chain_ends as gap_chain_ends, page_hits as gap_page_hits}
 use Rattle.page.specs.Page.{size_fits, has_page}
 use Rattle.rebuild.specs.declared.rebuilding.Rebuilding.TheVariants.{OneByte, Exact}
 use Rattle.record.specs.Places.{types_padded}
@@ -73,7 +73,7 @@ cases =
     ∷ []
 
 table : map computed cases ≡ map expected cases
-unfolding cases computed expected kept out page row pair rows_answer rows_left entries_left hits_by gapPageHits page_hits freeblocks blocks_from chain_ends block_hits first_start first_from attempt_at judged bodies_from types_from header_fits suits is_integer is_real is_text is_blob varint_at varint_from width_of count_leading_zeros types_padded body_length big_endian column_words unused_words room_of share freed_share count_fits hints_known row_words of_bits of_int div mul round to_bits
+unfolding cases computed expected kept out page row pair rows_answer rows_left entries_left hits_by gap_page_hits page_hits freeblocks blocks_from chain_ends block_hits first_start first_from attempt_at judged bodies_from types_from header_fits suits is_integer is_real is_text is_blob varint_at varint_from width_of count_leading_zeros types_padded body_length big_endian column_words unused_words room_of share freed_share count_fits hints_known row_words of_bits of_int div mul round to_bits
 table = refl
 
 -- ---- a database whose second page this is
@@ -92,5 +92,5 @@ unfolding first out kept db page rows_answer rows_left entries_left
 too_wide_lem = refl
 
 wide_enough : first (Gaps Exact) 127 ≡ out 0 0 (kept 8) (kept 8)
-unfolding first out kept db page rows_answer rows_left entries_left leaf_hits hits_by gapPageHits gap_hits has_gap chain chain_from gapChainEnds big_endian size_fits has_page room_of count_fits hints_known
+unfolding first out kept db page rows_answer rows_left entries_left leaf_hits hits_by gap_page_hits gap_hits has_gap chain chain_from gap_chain_ends big_endian size_fits has_page room_of count_fits hints_known
 wide_enough = refl

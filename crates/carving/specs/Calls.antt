@@ -5,7 +5,7 @@ use Rattle.carving.specs.declared.inner.Carving.{Carving}
 use Rattle.carving.specs.declared.inner.Carving.TheVariants.{Freeblocks, Gaps, Payload}
 use Rattle.cells.specs.Cells.{payload_hits}
 use Rattle.freeblock.specs.Freeblock.{page_hits}
-use Rattle.gap.specs.Gap.{page_hits as gapPageHits}
+use Rattle.gap.specs.Gap.{page_hits as gap_page_hits}
 use Rattle.hit.specs.declared.inner.Spot.{Spot}
 use Rattle.page.specs.Page.{start_of, page_of, head_of, page_checks}
 use Rattle.rebuild.specs.Header.{most_by}
@@ -32,7 +32,7 @@ too_wide how columns = record { refusal = ColumnCount; holds = ltb (width_by how
 -- 11.5, 11.6 and 11.9 for the payload of one block
 unfoldable pub hits_by : Carving → List ℕ → ℕ → List ℕ → Spot → List Hit
 hits_by Freeblocks page head hints spot = page_hits page head hints spot
-hits_by (Gaps how) page head hints spot = gapPageHits how page head hints spot
+hits_by (Gaps how) page head hints spot = gap_page_hits how page head hints spot
 hits_by (Payload how) page head hints spot = payload_hits how spot 0 page hints
 
 -- where a page is said to lie: one that is lent by itself has a base, and its entries start in it

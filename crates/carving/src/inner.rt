@@ -10,7 +10,7 @@ use rebuild::rebuilding::Rebuilding;
 use sheet::MOST_COLUMNS;
 use sheet::inner::Carved;
 
-#[derive(Drop)]
+#[derive(Clone, Copy)]
 pub enum Carving {
     // The blocks of the page's chain.
     Freeblocks,

@@ -1,7 +1,7 @@
 -- Starts that are passed over: the rows of cells stand in the lent list in rising order, so that the next of them decides.
 -- Assumes nothing.
 use Prim.Native.Nat.{ℕ, zero, suc, ◌+◌, ◌-◌, ◌*◌, ◌≤◌, ◌<◌}
-use mathlib.Core.Path.{◌≡◌, refl, sym, ap, ◌∙◌}
+use mathlib.Core.Path.{◌≡◌, refl, sym, ap, ◌∙◌, subst}
 use mathlib.Core.Bool.{true, false}
 use mathlib.Core.List.{List, [], ◌∷◌, ◌++◌}
 use mathlib.Core.Logic.{by_cases}
@@ -143,9 +143,11 @@ written spot columns o cells (c ∷ cs) rows k e h =
     let behind : suc k * words_per_row ≡ k * words_per_row + length (row_words r) = omega (arith, row_words-length r) in
     let both : sets one (suc k * words_per_row) rest ≡ sets rows (k * words_per_row) (row_words r ++ rest) = rw behind (sets_append rows (k * words_per_row) (row_words r) rest) in
     let first : get_or one (k * words_per_row) 0 ≡ r.offset =
-    ap (λ ws. get_or (sets rows (k * words_per_row) ws) (k * words_per_row) 0) (row_words_offset r) ∙ get_d_sets_first rows (k * words_per_row) r.offset (drop 1 (row_words r)) (omega arith) in
-    rw (← both)
-    (omega arith, get_d_sets_before one (suc k * words_per_row) rest (k * words_per_row) (omega arith) ∙ first, written spot columns o cells cs one (suc k) (omega arith) (rw length-sets h))
+    ap (λ ws. get_or (sets rows (k * words_per_row) ws) (k * words_per_row) 0) (row_words_offset r) ∙ get_d_sets_first rows (k * words_per_row) r.offset (drop 1 (row_words r)) (omega arith) in (
+      omega arith,
+      rw both at (get_d_sets_before one (suc k * words_per_row) rest (k * words_per_row) (omega arith) ∙ first),
+      subst (λ (x : List ℕ). Standing spot o x cells (suc k) (starts_of cs)) both (written spot columns o cells cs one (suc k) (omega arith) (rw length-sets h)),
+    )
 
 -- so many rows have their words
 pub rows_fit : (rows cols width m : ℕ) → m ≤ room_of rows cols width → m * words_per_row ≤ rows

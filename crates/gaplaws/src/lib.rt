@@ -1,1 +1,3 @@
 // Laws of the free space of a page; no code.
+
+#![tactic(auto)]

@@ -16,7 +16,7 @@ use sheet::inner::{Carved, put_row, put_unused};
 use sheet::row::{Mode, Row, RowId, Source};
 
 // Of a page: the absolute offset of its first byte, where it starts in the lent slice, and its table's index.
-#[derive(Drop)]
+#[derive(Clone, Copy)]
 pub struct Spot {
     pub base: u64,
     pub start: usize,
@@ -24,7 +24,7 @@ pub struct Spot {
 }
 
 // Where a row comes from: its row id, its source, and how far it is to be believed.
-#[derive(Drop)]
+#[derive(Clone, Copy)]
 pub struct Origin {
     pub id: RowId,
     pub source: Source,
@@ -32,7 +32,7 @@ pub struct Origin {
 }
 
 // How wide a group is, and for how many rows there is room.
-#[derive(Drop)]
+#[derive(Clone, Copy)]
 pub struct Lent {
     pub width: usize,
     pub room: usize,

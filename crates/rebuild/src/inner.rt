@@ -12,7 +12,7 @@ use crate::rebuilding::{ONE_BYTE_TYPES, Rebuilding};
 use attempt::inner::{Find, MOST_BYTES, Verdict, given_header, judge};
 
 // A row whose types begin at a start, if there is one.
-#[derive(Drop)]
+#[derive(Clone, Copy)]
 pub enum Rebuilt {
     Found(Find),
     Nothing,
@@ -42,7 +42,7 @@ fn short_by(own: usize, verdict: Verdict) -> Rebuilt
 
 fn one_byte(payload: &[u8], hints: &[u8], v: usize) -> Rebuilt
     requires v_in_bounds { (v ≤ length payload.now) × (length payload.now ≤ largest_region) }
-    requires in_bounds { (1 ≤ length hints.now) × (length hints.now ≤ one_byte_types) }
+    requires hint_count_bound { (1 ≤ length hints.now) × (length hints.now ≤ one_byte_types) }
     ensures { RebuiltIs OneByte payload.now hints.now v result }
 {
     let types = hints.len();
@@ -57,7 +57,7 @@ fn one_byte(payload: &[u8], hints: &[u8], v: usize) -> Rebuilt
 
 fn exact(payload: &[u8], hints: &[u8], v: usize) -> Rebuilt
     requires v_in_bounds { (v ≤ length payload.now) × (length payload.now ≤ largest_region) }
-    requires in_bounds { (1 ≤ length hints.now) × (length hints.now ≤ most_columns) }
+    requires hint_count_bound { (1 ≤ length hints.now) × (length hints.now ≤ most_columns) }
     ensures { RebuiltIs Exact payload.now hints.now v result }
 {
     let Columns::Take {
@@ -78,7 +78,7 @@ fn exact(payload: &[u8], hints: &[u8], v: usize) -> Rebuilt
 
 pub fn rebuild(how: Rebuilding, payload: &[u8], hints: &[u8], v: usize) -> Rebuilt
     requires v_in_bounds { (v ≤ length payload.now) × (length payload.now ≤ largest_region) }
-    requires in_bounds { (1 ≤ length hints.now) × (length hints.now ≤ most_by how) }
+    requires hint_count_bound { (1 ≤ length hints.now) × (length hints.now ≤ most_by how) }
     ensures { RebuiltIs how payload.now hints.now v result }
 {
     match how {

@@ -7,7 +7,7 @@ use sheet::MOST_COLUMNS;
 // The most bytes of types behind a header length of one byte.
 pub const ONE_BYTE_TYPES: usize = 126;
 
-#[derive(Drop)]
+#[derive(Clone, Copy)]
 pub enum Rebuilding {
     // No header is made up.
     NoGuesses,

@@ -1,18 +1,18 @@
 // The codes of the ways in which a header is rebuilt.
 ghost use Rattle.std.specs.Prelude.{◌≡◌};
-ghost use Rattle.rebuild.specs.Ways.{named as wayNamed, unnamed_number};
+ghost use Rattle.rebuild.specs.Ways.{named as way_named, unnamed_number};
 
 use crate::rebuilding::Rebuilding;
 use sheet::refusal::{Refusal, number};
 
-#[derive(Drop)]
+#[derive(Clone, Copy)]
 pub enum Way {
     By(Rebuilding),
     Unnamed,
 }
 
 pub fn named(code: u64) -> Way
-    ensures { result ≡ wayNamed code }
+    ensures { result ≡ way_named code }
 {
     if code == 0 {
         return Way::By(Rebuilding::NoGuesses);

@@ -101,7 +101,7 @@ pub fn next_start(
 ) -> usize
     requires payload_len_bound { (length payload.now ≤ largest_region) × (1 ≤ length hints.now) × (length hints.now ≤ most_by how) }
     requires v_le_starts { (v ≤ starts) × (starts ≤ rebuilt_starts (length payload.now) (length hints.now)) }
-    requires words_per_row_in_bounds { cells * words_per_row ≤ length rows.now }
+    requires rows_there { cells * words_per_row ≤ length rows.now }
     ensures { StartIs how payload.now hints.now rows.now k cells offset v starts result }
 {
     let Rebuilding::OneByte = how else {

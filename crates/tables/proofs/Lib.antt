@@ -1,4 +1,5 @@
 mod Callers
 mod Cases
+mod Lists
 pub mod ReadBack
 pub mod Unique

@@ -3,7 +3,7 @@ ghost use Rattle.std.specs.Prelude.{◌≡◌, false, ◌/◌, ◌≤◌, length
 ghost use Rattle.carving.specs.Calls.{width_by, leaf_hits};
 ghost use Rattle.tables.specs.Calls.{TablesPromises, asked, on_tables};
 ghost use Rattle.tables.specs.Inner.{TableReady, table_asked, table_as, walked_as, TableCarved, AllCarved, TablesCarved};
-ghost use Rattle.walk.specs.Carve.{widest as widestOf};
+ghost use Rattle.walk.specs.Carve.{widest as widest_of};
 ghost use Rattle.walk.specs.Inner.{TablesFit};
 ghost use Rattle.sheet.specs.Columns.{room_of};
 ghost use Rattle.sheet.specs.Inner.{carved_as, Carves};
@@ -19,7 +19,7 @@ use walk::inner::{Next, Pushed, begin, clear_flags, clear_stack, next_leaf};
 use walk::walk::Walked;
 
 // What carving tables came to: how many rows there are now; a row found no room; the stack overflowed, with so many rows.
-#[derive(Drop)]
+#[derive(Clone, Copy)]
 enum CarvedTable {
     On(usize),
     Full,
@@ -52,7 +52,7 @@ fn carve_leaf(
     rows: &mut [u64],
     cols: &mut [u64],
 ) -> Carved
-    requires le_p { (1 ≤ p) × (p ≤ length db.now / size) }
+    requires page_there { (1 ≤ p) × (p ≤ length db.now / size) }
     requires table_ready { TableReady how (length db.now) size (length hints.now) lent n (length rows.old) (length cols.old) }
     ensures { Carves lent.width lent.room n (leaf_hits how db.now size table hints.now p) false
         rows.old cols.old (carved_as result) rows.new cols.new }
@@ -83,7 +83,7 @@ fn carve_table(
     rows: &mut [u64],
     cols: &mut [u64],
 ) -> CarvedTable
-    requires size_in_bounds { length db.now / size ≤ length flags.old }
+    requires flag_for_each_page { length db.now / size ≤ length flags.old }
     requires table_ready { TableReady how (length db.now) size (length hints.now) lent n (length rows.old) (length cols.old) }
     ensures { TableCarved
         (table_asked how db.now size root hints.now table (length stack.old)) lent n
@@ -129,10 +129,10 @@ fn carve_each(
     rows: &mut [u64],
     cols: &mut [u64],
 ) -> CarvedTable
-    requires counts_bound { widestOf counts.now ≤ width_by how }
+    requires taken_by_mode { widest_of counts.now ≤ width_by how }
     requires tables_fit { TablesFit (length db.now) size roots.now counts.now hints.now }
-    requires size_in_bounds { length db.now / size ≤ length flags.old }
-    requires counts_bound_2 { widestOf counts.now ≤ lent.width }
+    requires flag_for_each_page { length db.now / size ≤ length flags.old }
+    requires groups_wide_enough { widest_of counts.now ≤ lent.width }
     requires room_bound { lent.room ≤ room_of (length rows.old) (length cols.old) lent.width }
     ensures { AllCarved
         (asked how db.now size roots.now counts.now hints.now
@@ -187,7 +187,7 @@ fn carve_checked(
     rows: &mut [u64],
     cols: &mut [u64],
 ) -> Walked
-    requires counts_bound { widestOf counts.now ≤ width_by how }
+    requires taken_by_mode { widest_of counts.now ≤ width_by how }
     requires tables_fit { TablesFit (length db.now) size roots.now counts.now hints.now }
     ensures { TablesCarved
         (asked how db.now size roots.now counts.now hints.now

@@ -15,7 +15,7 @@ use sheet::inner::Carved;
 use sheet::row::RowId;
 
 // A cell whose record is a row: where the record starts and ends, its row id, and the row.
-#[derive(Drop)]
+#[derive(Clone, Copy)]
 pub enum Cell {
     At {
         start: usize,

@@ -3,7 +3,7 @@ ghost use Rattle.std.specs.Prelude.{false, ◌+◌, ◌≤◌, length};
 ghost use Rattle.cells.specs.Cells.{cells_of, starts_of, start_hits, rebuilt_from};
 ghost use Rattle.cells.specs.Inner.{next_row, Standing, turn_as, GoesTo};
 ghost use Rattle.hit.specs.Inner.{Ready};
-ghost use Rattle.rebuild.specs.Header.{most_by, rebuilt as rebuiltAt};
+ghost use Rattle.rebuild.specs.Header.{most_by, rebuilt as rebuilt_at};
 ghost use Rattle.starts.specs.Starts.{rebuilt_starts};
 ghost use Rattle.starts.specs.Inner.{is_cell};
 ghost use Rattle.sheet.specs.Inner.{carved_as, Carves};
@@ -37,7 +37,7 @@ fn carve_start(
     requires ready { Ready (o + length payload.now) (length hints.now) spot lent n (length rows.old) (length cols.old) }
     ensures rows { Carves lent.width lent.room n
         (start_hits spot (length hints.now) o v (is_cell rows.old k cells (spot.base + (o + v)))
-        (rebuiltAt how payload.now hints.now v)) false rows.old cols.old (turn_as result)
+        (rebuilt_at how payload.now hints.now v)) false rows.old cols.old (turn_as result)
         rows.new cols.new }
     ensures next { GoesTo (next_row k (is_cell rows.old k cells (spot.base + (o + v)))) result }
 {

@@ -1,5 +1,5 @@
 // What one turn of a loop over a payload comes to.
-#[derive(Drop)]
+#[derive(Clone, Copy)]
 pub enum Turn {
     // Where the loop goes on, and how many rows there are.
     On { next: usize, n: usize },

@@ -13,7 +13,7 @@ use sheet::inner::Carved;
 use sheet::row::{RowId, Source};
 
 // The first start at which there is a row, and the row.
-#[derive(Drop)]
+#[derive(Clone, Copy)]
 pub enum Start {
     At { v: usize, find: Find },
     Nothing,

@@ -6,7 +6,7 @@ ghost use Rattle.sheet.specs.Limits.{largest_region};
 
 use page::inner::{block_next, block_size, first_freeblock};
 
-#[derive(Drop)]
+#[derive(Clone, Copy)]
 pub enum Counted {
     Ended(usize),
     // The chain is as long as the page, so it may go round.

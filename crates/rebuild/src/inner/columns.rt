@@ -9,7 +9,7 @@ use record::varint::{Cursor, Varint};
 // With the two bytes of its own length a header has 512.
 const MOST_TYPE_BYTES: usize = 510;
 
-#[derive(Drop)]
+#[derive(Clone, Copy)]
 pub enum Columns {
     // How many types suit, the length of all bodies, where the last type ends, and whether one is padded.
     Take {
@@ -24,7 +24,7 @@ pub enum Columns {
 
 pub fn walk_columns(payload: &[u8], hints: &[u8], v: usize) -> Columns
     requires v_in_bounds { (v ≤ length payload.now) × (length payload.now ≤ largest_region) }
-    requires in_bounds { (1 ≤ length hints.now) × (length hints.now ≤ most_columns) }
+    requires hint_count_bound { (1 ≤ length hints.now) × (length hints.now ≤ most_columns) }
     ensures { ColumnsIs payload.now hints.now v result }
 {
     let last = v + MOST_TYPE_BYTES;

@@ -1,4 +1,6 @@
 // Says what the calls answer that write no rows and walk nothing, a line a case: `answers FILE`. oracle/README.md has the formats.
+#![tactic(auto)]
+
 mod lists;
 mod values;
 
@@ -6,6 +8,7 @@ use cases::case::call;
 use cases::files::{MOST_CASES, Next, case_space, finish, open, read_case};
 use cases::line::{begin, heading};
 use cases::lists::{byte_space, fill_bytes, fill_words, word_space};
+use std::fs::File;
 use streams::Output;
 
 // The call by its number, with the list that it is lent: of bytes or of words.
@@ -37,28 +40,33 @@ fn say_case(said: Output, n: u64, case: &[u8], bytes: &mut [u8], words: &mut [u6
     said.say(b"\n")
 }
 
-fn say_cases(file: i32, case: &mut [u8], bytes: &mut [u8], words: &mut [u64]) {
-    let mut said = Output::new();
+fn say_cases(
+    rt: HostRuntime,
+    file: &mut File,
+    case: &mut [u8],
+    bytes: &mut [u8],
+    words: &mut [u64],
+) {
+    let mut said = Output::new(rt);
     let mut n = 0;
     while n < MOST_CASES {
-        let next = read_case(file, case);
+        let next = read_case(&rt, file, case);
         let Next::Case = next else {
-            finish(said, b"answers", next, n);
+            finish(rt, said, b"answers", next, n);
             return;
         };
         n = n + 1;
         said = say_case(said, n, case, bytes, words);
     }
-    finish(said, b"answers", Next::Case, n);
+    finish(rt, said, b"answers", Next::Case, n);
 }
 
-fn main() {
-    let file = open(b"answers");
-    if file < 0 {
+fn main(rt: HostRuntime) {
+    let Some(mut file) = open(rt, b"answers") else {
         return;
-    }
+    };
     let mut case = case_space();
     let mut bytes = byte_space();
     let mut words = word_space();
-    say_cases(file, &mut case, &mut bytes, &mut words);
+    say_cases(rt, &mut file, &mut case, &mut bytes, &mut words);
 }

@@ -1,4 +1,6 @@
 // Says what the calls answer that write rows and walk nothing, a line a case: `carved FILE`. oracle/README.md has the formats.
+#![tactic(auto)]
+
 mod regions;
 mod spaces;
 
@@ -6,6 +8,7 @@ use cases::case::call;
 use cases::files::{MOST_CASES, Next, case_space, finish, open, read_case};
 use cases::line::{begin, heading};
 use cases::lists::{fill_words, word_space};
+use std::fs::File;
 use streams::Output;
 
 // The call by its number.
@@ -35,28 +38,33 @@ fn say_case(said: Output, n: u64, case: &[u8], rows: &mut [u64], cols: &mut [u64
     said.say(b"\n")
 }
 
-fn say_cases(file: i32, case: &mut [u8], rows: &mut [u64], cols: &mut [u64]) {
-    let mut said = Output::new();
+fn say_cases(
+    rt: HostRuntime,
+    file: &mut File,
+    case: &mut [u8],
+    rows: &mut [u64],
+    cols: &mut [u64],
+) {
+    let mut said = Output::new(rt);
     let mut n = 0;
     while n < MOST_CASES {
-        let next = read_case(file, case);
+        let next = read_case(&rt, file, case);
         let Next::Case = next else {
-            finish(said, b"carved", next, n);
+            finish(rt, said, b"carved", next, n);
             return;
         };
         n = n + 1;
         said = say_case(said, n, case, rows, cols);
     }
-    finish(said, b"carved", Next::Case, n);
+    finish(rt, said, b"carved", Next::Case, n);
 }
 
-fn main() {
-    let file = open(b"carved");
-    if file < 0 {
+fn main(rt: HostRuntime) {
+    let Some(mut file) = open(rt, b"carved") else {
         return;
-    }
+    };
     let mut case = case_space();
     let mut rows = word_space();
     let mut cols = word_space();
-    say_cases(file, &mut case, &mut rows, &mut cols);
+    say_cases(rt, &mut file, &mut case, &mut rows, &mut cols);
 }

@@ -1,16 +1,17 @@
 // Lists the rows of a region on standard input: two bytes say how many hints there are, then come their codes, then the region.
+#![tactic(auto)]
+
 ghost use Rattle.std.specs.Prelude.{◌≡◌, ◌+◌, ◌≤◌, length};
 ghost use Rattle.listing.specs.Input.{largest_input, hints_of, region_of, Taken};
 ghost use Rattle.listing.specs.Part.{totals_of, parts_of};
 ghost use Rattle.sheet.specs.Limits.{most_columns};
 
-use libc::{STDERR_FILENO, STDIN_FILENO};
 use listing::input::{COUNT_BYTES, LARGEST_INPUT, count_of, judge};
 use listing::part::{Totals, col_space, list_part, row_space, text_space};
 use listing::text::{put_heading, put_refusal, put_totals};
 use scan::schema_sig::Scanned;
 use sheet::refusal::{Checked, Refusal};
-use streams::{Got, Output, read_whole, write_whole};
+use streams::{Got, Output, fail, has_word, read_whole, say_aside};
 
 // One byte more than is taken, which tells a longer input.
 const INPUT_SPACE: usize = LARGEST_INPUT + 1;
@@ -33,39 +34,41 @@ fn say_totals(out: Output, total: Totals) -> Output {
     out.say(&text[..n])
 }
 
-fn say_aside(text: &[u8]) {
-    write_whole(STDERR_FILENO, text);
-}
-
-fn say_reads() {
+fn say_reads(rt: HostRuntime) {
     say_aside(
+        rt,
         b" reads from standard input: how many columns, in two bytes, high byte first; a hint code for each; ",
     );
-    say_aside(b"and the region; 65,536 bytes in all at the most\n");
+    say_aside(rt, b"and the region; 65,536 bytes in all at the most\n");
 }
 
 // What the number means here; `judge` gives these three.
-fn say_meaning(refusal: Refusal) {
+fn say_meaning(rt: HostRuntime, refusal: Refusal) {
     match refusal {
         Refusal::ColumnCount => say_aside(
+            rt,
             b"carvelist: refusal 1: the first two bytes are no count of columns from 1 to 510; it",
         ),
         Refusal::Malformed => say_aside(
+            rt,
             b"carvelist: refusal 2: behind the count a hint code is missing, or above 5; it",
         ),
-        _ => say_aside(b"carvelist: refusal 3: there are more than 65,536 bytes; it"),
+        _ => say_aside(
+            rt,
+            b"carvelist: refusal 3: there are more than 65,536 bytes; it",
+        ),
     }
-    say_reads();
+    say_reads(rt);
 }
 
-fn say_refusal(out: Output, refusal: Refusal) -> Output {
-    say_meaning(refusal);
+fn say_refusal(rt: HostRuntime, out: Output, refusal: Refusal) -> Output {
+    say_meaning(rt, refusal);
     let mut text = text_space();
     let n = put_refusal(&mut text, refusal);
     out.say(&text[..n])
 }
 
-#[derive(Drop)]
+#[derive(Clone, Copy)]
 struct Listed {
     out: Output,
     total: Totals,
@@ -124,30 +127,30 @@ fn region_of(input: &[u8]) -> &[u8]
     &input[start..]
 }
 
-fn say_answer(out: Output, input: &[u8]) -> Output {
+fn say_answer(rt: HostRuntime, out: Output, input: &[u8]) -> Output {
     match judge(input) {
-        Checked::Refused(refusal) => say_refusal(out, refusal),
+        Checked::Refused(refusal) => say_refusal(rt, out, refusal),
         Checked::Passed => say_list(out, region_of(input), hints_of(input)),
     }
 }
 
-fn say_usage() {
-    say_aside(b"carvelist: takes no words, and");
-    say_reads();
+fn say_usage(rt: HostRuntime) {
+    say_aside(rt, b"carvelist: takes no words, and");
+    say_reads(rt);
 }
 
-fn answer(input: &[u8]) {
-    say_answer(Output::new(), input).end(b"carvelist: standard output");
+fn answer(rt: HostRuntime, input: &[u8]) {
+    say_answer(rt, Output::new(rt), input).end(b"carvelist: standard output");
 }
 
-fn main() {
-    if os::arg_count() > 1 {
-        say_usage();
+fn main(rt: HostRuntime) {
+    if has_word(&rt, 1) {
+        say_usage(rt);
         return;
     }
     let mut space = input_space();
-    match read_whole(STDIN_FILENO, &mut space) {
-        Got::Bytes(n) => answer(&space[..n]),
-        Got::Failed => os::fail(b"carvelist: standard input"),
+    match read_whole(&rt, &mut rt.stdin(), &mut space) {
+        Got::Bytes(n) => answer(rt, &space[..n]),
+        Got::Failed(error) => fail(rt, b"carvelist: standard input", error),
     }
 }

@@ -3,7 +3,6 @@
 use Rattle.std.specs.Prelude.{◌≡◌, ℕ, zero, suc, ◌+◌, ◌*◌, ◌/◌, ◌%◌, ◌^◌, min, Bool, false, cond, List, [], ◌∷◌, ◌++◌, length, take, ◌==◌, bit_xor, slice_index}
 use Rattle.cases.specs.Layout.{word_at}
 use Rattle.cases.specs.declared.lists.Cells.{Cells}
-use Rattle.cases.specs.declared.lists.Cells.TheVariants as Cells
 use Rattle.sheet.specs.Limits.{words_per_row, words_per_entry}
 
 abbrev pub fresh_word : ℕ → ℕ

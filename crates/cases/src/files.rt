@@ -2,14 +2,18 @@
 ghost use Rattle.std.specs.Prelude.{◌≡◌, length};
 
 use crate::case::{CASE, HEAD, is_whole, size};
-use libc::STDERR_FILENO;
-use streams::{Got, Output, read_whole, write_whole};
+use std::env::Env;
+use std::fs::File;
+use std::io::{Error, Read};
+use std::str;
+use std::time::Clock;
+use streams::{Got, Output, fail, has_word, read_whole, say_aside};
 
 // A longer file is not read to its end, and the program says so.
 pub const MOST_CASES: u64 = 1_000_000;
 
 // What came of reading a case.
-#[derive(Drop)]
+#[derive(Clone, Copy)]
 pub enum Next {
     Case,
     // The file ends here,
@@ -17,7 +21,7 @@ pub enum Next {
     // or in a case, or with a head that no case has.
     Broken,
     // It could not be read any further.
-    Failed,
+    Failed(Error),
 }
 
 pub fn case_space() -> [u8; CASE]
@@ -26,37 +30,50 @@ pub fn case_space() -> [u8; CASE]
     [0; CASE]
 }
 
-fn complain(program: &[u8], text: &[u8]) {
-    write_whole(STDERR_FILENO, program);
-    write_whole(STDERR_FILENO, text);
+fn complain(rt: HostRuntime, program: &[u8], text: &[u8]) {
+    say_aside(rt, program);
+    say_aside(rt, text);
 }
 
-fn complain_of(program: &[u8], text: &[u8], n: u64) {
-    complain(program, text);
-    io::print_decimal(STDERR_FILENO, n);
-    write_whole(STDERR_FILENO, b"\n");
+fn complain_of(rt: HostRuntime, program: &[u8], text: &[u8], n: u64) {
+    complain(rt, program, text);
+    let mut digits = [0u8; 20];
+    let k = io::decimal(n, &mut digits);
+    say_aside(rt, &digits[..k]);
+    say_aside(rt, b"\n");
 }
 
-// The file that the program's one word names, or -1, and then it was said why.
-pub fn open(program: &[u8]) -> i32 {
-    if os::arg_count() != 2 {
-        complain(program, b": name one file of cases: ");
-        complain(program, b" FILE\n");
-        return -1;
+fn has_one_word(rt: HostRuntime) -> bool {
+    has_word(&rt, 1) && !has_word(&rt, 2)
+}
+
+// The file that the program's one word names, or none, and then it was said why.
+pub fn open(rt: HostRuntime, program: &[u8]) -> Option<File> {
+    if !has_one_word(rt) {
+        complain(rt, program, b": name one file of cases: ");
+        complain(rt, program, b" FILE\n");
+        return None;
     }
-    let mut path = io::buffer();
-    let n = os::arg(1, &mut path);
-    let file = os::open_read(&path[..n]);
-    if file < 0 {
-        os::fail(&path[..n]);
+    let mut word = io::buffer();
+    let n = rt.arg(1, &mut word).unwrap_or(0);
+    let Ok(path) = str::from_utf8(&word[..n]) else {
+        complain(rt, program, b": the name of the file is not UTF-8\n");
+        return None;
+    };
+    match File::open(&rt, path) {
+        Ok(file) => Some(file),
+        Err(error) => {
+            fail(rt, path.as_bytes(), error);
+            None
+        }
     }
-    file
 }
 
 // Fills the space; the file may end before its first byte.
-fn read_part(file: i32, space: &mut [u8]) -> Next {
-    let Got::Bytes(n) = read_whole(file, space) else {
-        return Next::Failed;
+fn read_part(clock: &impl Clock, file: &mut impl Read, space: &mut [u8]) -> Next {
+    let n = match read_whole(clock, file, space) {
+        Got::Bytes(n) => n,
+        Got::Failed(error) => return Next::Failed(error),
     };
     if n == space.len() {
         return Next::Case;
@@ -68,14 +85,14 @@ fn read_part(file: i32, space: &mut [u8]) -> Next {
 }
 
 // What stands behind the head.
-fn read_rest(file: i32, case: &mut [u8], size: usize) -> Next {
+fn read_rest(clock: &impl Clock, file: &mut impl Read, case: &mut [u8], size: usize) -> Next {
     if size > case.len() {
         return Next::Broken;
     }
     if size < HEAD {
         return Next::Broken;
     }
-    let rest = read_part(file, &mut case[HEAD..size]);
+    let rest = read_part(clock, file, &mut case[HEAD..size]);
     let Next::End = rest else {
         return rest;
     };
@@ -83,11 +100,11 @@ fn read_rest(file: i32, case: &mut [u8], size: usize) -> Next {
 }
 
 // The next case, at the front of the space.
-pub fn read_case(file: i32, case: &mut [u8]) -> Next {
+pub fn read_case(clock: &impl Clock, file: &mut impl Read, case: &mut [u8]) -> Next {
     if case.len() < HEAD {
         return Next::Broken;
     }
-    let head = read_part(file, &mut case[..HEAD]);
+    let head = read_part(clock, file, &mut case[..HEAD]);
     let Next::Case = head else {
         return head;
     };
@@ -95,31 +112,36 @@ pub fn read_case(file: i32, case: &mut [u8]) -> Next {
         return Next::Broken;
     }
     let size = size(case);
-    read_rest(file, case, size)
+    read_rest(clock, file, case, size)
 }
 
 // Why no case comes behind the first n, where that is worth a word.
-fn tell(program: &[u8], next: Next, n: u64) {
+fn tell(rt: HostRuntime, program: &[u8], next: Next, n: u64) {
     match next {
-        Next::Case => complain_of(program, b": the cases are not read further than case ", n),
-        Next::Broken => complain_of(program, b": the cases break off behind case ", n),
-        Next::Failed => {
-            complain(program, b": ");
-            os::fail(b"the file of cases");
+        Next::Case => complain_of(
+            rt,
+            program,
+            b": the cases are not read further than case ",
+            n,
+        ),
+        Next::Broken => complain_of(rt, program, b": the cases break off behind case ", n),
+        Next::Failed(error) => {
+            complain(rt, program, b": ");
+            fail(rt, b"the file of cases", error);
         }
         Next::End => {
             if n == 0 {
-                complain(program, b": there is no case\n");
+                complain(rt, program, b": there is no case\n");
             }
         }
     }
 }
 
 // What is said at the end, on standard error.
-pub fn finish(said: Output, program: &[u8], next: Next, n: u64) {
-    tell(program, next, n);
+pub fn finish(rt: HostRuntime, said: Output, program: &[u8], next: Next, n: u64) {
+    tell(rt, program, next, n);
     if !said.whole {
-        complain(program, b": ");
+        complain(rt, program, b": ");
     }
     said.end(b"standard output");
 }

@@ -23,7 +23,7 @@ pub fn byte_space() -> [u8; CELLS]
 }
 
 // What the cells of a list are.
-#[derive(Drop)]
+#[derive(Clone, Copy)]
 pub enum Cells {
     Bytes,
     Words,

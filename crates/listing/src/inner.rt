@@ -27,8 +27,8 @@ fn put_type(out: &mut [u8], at: usize, k: usize, kind: u64) -> usize
 
 // The types of the `width` entries whose words start at `group`.
 fn put_types(out: &mut [u8], at: usize, cols: &[u64], group: usize, width: usize) -> usize
-    requires width_in_bounds { at + most_field * width ≤ length out.old }
-    requires width_in_bounds_2 { group + words_per_entry * width ≤ length cols.now }
+    requires room_for_text { at + most_field * width ≤ length out.old }
+    requires entries_there { group + words_per_entry * width ≤ length cols.now }
     ensures put { Put out.old at (types_text cols.now group width) out.new result }
     ensures near { result ≤ at + most_field * width }
 {
@@ -44,7 +44,7 @@ fn put_types(out: &mut [u8], at: usize, cols: &[u64], group: usize, width: usize
 // Offset, bytes consumed and confidence of the row n.
 fn put_numbers(out: &mut [u8], at: usize, rows: &[u64], n: usize) -> usize
     requires most_numbers_in_bounds { at + most_numbers ≤ length out.old }
-    requires words_per_row_in_bounds { n * words_per_row + words_per_row ≤ length rows.now }
+    requires rows_there { n * words_per_row + words_per_row ≤ length rows.now }
     ensures put { Put out.old at (numbers_text rows.now n) out.new result }
     ensures near { result ≤ at + most_numbers }
 {
@@ -57,9 +57,9 @@ fn put_numbers(out: &mut [u8], at: usize, rows: &[u64], n: usize) -> usize
 
 // The line of the row n of both lists.
 fn put_line(out: &mut [u8], at: usize, rows: &[u64], cols: &[u64], width: usize, n: usize) -> usize
-    requires width_in_bounds { at + most_line width ≤ length out.old }
-    requires words_per_row_in_bounds { n * words_per_row + words_per_row ≤ length rows.now }
-    requires width_in_bounds_2 { n * (words_per_entry * width) + words_per_entry * width ≤ length cols.now }
+    requires room_for_text { at + most_line width ≤ length out.old }
+    requires rows_there { n * words_per_row + words_per_row ≤ length rows.now }
+    requires entries_there { n * (words_per_entry * width) + words_per_entry * width ≤ length cols.now }
     ensures put { Put out.old at (line_text rows.now cols.now width n) out.new result }
     ensures near { result ≤ at + most_line width }
 {
@@ -70,9 +70,9 @@ fn put_line(out: &mut [u8], at: usize, rows: &[u64], cols: &[u64], width: usize,
 
 // The lines of the first `count` rows of both lists.
 pub fn put_rows(out: &mut [u8], rows: &[u64], cols: &[u64], width: usize, count: usize) -> usize
-    requires width_in_bounds { count * most_line width ≤ length out.old }
-    requires words_per_row_in_bounds { count * words_per_row ≤ length rows.now }
-    requires width_in_bounds_2 { count * (words_per_entry * width) ≤ length cols.now }
+    requires room_for_text { count * most_line width ≤ length out.old }
+    requires rows_there { count * words_per_row ≤ length rows.now }
+    requires entries_there { count * (words_per_entry * width) ≤ length cols.now }
     ensures put { Put out.old 0 (rows_text rows.now cols.now width count) out.new result }
     ensures near { result ≤ count * most_line width }
 {

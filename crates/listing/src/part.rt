@@ -36,13 +36,13 @@ pub fn text_space() -> [u8; TEXT_BYTES]
     [0; TEXT_BYTES]
 }
 
-#[derive(Drop)]
+#[derive(Clone, Copy)]
 pub struct Totals {
     pub rows: u64,
     pub read: u64,
 }
 
-#[derive(Drop)]
+#[derive(Clone, Copy)]
 pub struct Part {
     pub found: Scanned,
     // How long its text is.

@@ -1,10 +1,11 @@
 // Shows the record on standard input: its header's length, then the type and the value of each column.
+#![tactic(auto)]
+
 ghost use Rattle.std.specs.Prelude.{◌≡◌, ◌≤◌, nat_abs, length};
 
-use libc::{STDERR_FILENO, STDIN_FILENO};
 use record::record::{Decoded, Value, decode_serial_type};
 use record::varint::{Cursor, Varint};
-use streams::{Got, Output, read_whole, write_whole};
+use streams::{Got, Output, fail, has_word, read_whole, say_aside};
 
 // As much as a row may be long, and a byte more, which tells a longer input.
 const LONGEST: usize = 65_536;
@@ -60,7 +61,7 @@ fn say_value(out: Output, value: Value, bytes: &[u8], start: usize, end: usize) 
     }
 }
 
-#[derive(Drop)]
+#[derive(Clone, Copy)]
 struct Column {
     out: Output,
     // Where the next one's body starts.
@@ -120,33 +121,35 @@ fn say_record(out: Output, bytes: &[u8]) -> Output {
     say_columns(out, bytes, next.at, header as usize)
 }
 
-fn warn(text: &[u8]) {
-    write_whole(STDERR_FILENO, text);
+fn say_usage(rt: HostRuntime) {
+    say_aside(
+        rt,
+        b"readrecord: takes no words, and reads one record from standard input\n",
+    );
 }
 
-fn say_usage() {
-    warn(b"readrecord: takes no words, and reads one record from standard input\n");
-}
-
-fn answer(bytes: &[u8]) {
+fn answer(rt: HostRuntime, bytes: &[u8]) {
     if bytes.len() > LONGEST {
-        warn(b"readrecord: standard input: longer than 65,536 bytes\n");
+        say_aside(
+            rt,
+            b"readrecord: standard input: longer than 65,536 bytes\n",
+        );
         return;
     }
     if bytes.len() == 0 {
-        say_usage();
+        say_usage(rt);
     }
-    say_record(Output::new(), bytes).end(b"readrecord: standard output");
+    say_record(Output::new(rt), bytes).end(b"readrecord: standard output");
 }
 
-fn main() {
-    if os::arg_count() > 1 {
-        say_usage();
+fn main(rt: HostRuntime) {
+    if has_word(&rt, 1) {
+        say_usage(rt);
         return;
     }
     let mut space = space();
-    match read_whole(STDIN_FILENO, &mut space) {
-        Got::Bytes(n) => answer(&space[..n]),
-        Got::Failed => os::fail(b"readrecord: standard input"),
+    match read_whole(&rt, &mut rt.stdin(), &mut space) {
+        Got::Bytes(n) => answer(rt, &space[..n]),
+        Got::Failed(error) => fail(rt, b"readrecord: standard input", error),
     }
 }

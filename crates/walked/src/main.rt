@@ -1,10 +1,13 @@
 // Says what the calls answer that walk a database, a line a case: `walked FILE`. oracle/README.md has the formats.
+#![tactic(auto)]
+
 mod walks;
 
 use cases::case::call;
 use cases::files::{MOST_CASES, Next, case_space, finish, open, read_case};
 use cases::line::{begin, heading};
 use cases::lists::{byte_space, fill_bytes, fill_words, word_space};
+use std::fs::File;
 use streams::Output;
 
 // The call by its number, with the lists that it is lent.
@@ -53,39 +56,40 @@ fn say_case(
 }
 
 fn say_cases(
-    file: i32,
+    rt: HostRuntime,
+    file: &mut File,
     case: &mut [u8],
     flags: &mut [u8],
     stack: &mut [u64],
     first: &mut [u64],
     second: &mut [u64],
 ) {
-    let mut said = Output::new();
+    let mut said = Output::new(rt);
     let mut n = 0;
     while n < MOST_CASES {
-        let next = read_case(file, case);
+        let next = read_case(&rt, file, case);
         let Next::Case = next else {
-            finish(said, b"walked", next, n);
+            finish(rt, said, b"walked", next, n);
             return;
         };
         n = n + 1;
         said = say_case(said, n, case, flags, stack, first, second);
     }
-    finish(said, b"walked", Next::Case, n);
+    finish(rt, said, b"walked", Next::Case, n);
 }
 
-fn main() {
-    let file = open(b"walked");
-    if file < 0 {
+fn main(rt: HostRuntime) {
+    let Some(mut file) = open(rt, b"walked") else {
         return;
-    }
+    };
     let mut case = case_space();
     let mut flags = byte_space();
     let mut stack = word_space();
     let mut first = word_space();
     let mut second = word_space();
     say_cases(
-        file,
+        rt,
+        &mut file,
         &mut case,
         &mut flags,
         &mut stack,

@@ -4,7 +4,7 @@ ghost use Rattle.std.specs.Prelude.{◌≡◌, length};
 ghost use Rattle.carving.specs.Calls.{slice_asked, slice_filling, numbered_asked, numbered_filling};
 ghost use Rattle.carving.specs.declared.inner.Carving.TheVariants.{Gaps, Payload};
 ghost use Rattle.phsarodil.specs.Returns.{row_return, filled_rows, refused_rows, tables_return, carved_tables, refused_tables};
-ghost use Rattle.rebuild.specs.Ways.{named as wayNamed, by_name, unnamed_number};
+ghost use Rattle.rebuild.specs.Ways.{named as way_named, by_name, unnamed_number};
 ghost use Rattle.sheet.specs.Limits.{count_fits};
 ghost use Rattle.tables.specs.Calls.{asked};
 ghost use Rattle.walk.specs.Carve.{counts_fit};
@@ -30,7 +30,7 @@ pub extern "C" fn phs_scan_page_gaps(
     out: &mut [u64; 1],
 ) -> u64
     ensures { tables_return result out.new flags.new stack.new rows.new cols.new
-        ≡ by_name (wayNamed rebuilding) (λ how. carved_tables
+        ≡ by_name (way_named rebuilding) (λ how. carved_tables
         (asked (Gaps how) db.now size roots.now counts.now hints.now
         flags.old stack.old rows.old cols.old))
         (refused_tables (unnamed_number (counts_fit counts.now)) flags.old stack.old
@@ -59,7 +59,7 @@ pub extern "C" fn phs_scan_page_gap(
     out: &mut [u64; 1],
 ) -> u64
     ensures { row_return result out.new rows.new cols.new
-        ≡ by_name (wayNamed rebuilding) (λ how. filled_rows (numbered_filling
+        ≡ by_name (way_named rebuilding) (λ how. filled_rows (numbered_filling
         (numbered_asked (Gaps how) db.now size page hints.now rows.old cols.old)))
         (refused_rows (unnamed_number (count_fits (length hints.now))) rows.old cols.old) }
 {
@@ -84,7 +84,7 @@ pub extern "C" fn phs_scan_single_page_gap(
     out: &mut [u64; 1],
 ) -> u64
     ensures { row_return result out.new rows.new cols.new
-        ≡ by_name (wayNamed rebuilding) (λ how. filled_rows (slice_filling
+        ≡ by_name (way_named rebuilding) (λ how. filled_rows (slice_filling
         (slice_asked (Gaps how) page.now head base hints.now rows.old cols.old)))
         (refused_rows (unnamed_number (count_fits (length hints.now))) rows.old cols.old) }
 {
@@ -108,7 +108,7 @@ pub extern "C" fn phs_parse_cells_from_freeblock(
     out: &mut [u64; 1],
 ) -> u64
     ensures { row_return result out.new rows.new cols.new
-        ≡ by_name (wayNamed rebuilding) (λ how. filled_rows (slice_filling
+        ≡ by_name (way_named rebuilding) (λ how. filled_rows (slice_filling
         (slice_asked (Payload how) payload.now 0 base hints.now rows.old cols.old)))
         (refused_rows (unnamed_number (count_fits (length hints.now))) rows.old cols.old) }
 {

@@ -1,5 +1,7 @@
 // The C door: every public call under a plain name, over numbers and lent memory alone. A call returns the paper's
 // refusal number, 0 for none, and writes the rest of its answer into `out` as words. include/phsarodil.h is its outside.
+#![tactic(auto)]
+
 pub mod block;
 pub mod freeblocks;
 pub mod gaps;

@@ -1,17 +1,19 @@
 // Statements and pattern search: calls that fill one list.
 ghost use Rattle.std.specs.Prelude.{◌≡◌};
-ghost use Rattle.column.specs.declared.piece.Reading.TheVariants.{AsRust, ByFormat};
+ghost use Rattle.column.specs.declared.piece.Reading.TheVariants.{ByFormat};
 ghost use Rattle.phsarodil.specs.Returns.{list_return, filled_list};
+ghost use Rattle.readings.specs.Statement.{statement_filling as reading_filling};
 ghost use Rattle.search.specs.Search.{search_filling};
 ghost use Rattle.statement.specs.Statement.{statement_filling};
 
+use readings::statement::column_hints;
 use search::search::boyer_moore_search;
-use statement::statement::{column_hints, from_create_sql};
+use statement::statement::from_create_sql;
 
 #[unsafe(no_mangle)]
 pub extern "C" fn phs_column_hints(statement: &[u8], hints: &mut [u8], out: &mut [u64; 1]) -> u64
     ensures { list_return result out.new hints.new ≡ filled_list
-        (statement_filling ByFormat statement.now hints.old) }
+        (reading_filling ByFormat statement.now hints.old) }
 {
     let hinted = column_hints(statement, hints);
     *out = [hinted.written()];
@@ -21,7 +23,7 @@ pub extern "C" fn phs_column_hints(statement: &[u8], hints: &mut [u8], out: &mut
 #[unsafe(no_mangle)]
 pub extern "C" fn phs_from_create_sql(statement: &[u8], hints: &mut [u8], out: &mut [u64; 1]) -> u64
     ensures { list_return result out.new hints.new ≡ filled_list
-        (statement_filling AsRust statement.now hints.old) }
+        (statement_filling statement.now hints.old) }
 {
     let hinted = from_create_sql(statement, hints);
     *out = [hinted.written()];

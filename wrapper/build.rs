@@ -1,4 +1,4 @@
-//! Links libphsarodil.a: from the folder that PHSARODIL_LIB names, or else from where `rt staticlib` writes it.
+//! Links libphsarodil.a: from the folder that PHSARODIL_LIB names, or else from where tools/archive writes it.
 
 use std::path::PathBuf;
 use std::{env, process};
@@ -21,7 +21,7 @@ fn main() {
     }
     if !archive.is_file() {
         fail(&format!(
-            "{} is not there. Make it with `rt staticlib phsarodil` at the repository's top,\n\
+            "{} is not there. Make it with tools/archive at the repository's top,\n\
              or set PHSARODIL_LIB to the folder that holds libphsarodil.a",
             archive.display()
         ));

@@ -4,7 +4,7 @@
  * PRIMARY KEY, which a record stores as NULL; or it is the table's CREATE TABLE statement. PAGE is the page size where the file's
  * header does not name it. From the repository's top:
  *
- *     rt staticlib phsarodil
+ *     tools/archive
  *     cc -Wall -Wextra -std=c99 -O2 -Iinclude -o carve examples/c/carve.c target/staticlib/libphsarodil.a
  *     ./carve tablet.db TRIT
  *     cp tablet.db copy.db

@@ -5,7 +5,7 @@ mod file;
 mod line;
 mod program;
 
-use crate::calls::{self, rebuilding, Given, BLOCK, GAPS, LEAVES, RECOVER};
+use crate::calls::{self, rebuilding, Given, BLOCK, COLUMN_HINTS, GAPS, LEAVES, RECOVER};
 use crate::case::Case;
 use crate::cases::worked::{self, Worked};
 use crate::cases::{self, limits, regions, telling, Plan};
@@ -55,9 +55,13 @@ struct Recorder {
 
 impl Sink for Recorder {
     fn put(&mut self, case: Case) {
-        if self.fails.is_empty() && has_room(&case) && (self.keep_all || self.wanted(&case)) {
+        if self.fails.is_empty() && records(case.call) && has_room(&case) && (self.keep_all || self.wanted(&case)) {
             self.take("", &case);
         }
+    }
+
+    fn wants_by_format(&self) -> bool {
+        records(COLUMN_HINTS)
     }
 }
 
@@ -122,6 +126,7 @@ impl Recorder {
     fn work(&mut self, part: Worked) {
         match part {
             Worked::Heading(name) => self.head(&name),
+            Worked::Case { case, .. } if !records(case.call) => {}
             Worked::Case { name, case } => {
                 let name = with_line(&name, &case);
                 if !file::fits(&name, &case) {
@@ -139,6 +144,12 @@ impl Recorder {
         }
         Ok(())
     }
+}
+
+/// Whether the answers of a call are recorded. The reading of statements by the format is held against the rules in a run alone, so that
+/// what is stored stays as it was before that call.
+pub fn records(call: u8) -> bool {
+    call != COLUMN_HINTS
 }
 
 fn walks(case: &Case) -> bool {

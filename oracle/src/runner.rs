@@ -18,6 +18,11 @@ use std::{io, slice};
 /// Where generated cases go.
 pub trait Sink {
     fn put(&mut self, case: Case);
+
+    /// Whether statements come here that are made up for the reading by the format.
+    fn wants_by_format(&self) -> bool {
+        true
+    }
 }
 
 /// A batch is answered when it has so many cases, or cases of so many bytes and cells.

@@ -32,30 +32,30 @@ COUNTS = [
     (PROMISES, r"The paper's (\w+) modules", "modules of the table"),
     (PROMISES, r"a scan into lists of ([\d,]+) and", "words for the rows of a part"),
     (PROMISES, r"and ([\d,]+) words from a start on", "words for the entries of a part"),
-    (PROMISES, r"the row's (\w+) words", "sheet.wordsPerRow"),
-    (RULES, r"A row is (\w+) words", "sheet.wordsPerRow"),
-    (RULES, r"An entry is (\w+) words", "sheet.wordsPerEntry"),
-    (PROMISES, r"an attempt has at most (\d+) header places", "attempt.mostPlaces"),
-    (HEADER, r"PHS_WORDS_PER_ROW (\d+)", "sheet.wordsPerRow"),
-    (HEADER, r"PHS_WORDS_PER_ENTRY (\d+)", "sheet.wordsPerEntry"),
-    (HEADER, r"PHS_MOST_COLUMNS (\d+)", "sheet.mostColumns"),
-    (HEADER, r"PHS_MOST_ONE_BYTE_COLUMNS (\d+)", "rebuild.oneByteTypes"),
-    (HEADER, r"PHS_LARGEST_REGION (\d+)", "sheet.largestRegion"),
-    (HEADER, r"PHS_LARGEST_STATEMENT (\d+)", "sheet.largestStatement"),
-    (HEADER, r"PHS_MOST_TABLES (\d+)", "sheet.mostTables"),
-    (HEADER, r"PHS_MOST_LEARNED (\d+)", "sheet.mostRows"),
-    (HEADER, r"PHS_VERSION (\d+)", "phsarodil.doorVersion"),
-    (r"wrapper/src/\w+\.rs", r"const VERSION: u64 = (\d+)", "phsarodil.doorVersion"),
-    (r"wrapper/src/\w+\.rs", r"const ROW_WORDS: usize = (\d+)", "sheet.wordsPerRow"),
-    (r"wrapper/src/\w+\.rs", r"const ENTRY_WORDS: usize = (\d+)", "sheet.wordsPerEntry"),
-    (r"oracle/src/rules/\w+\.rs", r"const WORDS_PER_ROW: usize = (\d+)", "sheet.wordsPerRow"),
-    (r"oracle/src/rules/\w+\.rs", r"const WORDS_PER_ENTRY: usize = (\d+)", "sheet.wordsPerEntry"),
+    (PROMISES, r"the row's (\w+) words", "sheet.words_per_row"),
+    (RULES, r"A row is (\w+) words", "sheet.words_per_row"),
+    (RULES, r"An entry is (\w+) words", "sheet.words_per_entry"),
+    (PROMISES, r"an attempt has at most (\d+) header places", "attempt.most_places"),
+    (HEADER, r"PHS_WORDS_PER_ROW (\d+)", "sheet.words_per_row"),
+    (HEADER, r"PHS_WORDS_PER_ENTRY (\d+)", "sheet.words_per_entry"),
+    (HEADER, r"PHS_MOST_COLUMNS (\d+)", "sheet.most_columns"),
+    (HEADER, r"PHS_MOST_ONE_BYTE_COLUMNS (\d+)", "rebuild.one_byte_types"),
+    (HEADER, r"PHS_LARGEST_REGION (\d+)", "sheet.largest_region"),
+    (HEADER, r"PHS_LARGEST_STATEMENT (\d+)", "sheet.largest_statement"),
+    (HEADER, r"PHS_MOST_TABLES (\d+)", "sheet.most_tables"),
+    (HEADER, r"PHS_MOST_LEARNED (\d+)", "sheet.most_rows"),
+    (HEADER, r"PHS_VERSION (\d+)", "phsarodil.door_version"),
+    (r"wrapper/src/\w+\.rs", r"const VERSION: u64 = (\d+)", "phsarodil.door_version"),
+    (r"wrapper/src/\w+\.rs", r"const ROW_WORDS: usize = (\d+)", "sheet.words_per_row"),
+    (r"wrapper/src/\w+\.rs", r"const ENTRY_WORDS: usize = (\d+)", "sheet.words_per_entry"),
+    (r"oracle/src/rules/\w+\.rs", r"const WORDS_PER_ROW: usize = (\d+)", "sheet.words_per_row"),
+    (r"oracle/src/rules/\w+\.rs", r"const WORDS_PER_ENTRY: usize = (\d+)", "sheet.words_per_entry"),
 ]
 # Where refusals have their numbers beside rule 1.1, and how a line of them is written.
 REFUSALS = {
     HEADER: r"^    PHS_([A-Z_]+) = ([1-9]\d*)",
     "wrapper/src/refusal.rs": r"^    (\w+) = (\d+),$",
-    "crates/sheet/specs/Refusal.antt": r"^refusalNumber (\w+) = (\d+)$",
+    "crates/sheet/specs/Refusal.antt": r"^refusal_number (\w+) = (\d+)$",
 }
 HEAD, CALL, NAME, SIZE, RUST = 160, 0, 72, 112, 152  # bytes of a stored case's head, and where its words stand
 SMALL = ("zero one two three four five six seven eight nine ten "
@@ -117,8 +117,8 @@ def counted(tree):
         "cases with the Rust in the table of calls": sum_of(tree, DIFFERENCES, "With the Rust"),
         "calls of the C interface that answer": len(calls) - 1,  # all but phs_version
         "modules of the table": sum(len(quoted(row["Module"])) for _, row in column(tree, PROMISES, "Module")),
-        "words for the rows of a part": numbers["listing.partRows"] * numbers["sheet.wordsPerRow"],
-        "words for the entries of a part": numbers["listing.partRows"] * numbers["sheet.wordsPerEntry"] * numbers["sheet.mostColumns"],
+        "words for the rows of a part": numbers["listing.part_rows"] * numbers["sheet.words_per_row"],
+        "words for the entries of a part": numbers["listing.part_rows"] * numbers["sheet.words_per_entry"] * numbers["sheet.most_columns"],
     }
 
 

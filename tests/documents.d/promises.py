@@ -9,7 +9,9 @@ from tree import crate_of, line_of, lines_of, quoted
 PROMISES, LOOSE, HEADER = "docs/PROMISES.md", "docs/LOOSE.md", "include/phsarodil.h"
 # The crates of which each function is promised by its name, with all that they rest on. The others are programs, tests and their parts.
 LIBRARY = {"phsarodil", "listing"}
-READS = re.compile(r"^use Rattle·(\w+)·proofs\.proofs\.([\w.]+)\.Reads as (\S+)$", re.M)
+# The crate of the archive, which has the calls of the other once more.
+ARCHIVE, CALLS = "phsarodil_c", "phsarodil"
+READS = re.compile(r"^use Rattle\.(\w+)\.proofs\.([\w.]+)\.Reads as (\S+)$", re.M)
 CLAIM = re.compile(r"^\S.* : (?:Fixes|FixesSeen) (\S+)\.Post\b(.*(?:\n    .*)*)", re.M)
 
 
@@ -51,9 +53,9 @@ def check_edits_apply(tree):
 
 
 def public(tree):
-    """The public functions of all crates but programs: those that docs/LOOSE.md names as such, and says why."""
+    """The public functions of all crates but the archive and programs: those that docs/LOOSE.md names as such, and says why."""
     programs = re.search(r"^\*\*Programs\.\*\*.*?(?=\n\n|\Z)", tree.files[LOOSE], re.S | re.M)
-    return functions(tree, set(tree.crates) - set(quoted(programs[0] if programs else "")))
+    return functions(tree, set(tree.crates) - {ARCHIVE} - set(quoted(programs[0] if programs else "")))
 
 
 def calls(tree):
@@ -83,8 +85,8 @@ def claims(text):
     paths = {alias: (crate, *path.split(".")) for crate, path, alias in READS.findall(text)}
     for alias, seen in CLAIM.findall(text):
         body = seen.partition("λ k r s.")[2] or "r"
-        places = {len(steps) // 3 for steps in re.findall(r"now \(s((?: \.1)*) \.0\)", body)}
-        fixed.setdefault(paths.get(alias), set()).update(places, {"r"} if re.search(r"(?<![.\w])r(?!\w| \.)", body) else ())
+        places = {len(steps) // 2 for steps in re.findall(r"\bs((?:\.1)*)\.0\.now\b", body)}
+        fixed.setdefault(paths.get(alias), set()).update(places, {"r"} if re.search(r"(?<![.\w])r(?:\.now)?(?![\w.])", body) else ())
     return fixed
 
 
@@ -115,6 +117,16 @@ def check_promised(tree):
         for function in calls(tree):
             if crate == crate_of(function.file) and not function.names() & said:
                 yield place(function), f"`{title(function)}` is not named in {PROMISES}, section `{crate}`"
+
+
+def check_archive(tree):
+    """The archive has each call of the library, with the same arguments and clauses, and nothing else."""
+    ours, theirs = ({function.path[1:]: function for function in functions(tree, {crate})} for crate in (ARCHIVE, CALLS))
+    for path in sorted(theirs.keys() - ours.keys()):
+        yield place(theirs[path]), f"`{path[-1]}` is not in the archive"
+    for path, function in sorted(ours.items()):
+        if path not in theirs or function.signature != theirs[path].signature:
+            yield place(function), f"`{path[-1]}` is no call of {CALLS} with these arguments and clauses"
 
 
 def check_header(tree):

@@ -4,7 +4,7 @@ import os
 import pathlib
 import re
 
-NOT_OURS = {".git", "target"}  # folders that nobody wrote
+NOT_OURS = {".git", ".inc", "out", "target"}  # folders that nobody wrote
 LINE_COMMENT = {".antt": re.compile(r"(?:^|\s)--(?=\s|$)"), ".rt": re.compile(r"(?:^|\s)//"), ".rs": re.compile(r"(?:^|\s)//[/!]?")}
 HASH_COMMENT = re.compile(r"(?:^|\s)#")
 BLOCK_COMMENT = re.compile(r"/\*.*?\*/", re.S)
@@ -36,7 +36,8 @@ class Tree:
 
     @functools.cached_property
     def documents(self):
-        return self.like(r".*\.md")
+        """All but docs/PORT.md, which tells of names that are gone."""
+        return self.like(r"(?!docs/PORT\.md$).*\.md")
 
     @functools.cached_property
     def sources(self):
@@ -53,7 +54,7 @@ class Tree:
     @functools.cached_property
     def crates(self):
         """What each crate rests on, by crates.txt."""
-        lines = re.findall(r"^(\w+):(.*)$", self.files["crates.txt"], re.M)
+        lines = re.findall(r"^(\w+)(?: staticlib)?:(.*)$", self.files["crates.txt"], re.M)
         return {name: set(rests.split()) for name, rests in lines}
 
     def below(self, names):

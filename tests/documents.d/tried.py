@@ -10,7 +10,7 @@ README, PROMISES, VARINT, HEADER = "README.md", "docs/PROMISES.md", "crates/reco
 ROW = "\n## `record`\n\n| Call | Definition | Edits |\n|---|---|---|\n| {} | {} | {} |\n"
 EDIT = "# none\nfile: src/varint.rt\nold: {}\nnew: none\n"
 METHOD = "\nimpl Cursor {\n    pub fn none(self) -> u64 {\n        0\n    }\n}\n"
-ASKING = "\npub fn none(x: u64) -> u64\n    requires { ⌜ x ≡ 0 ⌝ }\n{\n    x\n}\n"
+ASKING = "\npub fn none(x: u64) -> u64\n    requires { x ≡ 0 }\n{\n    x\n}\n"
 FOR_C = '\npub extern "C" fn phs_none() -> u64 {\n    0\n}\n'
 
 
@@ -31,14 +31,14 @@ WRONG = [
     (names.check_documents, README, "\nSee `no-such-law`.\n", "no name: `no-such-law`"),
     (names.check_documents, README, "\nSee `Entry::no_such`.\n", "no name: `Entry::no_such`"),
     (names.check_documents, README, "\nSee `oneByte`.\n", "no name: `oneByte`"),
-    (names.check_documents, PROMISES, ROW.format("`read_varint`", "`varintAt`", "`overlap_lost`"),
+    (names.check_documents, PROMISES, ROW.format("`read_varint`", "`varint_at`", "`overlap_lost`"),
      "no edit of this section's crates: `overlap_lost`"),
-    (names.check_documents, PROMISES, ROW.format("`read_varint`", "`read_varint`", "none"),
-     "no definition of this section's crates: `read_varint`"),
-    (names.check_documents, PROMISES, ROW.format("`varintAt`", "`varintAt`", "none"),
-     "no function of this section's crates: `varintAt`"),
-    (names.check_documents, PROMISES, ROW.format("`read_varint`", "`scanFrom`", "none"),
-     "no definition of this section's crates: `scanFrom`"),
+    (names.check_documents, PROMISES, ROW.format("`read_varint`", "`often_short`", "none"),
+     "no definition of this section's crates: `often_short`"),
+    (names.check_documents, PROMISES, ROW.format("`varint_at`", "`varint_at`", "none"),
+     "no function of this section's crates: `varint_at`"),
+    (names.check_documents, PROMISES, ROW.format("`read_varint`", "`scan_from`", "none"),
+     "no definition of this section's crates: `scan_from`"),
     (names.check_comments, "crates/record/specs/Varint.antt", "\n-- as `noSuchName` does\n", "no name: `noSuchName`"),
     (names.check_comments, VARINT, "\n// as `record::varint::no_such` does\n", "no name: `record::varint::no_such`"),
     (names.check_c_names, README, "\nCall phs_none first.\n", "no phs_none"),
@@ -50,7 +50,7 @@ WRONG = [
     (names.check_files, VARINT, "\n// See specs/Scan.antt.\n", "no file: specs/Scan.antt"),
     (names.check_links, "docs/LOOSE.md", "\n[here](docs/RULES.md)\n", "a link to docs/RULES.md"),
     (names.check_calls, README, "\n`record::record::body_length(bytes)`\n", "takes kind"),
-    (names.check_whereabouts, PROMISES, "\n## `record`\n\n`varintAt`, `specs/Value.antt`\n", "`varintAt` is not in specs/Value.antt"),
+    (names.check_whereabouts, PROMISES, "\n## `record`\n\n`varint_at`, `specs/Value.antt`\n", "`varint_at` is not in specs/Value.antt"),
     (names.check_tables, README, "\n| a | b |\n", "rows of a table without a heading"),
     (names.check_tables, README, "\n| a | b |\n|---|---|\n| c |\n", "fewer cells"),
     (names.check_tables, README, "\nAn open ` here.\n", "an odd number of backquotes"),
@@ -59,12 +59,17 @@ WRONG = [
     (promises.check_edits_apply, "crates/record/must-fail/not_once.edit", EDIT.format("fn "), "times in crates/record/src/varint.rt"),
     (promises.check_requires, VARINT, ASKING, "`none` has a requires"),
     (promises.check_answers_fixed, VARINT, METHOD, "`Cursor::none`: no theorem"),
-    (promises.check_answers_fixed, "crates/record/proofs/Unique.antt", replacing(r"s\. now r\)", "s. r .len)"),
+    (promises.check_answers_fixed, "crates/record/proofs/Unique.antt", replacing(r"s\. r\.now\)", "s. r.len)"),
      "`Entry::view`: no theorem", "crates/record/src/entry.rt"),
     (promises.check_lists_fixed, VARINT, "\npub fn none(list: &mut [u64]) {\n}\n", "fixes `list` at exit"),
-    (promises.check_lists_fixed, "crates/scan/proofs/Unique.antt", replacing(r"\(s( \.1){4} \.0\)", "(s .0)"),
+    (promises.check_lists_fixed, "crates/scan/proofs/Unique.antt", replacing(r"s(\.1){4}\.0\.now", "s.0.now"),
      "fixes `rows` at exit", "crates/scan/src/schema_sig.rt"),
     (promises.check_promised, VARINT, METHOD, "`Cursor::none` is not named"),
+    (promises.check_archive, "crates/phsarodil_c/src/version.rt", FOR_C, "`phs_none` is no call"),
+    (promises.check_archive, "crates/phsarodil_c/src/learned.rt", replacing("learned_filling region", "learned_filling types"),
+     "`phs_carve_unallocated` is no call"),
+    (promises.check_archive, "crates/phsarodil_c/src/version.rt", replacing("pub extern", "extern"), "`phs_version` is not in the archive",
+     "crates/phsarodil/src/version.rt"),
     (promises.check_header, HEADER, "\nuint64_t phs_none(void);\n", "`phs_none` is no function"),
     (promises.check_header, "crates/phsarodil/src/version.rt", FOR_C, "`phs_none` is not declared"),
     (counts.check_modules, "crates/page/must-fail/one_more.edit", EDIT, "edits, and `page` have", PROMISES),

@@ -35,8 +35,31 @@ pub enum Hint {
 }
 
 impl Hint {
-    /// The hints of a CREATE TABLE statement, which is meant to be ASCII: one for each piece between commas that is no constraint of the
-    /// table.
+    /// The hints of a CREATE TABLE statement, which is meant to be ASCII: one for each piece between commas.
+    ///
+    /// That is one for each column of a plain table, and not of every table: see `phs_from_create_sql` in
+    /// `include/phsarodil.h`, and compare their number with the table's columns. An INTEGER PRIMARY KEY gets none,
+    /// though its records hold a NULL there: add [`Hint::Null`] in its place.
+    ///
+    /// ```
+    /// # use phsarodil::Hint::{self, Any, Integer, Real, Text};
+    /// assert_eq!(Hint::of_statement(b"t(plot INT, note TEXT)"), Ok(vec![Integer, Text]));
+    /// // The comma in brackets makes a hint of its own,
+    /// assert_eq!(Hint::of_statement(b"t(price DECIMAL(10,2), n INT)"), Ok(vec![Real, Any, Integer]));
+    /// // and a name that begins with a constraint's word loses its column.
+    /// assert_eq!(Hint::of_statement(b"t(check_day TEXT, n INT)"), Ok(vec![Integer]));
+    /// ```
+    ///
+    /// # Errors
+    ///
+    /// [`Refusal::TooLarge`] for more than [`LARGEST_STATEMENT`](crate::LARGEST_STATEMENT) bytes, [`Refusal::NoColumnList`], and
+    /// [`Refusal::ColumnCount`] for the number of hints that come of it.
+    pub fn of_statement(statement: &[u8]) -> Result<Vec<Hint>, Refusal> {
+        read_statement(door::from_create_sql, statement)
+    }
+
+    /// The hints of a CREATE TABLE statement by the format, which is meant to be ASCII: one for each piece between commas that is no
+    /// constraint of the table. With the hints of [`Hint::of_statement`], which leave a key out, a scan finds no row that holds all columns.
     ///
     /// That is one for each column of a plain table, and not of every table: see `phs_column_hints` in `include/phsarodil.h`, and compare
     /// their number with the table's columns. An INTEGER PRIMARY KEY gets [`Hint::Null`], since its records hold a NULL there, if these
@@ -46,39 +69,20 @@ impl Hint {
     ///
     /// ```
     /// # use phsarodil::Hint::{self, Any, Integer, Null, Real, Text};
-    /// assert_eq!(Hint::of_statement(b"t(plot INT, note TEXT)"), Ok(vec![Integer, Text]));
+    /// assert_eq!(Hint::of_statement_by_format(b"t(plot INT, note TEXT)"), Ok(vec![Integer, Text]));
     /// // A key gets the null in its place,
-    /// assert_eq!(Hint::of_statement(b"t(id INTEGER PRIMARY KEY, n INT)"), Ok(vec![Null, Integer]));
+    /// assert_eq!(Hint::of_statement_by_format(b"t(id INTEGER PRIMARY KEY, n INT)"), Ok(vec![Null, Integer]));
     /// // a name that begins with a constraint's word is that of a column,
-    /// assert_eq!(Hint::of_statement(b"t(check_day TEXT, n INT)"), Ok(vec![Text, Integer]));
+    /// assert_eq!(Hint::of_statement_by_format(b"t(check_day TEXT, n INT)"), Ok(vec![Text, Integer]));
     /// // and a comma in brackets makes a hint of its own.
-    /// assert_eq!(Hint::of_statement(b"t(price DECIMAL(10,2), n INT)"), Ok(vec![Real, Any, Integer]));
+    /// assert_eq!(Hint::of_statement_by_format(b"t(price DECIMAL(10,2), n INT)"), Ok(vec![Real, Any, Integer]));
     /// ```
     ///
     /// # Errors
     ///
-    /// [`Refusal::TooLarge`] for more than [`LARGEST_STATEMENT`](crate::LARGEST_STATEMENT) bytes, [`Refusal::NoColumnList`], and
-    /// [`Refusal::ColumnCount`] for the number of hints that come of it.
-    pub fn of_statement(statement: &[u8]) -> Result<Vec<Hint>, Refusal> {
+    /// As [`Hint::of_statement`], but that a key alone is a column.
+    pub fn of_statement_by_format(statement: &[u8]) -> Result<Vec<Hint>, Refusal> {
         read_statement(door::column_hints, statement)
-    }
-
-    /// The same by the reading of the Rust that the library is held against, for comparing with it: a piece gives no hint if it holds
-    /// INTEGER, PRIMARY and KEY anywhere, or begins with the letters of a constraint's word. With a hint too few a scan finds no row
-    /// that holds all columns.
-    ///
-    /// ```
-    /// # use phsarodil::Hint::{self, Integer};
-    /// for statement in ["t(id INTEGER PRIMARY KEY, n INT)", "t(check_day TEXT, n INT)"] {
-    ///     assert_eq!(Hint::of_statement_as_rust(statement.as_bytes()), Ok(vec![Integer]));
-    /// }
-    /// ```
-    ///
-    /// # Errors
-    ///
-    /// As [`Hint::of_statement`]: [`Refusal::ColumnCount`] also where a key is the only column.
-    pub fn of_statement_as_rust(statement: &[u8]) -> Result<Vec<Hint>, Refusal> {
-        read_statement(door::from_create_sql, statement)
     }
 
     /// Whether a serial type suits the hint.
@@ -179,12 +183,51 @@ mod tests {
         }
     }
 
-    type Reading = fn(&[u8]) -> Result<Vec<Hint>, Refusal>;
-
-    const READINGS: [Reading; 2] = [Hint::of_statement, Hint::of_statement_as_rust];
-
     #[test]
     fn of_statements() {
+        assert_eq!(
+            Hint::of_statement(b"CREATE TABLE r (plot INTEGER, depth REAL, note TEXT, x)"),
+            Ok(vec![Hint::Integer, Hint::Real, Hint::Text, Hint::Any])
+        );
+        assert_eq!(Hint::of_statement(b")("), Err(Refusal::NoColumnList));
+        assert_eq!(
+            Hint::of_statement(b"(id INTEGER PRIMARY KEY)"),
+            Err(Refusal::ColumnCount)
+        );
+        let most = format!("({})", vec!["a INT"; MOST_COLUMNS].join(","));
+        assert_eq!(
+            Hint::of_statement(most.as_bytes()).unwrap().len(),
+            MOST_COLUMNS
+        );
+    }
+
+    /// The examples of `phs_from_create_sql` in the header, and a comment.
+    #[test]
+    fn of_the_statements_in_the_header() {
+        let letters = |statement: &str| -> String {
+            let hints = Hint::of_statement(statement.as_bytes()).unwrap();
+            hints
+                .iter()
+                .map(|&h| b"IRTBNA"[h as usize] as char)
+                .collect()
+        };
+        assert_eq!(letters("t(plot INT, note TEXT)"), "IT");
+        assert_eq!(letters("t(price DECIMAL(10,2), n INT)"), "RAI");
+        assert_eq!(letters("t(a INT, b INT, PRIMARY KEY(a, b))"), "IIA");
+        assert_eq!(letters("t(a TEXT DEFAULT 'x,y', n INT)"), "TAI");
+        assert_eq!(letters("t(check_day TEXT, n INT)"), "I");
+        assert_eq!(letters("t(primary_mail TEXT, n INT)"), "I");
+        assert_eq!(letters("t(\"my note\" TEXT, n INT)"), "AI");
+        assert_eq!(letters("t(id INTEGER PRIMARY KEY, n INT)"), "I");
+        assert_eq!(letters("t(a INT, /* x, y */ b TEXT)"), "IAA");
+    }
+
+    type Reading = fn(&[u8]) -> Result<Vec<Hint>, Refusal>;
+
+    const READINGS: [Reading; 2] = [Hint::of_statement_by_format, Hint::of_statement];
+
+    #[test]
+    fn of_statements_in_either_reading() {
         let most = format!("({})", vec!["a INT"; MOST_COLUMNS].join(","));
         let more = most.replacen('(', "(a,", 1);
         let largest = format!("(a{})", " ".repeat(LARGEST_STATEMENT - 3));
@@ -211,7 +254,7 @@ mod tests {
 
     /// The examples of the header, with the hints of either reading, and a comment.
     #[test]
-    fn of_the_statements_in_the_header() {
+    fn of_the_statements_in_the_header_in_either_reading() {
         for (statement, hints, as_rust) in [
             ("t(plot INT, note TEXT)", "IT", "IT"),
             ("t(id INTEGER PRIMARY KEY, n INT)", "NI", "I"),

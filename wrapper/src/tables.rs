@@ -6,10 +6,8 @@ use crate::Hint;
 ///
 /// ```
 /// # use phsarodil::{Hint, Table};
-/// let hints = Hint::of_statement(b"readings(id INTEGER PRIMARY KEY, plot TEXT)")?;
-/// let table = Table::new("readings", 2, hints);
-/// assert_eq!((table.name.as_str(), table.root), ("readings", 2));
-/// assert_eq!(table.hints, [Hint::Null, Hint::Text]);
+/// let table = Table::new("readings", 2, Hint::of_statement(b"readings(plot TEXT, day INTEGER)")?);
+/// assert_eq!((table.name.as_str(), table.root, table.hints.len()), ("readings", 2, 2));
 /// # Ok::<(), phsarodil::Refusal>(())
 /// ```
 #[derive(Clone, Debug, PartialEq, Eq)]

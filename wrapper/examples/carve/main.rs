@@ -177,7 +177,7 @@ fn goes_on(statement: &[u8]) -> bool {
 
 /// The hints of a CREATE TABLE statement; says which they are.
 fn read_statement(statement: &[u8]) -> Result<Vec<Hint>, String> {
-    let hints = Hint::of_statement(statement).map_err(refuse_statement)?;
+    let hints = Hint::of_statement_by_format(statement).map_err(refuse_statement)?;
     let letter = |&hint: &Hint| char::from(LETTERS.as_bytes()[hint as usize]);
     let letters: String = hints.iter().map(letter).collect();
     eprintln!("carve: hints {letters}");

@@ -40,7 +40,7 @@ fn words() -> Vec<Worked> {
 
 fn left_out() -> Vec<Worked> {
     vec![
-        heading("6.3 Pieces that give no hint in the Rust's reading"),
+        heading("6.3 Pieces that give no hint"),
         said("(a INT, , b TEXT)"),
         said("(id INTEGER PRIMARY KEY, a TEXT)"),
         said("(key_of_primary integer, a TEXT)"),

@@ -1,7 +1,7 @@
 /*
  * Phsarodil: rows carved out of what is left in SQLite pages.
  *
- * Link with libphsarodil.a (x86-64 Linux), which `rt staticlib phsarodil` writes to target/staticlib, and see that
+ * Link with libphsarodil.a (x86-64 Linux), which tools/archive writes to target/staticlib, and see that
  * phs_version() == PHS_VERSION before anything else. The archive needs `memcpy` and `memset` of whoever links it, which any
  * C library has, and nothing else.
  *

@@ -59,7 +59,8 @@ impl Hint {
     }
 
     /// The hints of a CREATE TABLE statement by the format, which is meant to be ASCII: one for each piece between commas that is no
-    /// constraint of the table. With the hints of [`Hint::of_statement`], which leave a key out, a scan finds no row that holds all columns.
+    /// constraint of the table. With the hints of [`Hint::of_statement`], which leave a key out, a scan finds no row that holds all
+    /// columns.
     ///
     /// That is one for each column of a plain table, and not of every table: see `phs_column_hints` in `include/phsarodil.h`, and compare
     /// their number with the table's columns. An INTEGER PRIMARY KEY gets [`Hint::Null`], since its records hold a NULL there, if these

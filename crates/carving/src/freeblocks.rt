@@ -15,8 +15,7 @@ pub fn recover_slice_freeblocks(
     rows: &mut [u64],
     cols: &mut [u64],
 ) -> Filled
-    ensures { FillsRows (slice_filling
-        (slice_asked Freeblocks page.now head base hints.now rows.old cols.old))
+    ensures { FillsRows (slice_filling (slice_asked Freeblocks page.now head base hints.now rows.old cols.old))
         (row_outcome result rows.new cols.new) }
 {
     carve_slice(Carving::Freeblocks, page, head, base, hints, rows, cols)
@@ -30,8 +29,7 @@ pub fn recover_page_freeblocks(
     rows: &mut [u64],
     cols: &mut [u64],
 ) -> Filled
-    ensures { FillsRows (numbered_filling
-        (numbered_asked Freeblocks db.now size page hints.now rows.old cols.old))
+    ensures { FillsRows (numbered_filling (numbered_asked Freeblocks db.now size page hints.now rows.old cols.old))
         (row_outcome result rows.new cols.new) }
 {
     carve_numbered(Carving::Freeblocks, db, size, page, hints, rows, cols)

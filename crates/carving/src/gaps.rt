@@ -17,8 +17,7 @@ pub fn scan_single_page_gap(
     rows: &mut [u64],
     cols: &mut [u64],
 ) -> Filled
-    ensures { FillsRows (slice_filling
-        (slice_asked (Gaps rebuilding) page.now head base hints.now rows.old cols.old))
+    ensures { FillsRows (slice_filling (slice_asked (Gaps rebuilding) page.now head base hints.now rows.old cols.old))
         (row_outcome result rows.new cols.new) }
 {
     carve_slice(
@@ -41,8 +40,7 @@ pub fn scan_page_gap(
     rows: &mut [u64],
     cols: &mut [u64],
 ) -> Filled
-    ensures { FillsRows (numbered_filling
-        (numbered_asked (Gaps rebuilding) db.now size page hints.now rows.old cols.old))
+    ensures { FillsRows (numbered_filling (numbered_asked (Gaps rebuilding) db.now size page hints.now rows.old cols.old))
         (row_outcome result rows.new cols.new) }
 {
     carve_numbered(Carving::Gaps(rebuilding), db, size, page, hints, rows, cols)
@@ -56,8 +54,7 @@ pub fn parse_cells_from_freeblock(
     rows: &mut [u64],
     cols: &mut [u64],
 ) -> Filled
-    ensures { FillsRows (slice_filling
-        (slice_asked (Payload rebuilding) payload.now 0 base hints.now rows.old cols.old))
+    ensures { FillsRows (slice_filling (slice_asked (Payload rebuilding) payload.now 0 base hints.now rows.old cols.old))
         (row_outcome result rows.new cols.new) }
 {
     carve_slice(

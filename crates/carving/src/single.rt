@@ -46,8 +46,7 @@ pub fn carve_slice(
     rows: &mut [u64],
     cols: &mut [u64],
 ) -> Filled
-    ensures { FillsRows (slice_filling
-        (slice_asked how page.now head base hints.now rows.old cols.old))
+    ensures { FillsRows (slice_filling (slice_asked how page.now head base hints.now rows.old cols.old))
         (row_outcome result rows.new cols.new) }
 {
     if how.refuses(hints.len()) {
@@ -75,8 +74,7 @@ pub fn carve_numbered(
     rows: &mut [u64],
     cols: &mut [u64],
 ) -> Filled
-    ensures { FillsRows (numbered_filling
-        (numbered_asked how db.now size page hints.now rows.old cols.old))
+    ensures { FillsRows (numbered_filling (numbered_asked how db.now size page hints.now rows.old cols.old))
         (row_outcome result rows.new cols.new) }
 {
     if how.refuses(hints.len()) {

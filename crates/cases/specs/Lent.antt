@@ -1,6 +1,7 @@
 -- The lists that a call is lent, as oracle/README.md has them: before it each cell tells its place.
 -- Assumes nothing.
-use Rattle.std.specs.Prelude.{◌≡◌, ℕ, zero, suc, ◌+◌, ◌*◌, ◌/◌, ◌%◌, ◌^◌, min, Bool, false, cond, List, [], ◌∷◌, ◌++◌, length, take, ◌==◌, bit_xor, slice_index}
+use Rattle.std.specs.Prelude.{◌≡◌, ◌+◌, ◌*◌, ◌/◌, ◌%◌, ◌^◌, [], ◌∷◌, ◌++◌, ◌==◌}
+use Rattle.std.specs.Prelude.{ℕ, zero, suc, min, Bool, false, cond, List, length, take, bit_xor, slice_index}
 use Rattle.cases.specs.Layout.{word_at}
 use Rattle.cases.specs.declared.lists.Cells.{Cells}
 use Rattle.sheet.specs.Limits.{words_per_row, words_per_entry}

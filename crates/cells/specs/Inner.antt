@@ -34,7 +34,8 @@ pub record CellFound (d hints : List ℕ) (pos start end id : ℕ) (x : Find) : 
   pub past : pos < start
   pub on : start ≤ end
   pub inside : end ≤ length d
-  pub found : HitIs (record_of d start end) hints 0 (attempt_at (record_of d start end) hints 0) (attempt_places (record_of d start end) 0) x
+  pub found :
+      HitIs (record_of d start end) hints 0 (attempt_at (record_of d start end) hints 0) (attempt_places (record_of d start end) 0) x
 
 abbrev pub CellIs : List ℕ → List ℕ → ℕ → Cell → Type 0
 CellIs d hints pos (At start end id x) = CellFound d hints pos start end id x

@@ -20,9 +20,8 @@ pub extern "C" fn phs_recover_freeblocks(
     cols: &mut [u64],
     out: &mut [u64; 1],
 ) -> u64
-    ensures { tables_return result out.new flags.new stack.new rows.new cols.new
-        ≡ carved_tables (asked Freeblocks db.now size roots.now counts.now hints.now
-        flags.old stack.old rows.old cols.old) }
+    ensures { tables_return result out.new flags.new stack.new rows.new cols.new ≡ carved_tables
+        (asked Freeblocks db.now size roots.now counts.now hints.now flags.old stack.old rows.old cols.old) }
 {
     freeblocks::phs_recover_freeblocks(
         db, size, roots, counts, hints, flags, stack, rows, cols, out,
@@ -39,8 +38,8 @@ pub extern "C" fn phs_recover_page_freeblocks(
     cols: &mut [u64],
     out: &mut [u64; 1],
 ) -> u64
-    ensures { row_return result out.new rows.new cols.new ≡ filled_rows (numbered_filling
-        (numbered_asked Freeblocks db.now size page hints.now rows.old cols.old)) }
+    ensures { row_return result out.new rows.new cols.new ≡ filled_rows
+        (numbered_filling (numbered_asked Freeblocks db.now size page hints.now rows.old cols.old)) }
 {
     freeblocks::phs_recover_page_freeblocks(db, size, page, hints, rows, cols, out)
 }
@@ -55,8 +54,8 @@ pub extern "C" fn phs_recover_slice_freeblocks(
     cols: &mut [u64],
     out: &mut [u64; 1],
 ) -> u64
-    ensures { row_return result out.new rows.new cols.new ≡ filled_rows (slice_filling
-        (slice_asked Freeblocks page.now head base hints.now rows.old cols.old)) }
+    ensures { row_return result out.new rows.new cols.new ≡ filled_rows
+        (slice_filling (slice_asked Freeblocks page.now head base hints.now rows.old cols.old)) }
 {
     freeblocks::phs_recover_slice_freeblocks(page, head, base, hints, rows, cols, out)
 }

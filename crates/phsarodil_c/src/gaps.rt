@@ -25,12 +25,9 @@ pub extern "C" fn phs_scan_page_gaps(
     cols: &mut [u64],
     out: &mut [u64; 1],
 ) -> u64
-    ensures { tables_return result out.new flags.new stack.new rows.new cols.new
-        ≡ by_name (way_named rebuilding) (λ how. carved_tables
-        (asked (Gaps how) db.now size roots.now counts.now hints.now
-        flags.old stack.old rows.old cols.old))
-        (refused_tables (unnamed_number (counts_fit counts.now)) flags.old stack.old
-        rows.old cols.old) }
+    ensures { tables_return result out.new flags.new stack.new rows.new cols.new ≡ by_name (way_named rebuilding)
+        (λ how. carved_tables (asked (Gaps how) db.now size roots.now counts.now hints.now flags.old stack.old rows.old cols.old))
+        (refused_tables (unnamed_number (counts_fit counts.now)) flags.old stack.old rows.old cols.old) }
 {
     gaps::phs_scan_page_gaps(
         rebuilding, db, size, roots, counts, hints, flags, stack, rows, cols, out,

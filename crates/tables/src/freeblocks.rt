@@ -17,9 +17,7 @@ pub fn recover_freeblocks(
     rows: &mut [u64],
     cols: &mut [u64],
 ) -> Walked
-    ensures { TablesPromises
-        (asked Freeblocks db.now size roots.now counts.now hints.now
-        flags.old stack.old rows.old cols.old)
+    ensures { TablesPromises (asked Freeblocks db.now size roots.now counts.now hints.now flags.old stack.old rows.old cols.old)
         (on_tables result flags.new stack.new rows.new cols.new) }
 {
     carve_tables(

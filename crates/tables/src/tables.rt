@@ -134,10 +134,8 @@ fn carve_each(
     requires flag_for_each_page { length db.now / size ≤ length flags.old }
     requires groups_wide_enough { widest_of counts.now ≤ lent.width }
     requires room_bound { lent.room ≤ room_of (length rows.old) (length cols.old) lent.width }
-    ensures { AllCarved
-        (asked how db.now size roots.now counts.now hints.now
-        flags.old stack.old rows.old cols.old)
-        lent (table_as result) rows.new cols.new }
+    ensures { AllCarved (asked how db.now size roots.now counts.now hints.now flags.old stack.old rows.old cols.old) lent
+        (table_as result) rows.new cols.new }
 {
     let mut t = 0;
     let mut from = 0;
@@ -189,10 +187,8 @@ fn carve_checked(
 ) -> Walked
     requires taken_by_mode { widest_of counts.now ≤ width_by how }
     requires tables_fit { TablesFit (length db.now) size roots.now counts.now hints.now }
-    ensures { TablesCarved
-        (asked how db.now size roots.now counts.now hints.now
-        flags.old stack.old rows.old cols.old)
-        result rows.new cols.new }
+    ensures { TablesCarved (asked how db.now size roots.now counts.now hints.now flags.old stack.old rows.old cols.old) result
+        rows.new cols.new }
 {
     if flags.len() < db.len() / size {
         return Walked::Short(0);
@@ -219,9 +215,7 @@ pub fn carve_tables(
     rows: &mut [u64],
     cols: &mut [u64],
 ) -> Walked
-    ensures { TablesPromises
-        (asked how db.now size roots.now counts.now hints.now
-        flags.old stack.old rows.old cols.old)
+    ensures { TablesPromises (asked how db.now size roots.now counts.now hints.now flags.old stack.old rows.old cols.old)
         (on_tables result flags.new stack.new rows.new cols.new) }
 {
     if how.refuses(widest(counts)) {

@@ -1,6 +1,7 @@
 -- Carving by learned types (rules 14.1 to 14.5): a type is known for each column, and a row is one where types match.
 -- Assumes nothing.
-use Rattle.std.specs.Prelude.{ℕ, zero, suc, ◌+◌, ◌-◌, ◌*◌, ◌/◌, ◌%◌, Bool, true, false, cond, ◌&&◌, ◌||◌, List, [], ◌∷◌, ltb, leb, eqb, length}
+use Rattle.std.specs.Prelude.{◌+◌, ◌-◌, ◌*◌, ◌/◌, ◌%◌, ◌&&◌, ◌||◌, [], ◌∷◌}
+use Rattle.std.specs.Prelude.{ℕ, zero, suc, Bool, true, false, cond, List, ltb, leb, eqb, length}
 use Rattle.modes.specs.Found.{Types, cut, read, types_from, columns_from, Found, Tried, miss, hit, end_of, found_hits}
 use Rattle.modes.specs.Modes.{length_fits}
 use Rattle.modes.specs.declared.inner.Style.{Style}
@@ -30,7 +31,8 @@ is_blob t = leb 12 t && eqb (t % 2) 0
 
 -- Rule 14.1: a type matches one that was learned if it is the same, or of the same class
 unfoldable pub matches : ℕ → ℕ → Bool
-matches t learned = eqb t learned || ((is_integer t && is_integer learned) || ((is_text t && is_text learned) || (is_blob t && is_blob learned)))
+matches t learned =
+    eqb t learned || ((is_integer t && is_integer learned) || ((is_text t && is_text learned) || (is_blob t && is_blob learned)))
 
 -- how many types match those learned for the columns that they stand at
 abbrev pub matched : List ℕ → List ℕ → ℕ
@@ -44,7 +46,12 @@ matched_percent n columns = n * 100 / columns
 
 abbrev pub learned_style : ℕ → ℕ → Style
 learned_style n columns =
-    record { source = CarvedUnalloc (matched_percent n columns); confidence = share (matched_percent n columns) 100; mode = Plain; lost = 0 }
+    record {
+      source = CarvedUnalloc (matched_percent n columns);
+      confidence = share (matched_percent n columns) 100;
+      mode = Plain;
+      lost = 0;
+    }
 
 -- ---- one attempt
 

@@ -1,6 +1,7 @@
 -- The leaf walk (rules 9.5 to 9.7). A stack is a list whose first element is its top; a mark of 1 is a page that was expanded.
 -- Assumes nothing.
-use Rattle.std.specs.Prelude.{ℕ, zero, suc, ◌+◌, ◌-◌, ◌*◌, Bool, true, false, cond, ◌&&◌, List, [], ◌∷◌, ◌++◌, ltb, leb, eqb, length, get_or, set, replicate}
+use Rattle.std.specs.Prelude.{◌+◌, ◌-◌, ◌*◌, ◌&&◌, [], ◌∷◌, ◌++◌}
+use Rattle.std.specs.Prelude.{ℕ, zero, suc, Bool, true, false, cond, List, ltb, leb, eqb, length, get_or, set, replicate}
 use Rattle.page.specs.Page.{whole_pages, has_page, page_of, head_of, page_type, cell_count, pointer_at, child_at}
 
 -- ---- children

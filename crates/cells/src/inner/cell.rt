@@ -136,8 +136,8 @@ pub fn carve_cells(
     cols: &mut [u64],
 ) -> Carved
     requires { Ready (o + length payload.now) (length hints.now) spot lent n (length rows.old) (length cols.old) }
-    ensures { Carves lent.width lent.room n (cell_hits spot (length hints.now) o (cells_of payload.now
-        hints.now)) false rows.old cols.old (carved_as result) rows.new cols.new }
+    ensures { Carves lent.width lent.room n (cell_hits spot (length hints.now) o (cells_of payload.now hints.now)) false
+        rows.old cols.old (carved_as result) rows.new cols.new }
 {
     let mut pos = 0;
     let mut m = n;

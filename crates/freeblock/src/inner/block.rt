@@ -54,9 +54,8 @@ fn carve_payload(
     cols: &mut [u64],
 ) -> Carved
     requires { Ready (o + length payload.now) (length hints.now) spot lent n (length rows.old) (length cols.old) }
-    ensures { Carves lent.width lent.room n (first_hits spot (length hints.now) o
-        (first_start payload.now hints.now)) false rows.old cols.old (carved_as result)
-        rows.new cols.new }
+    ensures { Carves lent.width lent.room n (first_hits spot (length hints.now) o (first_start payload.now hints.now)) false
+        rows.old cols.old (carved_as result) rows.new cols.new }
 {
     let Start::At { v, find } = first_start(payload, hints) else {
         return Carved::On(n);
@@ -105,11 +104,8 @@ pub fn carve_block(
 ) -> Carved
     requires le_size { (4 ≤ size) × (at + size ≤ length page.now) }
     requires ready { Ready (length page.now) (length hints.now) spot lent n (length rows.old) (length cols.old) }
-    ensures { Carves lent.width lent.room n (block_hits page.now hints.now spot (record {
-      at = at;
-      size
-          = size;
-    })) false rows.old cols.old (carved_as result) rows.new cols.new }
+    ensures { Carves lent.width lent.room n (block_hits page.now hints.now spot (record { at = at; size = size })) false
+        rows.old cols.old (carved_as result) rows.new cols.new }
 {
     let from = at + 4;
     let end = at + size;

@@ -52,7 +52,8 @@ fn carve_block(
     requires at_in_bounds { at + 4 ≤ length page.now }
     requires hints_len_bound { length hints.now ≤ most_by how }
     requires ready { Ready (length page.now) (length hints.now) spot lent n (length rows.old) (length cols.old) }
-    ensures { Carves lent.width lent.room n (blocks_hits how page.now hints.now spot (block_then page.now at [])) false rows.old cols.old (carved_as result) rows.new cols.new }
+    ensures { Carves lent.width lent.room n (blocks_hits how page.now hints.now spot (block_then page.now at [])) false
+        rows.old cols.old (carved_as result) rows.new cols.new }
 {
     let size = block_size(page, at);
     if size < 4 {
@@ -91,9 +92,8 @@ pub fn carve_blocks(
     requires head_in_bounds { head + 8 ≤ length page.now }
     requires hints_len_bound { length hints.now ≤ most_by how }
     requires ready { Ready (length page.now) (length hints.now) spot lent n (length rows.old) (length cols.old) }
-    ensures { Carves lent.width lent.room n (blocks_hits how page.now hints.now spot
-        (chain page.now head)) false rows.old cols.old (carved_as result) rows.new
-        cols.new }
+    ensures { Carves lent.width lent.room n (blocks_hits how page.now hints.now spot (chain page.now head)) false
+        rows.old cols.old (carved_as result) rows.new cols.new }
 {
     let mut at = first_freeblock(page, head);
     let mut left = MOST_STEPS;

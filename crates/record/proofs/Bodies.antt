@@ -1,5 +1,6 @@
 -- Where the bytes of a value lie: those of a real, whose bits are read from them, and those that an entry shows.
 -- Assumes nothing.
+use Rattle.std.specs.Prelude.{None, Some}
 use Prim.Native.Nat.{ℕ, zero, suc, zero-le, ◌+◌, ◌≤◌}
 use mathlib.Core.Path.{◌≡◌, refl, sym, ap, ◌∙◌}
 use mathlib.Core.List.{List, [], ◌∷◌}
@@ -11,16 +12,13 @@ use Rattle.record.specs.Entry.{read_entry, value_bytes, shown, entry_bytes}
 use Rattle.record.specs.Inner.{BodyThere}
 use Rattle.record.specs.Value.{small_lengths, body_length, value_of, decode_at, start_of, length_of}
 use Rattle.record.specs.declared.entry.Entry.{Entry}
-use Rattle.record.specs.declared.entry.EntryRead.{EntryRead}
-use Rattle.record.specs.declared.entry.EntryRead.TheVariants.{Of as Reads, Refused as Bad}
-use Rattle.record.specs.declared.record.Decoded.TheVariants.{Of}
-use Rattle.record.specs.declared.record.Length.TheVariants.{Bytes}
+use Rattle.record.specs.Entry.{EntryRead}
 use Rattle.record.specs.declared.record.Value.{Value}
 use Rattle.record.proofs.Laws.{entry_cases}
 use Rattle.record.proofs.Values.{small_length_lem, fits_by_place, value_cases, decoded}
 
 -- ---- only type 7 gives a real, and it has eight bytes
-value_there : (t : ℕ) (s : List ℕ) (at n : ℕ) → body_length t ≡ Bytes n → (t ≡ 7 → at + n ≤ length s) → BodyThere s at (value_of t s at n)
+value_there : (t : ℕ) (s : List ℕ) (at n : ℕ) → body_length t ≡ Some n → (t ≡ 7 → at + n ≤ length s) → BodyThere s at (value_of t s at n)
 value_there t s at n l h =
     value_cases (BodyThere s at) t s at n tt (λ z. tt)
     (λ seven.
@@ -29,7 +27,7 @@ value_there t s at n l h =
     (λ big. tt) (λ big. tt)
 
 -- THE LAW: a real that was decoded has its eight bytes,
-pub decoded_there : (t : ℕ) (s : List ℕ) (at : ℕ) (v : Value) (n : ℕ) → decode_at t s at ≡ Of v n → BodyThere s at v
+pub decoded_there : (t : ℕ) (s : List ℕ) (at : ℕ) (v : Value) (n : ℕ) → decode_at t s at ≡ Some (v, n) → BodyThere s at v
 decoded_there t s at v n e =
     let d = decoded t s at v n e in
     rw d.2
@@ -37,13 +35,13 @@ decoded_there t s at v n e =
     leb-true (at + n) (length s) (sym (fits_by_place t n s at (λ z. omega arith) (λ z. omega arith) (λ z. omega arith)) ∙ d.1))
 
 -- and so has one that an entry reads as
-pub read_there : (e : Entry) (s : List ℕ) (v : Value) → read_entry e s ≡ Reads v → BodyThere s e.start v
+pub read_there : (e : Entry) (s : List ℕ) (v : Value) → read_entry e s ≡ Some v → BodyThere s e.start v
 read_there e s = entry_cases e s (BodyThere s e.start) tt (λ l h. value_there e.kind s e.start e.len l (λ seven. h))
 
 -- ---- the bytes of a text or a blob
 
 -- THE LAW: those of an entry that was read lie in the slice
-pub entry_inside : (e : Entry) (s : List ℕ) (v : Value) → read_entry e s ≡ Reads v → start_of v + length_of v ≤ length s
+pub entry_inside : (e : Entry) (s : List ℕ) (v : Value) → read_entry e s ≡ Some v → start_of v + length_of v ≤ length s
 entry_inside e s =
     let Inside : Value → Type 0 = λ v. start_of v + length_of v ≤ length s in
     entry_cases e s Inside zero-le (λ l h. value_cases Inside e.kind s e.start e.len zero-le (λ z. zero-le) (λ seven. zero-le) (λ big. h) (λ big. h))
@@ -67,5 +65,5 @@ view_named e s = go (read_entry e s) refl
         value_cases Named e.kind s e.start e.len refl (λ z. refl) (λ seven. refl) (λ big. shows) (λ big. shows)
 
     go : (r : EntryRead) → read_entry e s ≡ r → take (length (shown s r)) (drop e.start s) ≡ shown s r
-    go Bad r = refl
-    go (Reads v) r = entry_cases e s Named refl (λ l h. named) v r
+    go None r = refl
+    go (Some v) r = entry_cases e s Named refl (λ l h. named) v r

@@ -1,5 +1,6 @@
 -- What other crates rest on: they cite these laws and unfold no definition of this one.
 -- Assumes nothing.
+use Rattle.std.specs.Prelude.{None, Some}
 use Prim.Native.Nat.{ℕ, zero, suc, ◌+◌, ◌-◌, ◌*◌, ◌/◌, ◌%◌, ◌<◌, ◌≤◌, min}
 use mathlib.Core.Path.{◌≡◌, refl, sym, ap, ◌∙◌}
 use mathlib.Core.Bool.{true, false, ◌||◌, or-true}
@@ -16,20 +17,17 @@ use mir.Syntax.{w64}
 use mir.Val.{SFits, to_z, of_z}
 use mir.Facts.{to_z-of_z}
 use borrow.Author.Tests.{lt-ltb, le-ltb, eq-eqb, ne_eqb, ltb-true}
+use Rattle.std.proofs.lemmas.Option.{none-some, some_pair_parts}
 use Rattle.record.specs.Entry.{body_state, unused_state, unlike, bad_within, bad_entry, read_entry, entry_refusal}
 use Rattle.record.specs.Places.{places_from, stop_of, varint_places, AgreeAt}
 use Rattle.record.specs.Value.{body_length, value_of, decode_at}
 use Rattle.record.specs.Varint.{width_of, ended, varint_from, varint_at}
 use Rattle.record.specs.declared.entry.Entry.{Entry}
-use Rattle.record.specs.declared.entry.EntryRead.TheVariants.{Of, Refused}
-use Rattle.record.specs.declared.record.Decoded.TheVariants.{Of as Got}
-use Rattle.record.specs.declared.record.Length.{Length}
-use Rattle.record.specs.declared.record.Length.TheVariants.{Bytes, Reserved}
+use Rattle.record.specs.Value.{Length}
 use Rattle.record.specs.declared.record.Value.{Value as Cell}
 use Rattle.record.specs.declared.record.Value.TheVariants.{Null, Text, Blob}
 use Rattle.record.specs.declared.varint.Cursor.{Cursor}
-use Rattle.record.specs.declared.varint.Varint.{Varint}
-use Rattle.record.specs.declared.varint.Varint.TheVariants.{Value, Short}
+use Rattle.record.specs.Varint.{Varint}
 use Rattle.record.proofs.Numbers.{by_order}
 use Rattle.record.proofs.Values.{fits_inside, value_past, decoded}
 use Rattle.record.proofs.Widths.{width_some}
@@ -43,13 +41,10 @@ pub record Reach (s : List ℕ) (at k : ℕ) (x : Varint) : Type 0 where
   pub near : stop_of s x ≤ at + k + 1
   pub on : at ≤ length s → at ≤ stop_of s x
   pub past : at < length s → at < stop_of s x
-  pub whole : (v : ℕ) (c : Cursor) → x ≡ Value v c → at < c.at
+  pub whole : (v : ℕ) (c : Cursor) → x ≡ Some (v, c) → at < c.at
 
-never : {C : Type 0} {v : ℕ} {c : Cursor} → Short ≡ Value v c → C
-never e = let z : ◌≡◌ {A = ℕ} 0 1 = cc in absurd (omega arith)
-
-next_at : {v w : ℕ} {a b : Cursor} → Value v a ≡ Value w b → a.at ≡ b.at
-next_at {v} {w} {a} {b} e = let z : a ≡ b = cc in ap (λ (x : Cursor). x.at) z
+next_at : {v w : ℕ} {a b : Cursor} → ◌≡◌ {A = Varint} (Some (v, a)) (Some (w, b)) → a.at ≡ b.at
+next_at e = ap (λ (x : Cursor). x.at) (some_pair_parts _ _ _ _ e).1
 
 one_byte : (s : List ℕ) (at k w n : ℕ) → at < length s → Reach s at k (ended w n (at + 1))
 one_byte s at k w n h =
@@ -66,7 +61,7 @@ unfolding varint_at
 varint_reach s at =
     over s (λ a v k x. Reach s a k x)
     (λ a v k out.
-    record { inside = omega arith; near = omega arith; on = λ h. h; past = λ h. h; whole = λ w c e. never e })
+    record { inside = omega arith; near = omega arith; on = λ h. h; past = λ h. h; whole = λ w c e. absurd (none-some _ e) })
     (λ a v h. one_byte s a 0 _ _ h)
     (λ a v k h low. one_byte s a (suc k) _ _ h)
     (λ a v k h high x z.
@@ -86,14 +81,14 @@ pub record Lies (s : List ℕ) (at next : ℕ) : Type 0 where
   pub nine : next ≤ at + 9
   pub inside : next ≤ length s
 
-pub varint_lies : (s : List ℕ) (at v : ℕ) (c : Cursor) → varint_at s at ≡ Value v c → Lies s at c.at
+pub varint_lies : (s : List ℕ) (at v : ℕ) (c : Cursor) → varint_at s at ≡ Some (v, c) → Lies s at c.at
 varint_lies s at v c e =
     let z = varint_reach s at in
     let y : stop_of s (varint_at s at) ≡ c.at = ap (stop_of s) e in
     record { past = z.whole v c e; nine = omega (arith, z.near); inside = omega (arith, z.inside) }
 
 -- THE LAW: a byte below 128 is a varint of its own, and not padded
-pub varint_low : (s : List ℕ) (at : ℕ) → at < length s → get_or s at 0 < 128 → varint_at s at ≡ Value (get_or s at 0) (record { at = at + 1; padded = false })
+pub varint_low : (s : List ℕ) (at : ℕ) → at < length s → get_or s at 0 < 128 → varint_at s at ≡ Some ((get_or s at 0), (record { at = at + 1; padded = false }))
 unfolding varint_at
 varint_low s at h low =
     let z : ltb (width_of (get_or s at 0)) 1 ≡ false = le-ltb (width_of (get_or s at 0)) 1 (width_some (get_or s at 0)) in
@@ -134,21 +129,21 @@ varint_through s at to some in' high low =
     at 0 8 (omega arith) (omega arith)
 
 -- THE LAW: one whose first byte is from 133 up is 640 or more
-pub varint_large : (s : List ℕ) (at : ℕ) → 133 ≤ get_or s at 0 → get_or s at 0 < 256 → (v : ℕ) (c : Cursor) → varint_at s at ≡ Value v c → 640 ≤ v
+pub varint_large : (s : List ℕ) (at : ℕ) → 133 ≤ get_or s at 0 → get_or s at 0 < 256 → (v : ℕ) (c : Cursor) → varint_at s at ≡ Some (v, c) → 640 ≤ v
 unfolding varint_at
 varint_large s at big byte v c e =
     by_order at (length s)
     (λ h.
     let r = rest (at + 1) (grown s at 0) 7 in
     omega (arith, r v c (sym (at_more s at 0 7 h (omega arith)) ∙ e)))
-    (λ out. never (sym (at_end s at 0 8 out) ∙ e))
+    (λ out. absurd (none-some _ (sym (at_end s at 0 8 out) ∙ e)))
   where
-    rest : (a w k : ℕ) (y : ℕ) (d : Cursor) → varint_from s a w k ≡ Value y d → w * 128 ≤ y
+    rest : (a w k : ℕ) (y : ℕ) (d : Cursor) → varint_from s a w k ≡ Some (y, d) → w * 128 ≤ y
     rest =
-        over s (λ a w k x. (y : ℕ) (d : Cursor) → x ≡ Value y d → w * 128 ≤ y)
-        (λ a w k out y d f. never f)
-        (λ a w h y d f. let z : w * 256 + get_or s a 0 ≡ y = cc in omega arith)
-        (λ a w k h low y d f. let z : w * 128 + get_or s a 0 ≡ y = cc in omega arith)
+        over s (λ a w k x. (y : ℕ) (d : Cursor) → x ≡ Some (y, d) → w * 128 ≤ y)
+        (λ a w k out y d f. absurd (none-some _ f))
+        (λ a w h y d f. let z = (some_pair_parts _ _ _ _ f).0 in omega arith)
+        (λ a w k h low y d f. let z = (some_pair_parts _ _ _ _ f).0 in omega arith)
         (λ a w k h high x z y d f. omega (arith, z y d f))
 
 -- ---- the bytes that reading a varint looks at
@@ -201,8 +196,8 @@ module _ (x y : List ℕ) (same : length x ≡ length y) where
       rw e
     where
       stop_same : (r : Varint) → stop_of y r ≡ stop_of x r
-      stop_same (Value v c) = refl
-      stop_same Short = sym same
+      stop_same (Some (v, c)) = refl
+      stop_same None = sym same
 
 pub places_are : (s : List ℕ) (at : ℕ) → varint_places s at ≡ places_from at (stop_of s (varint_at s at) - at)
 unfolding varint_places
@@ -215,11 +210,11 @@ places_count s at = places_length at _
 -- ---- values
 
 -- THE LAW: what is decoded and starts in the slice ends in it
-pub decoded_ends : (t : ℕ) (s : List ℕ) (at : ℕ) (v : Cell) (n : ℕ) → at ≤ length s → decode_at t s at ≡ Got v n → at + n ≤ length s
+pub decoded_ends : (t : ℕ) (s : List ℕ) (at : ℕ) (v : Cell) (n : ℕ) → at ≤ length s → decode_at t s at ≡ Some (v, n) → at + n ≤ length s
 decoded_ends t s at v n h e = let d = decoded t s at v n e in fits_inside t n s at d.0 d.1 h
 
 -- THE LAW: of types from 12 up the even ones are blobs and the odd ones texts, of as many bytes as the type says
-pub long_value : {C : Type 0} (t : ℕ) (s : List ℕ) (at n : ℕ) → 12 ≤ t → body_length t ≡ Bytes n →
+pub long_value : {C : Type 0} (t : ℕ) (s : List ℕ) (at n : ℕ) → 12 ≤ t → body_length t ≡ Some n →
     (t ≡ 12 + 2 * n → value_of t s at n ≡ Blob at n → C) → (t ≡ 13 + 2 * n → value_of t s at n ≡ Text at n → C) → C
 unfolding body_length
 long_value t s at n big l blob text =
@@ -229,12 +224,12 @@ long_value t s at n big l blob text =
     by_cases (ℕ_discrete (t % 2) 0)
     (λ even.
     let q = eq-eqb (t % 2) 0 even in
-    let z : Bytes ((t - 12) / 2) ≡ Bytes n = simp (ge10, ge12, q) at l in
+    let z : Some ((t - 12) / 2) ≡ Some n = simp (ge10, ge12, q) at l in
     let y : (t - 12) / 2 ≡ n = cc in
     blob (omega arith) (simp (past, q)))
     (λ odd.
     let q = ne_eqb (t % 2) 0 odd in
-    let z : Bytes ((t - 13) / 2) ≡ Bytes n = simp (ge10, ge12, q) at l in
+    let z : Some ((t - 13) / 2) ≡ Some n = simp (ge10, ge12, q) at l in
     let y : (t - 13) / 2 ≡ n = cc in
     text (omega arith) (simp (past, q)))
 
@@ -244,13 +239,13 @@ module _ (e : Entry) (all : ℕ) where
   unfolding bad_within
   bad_state h = simp (lt-ltb unused_state e.state h)
 
-  pub bad_body : e.state ≡ body_state → ((n : ℕ) → body_length e.kind ≡ Bytes n → e.len ≡ n → all < e.start + n) → bad_within e all ≡ true
+  pub bad_body : e.state ≡ body_state → ((n : ℕ) → body_length e.kind ≡ Some n → e.len ≡ n → all < e.start + n) → bad_within e all ≡ true
   unfolding bad_within
   bad_body z h = simp z (by_length (body_length e.kind) refl)
     where
       by_length : (l : Length) → body_length e.kind ≡ l → (unlike e.len l || ltb all (e.start + e.len)) ≡ true
-      by_length Reserved l = refl
-      by_length (Bytes n) l =
+      by_length None l = refl
+      by_length (Some n) l =
           by_cases (ℕ_discrete e.len n)
           (λ q. simp (lt-ltb all (e.start + e.len) (omega (arith, h n l q)), or-true))
           (λ ne. simp (ne_eqb e.len n ne))
@@ -260,18 +255,18 @@ module _ (e : Entry) (all : ℕ) where
   good_bodiless other hi = simp (le-ltb unused_state e.state hi, ne_eqb e.state body_state other)
 
   -- where the length is the type's, the place decides
-  pub bad_by_place : e.state ≡ body_state → body_length e.kind ≡ Bytes e.len → bad_within e all ≡ ltb all (e.start + e.len)
+  pub bad_by_place : e.state ≡ body_state → body_length e.kind ≡ Some e.len → bad_within e all ≡ ltb all (e.start + e.len)
   unfolding bad_within
   bad_by_place z l = simp (z, l, eq-eqb e.len e.len refl)
 
 module _ (e : Entry) (s : List ℕ) where
   -- THE LAW: a bad entry is refused
-  pub entry_refused : bad_entry e s ≡ true → (read_entry e s ≡ Refused) × (◌≡◌ {A = ℕ} (entry_refusal e s) 2)
+  pub entry_refused : bad_entry e s ≡ true → (read_entry e s ≡ None) × (◌≡◌ {A = ℕ} (entry_refusal e s) 2)
   unfolding read_entry entry_refusal
   entry_refused b = (simp b, simp b)
 
   -- THE LAW: the states of no body read as NULL
-  pub entry_null : (e.state ≡ body_state → ⊥) → e.state ≤ unused_state → (read_entry e s ≡ Of Null) × (◌≡◌ {A = ℕ} (entry_refusal e s) 0)
+  pub entry_null : (e.state ≡ body_state → ⊥) → e.state ≤ unused_state → (read_entry e s ≡ Some Null) × (◌≡◌ {A = ℕ} (entry_refusal e s) 0)
   unfolding read_entry entry_refusal bad_within
   entry_null other hi =
       let big = le-ltb unused_state e.state hi in
@@ -279,8 +274,8 @@ module _ (e : Entry) (s : List ℕ) where
       (simp (big, none), simp (big, none))
 
   -- THE LAW: a body that is there is read
-  pub entry_body : e.state ≡ body_state → body_length e.kind ≡ Bytes e.len → e.start + e.len ≤ length s →
-      (read_entry e s ≡ Of (value_of e.kind s e.start e.len)) × (◌≡◌ {A = ℕ} (entry_refusal e s) 0)
+  pub entry_body : e.state ≡ body_state → body_length e.kind ≡ Some e.len → e.start + e.len ≤ length s →
+      (read_entry e s ≡ Some (value_of e.kind s e.start e.len)) × (◌≡◌ {A = ℕ} (entry_refusal e s) 0)
   unfolding read_entry entry_refusal bad_within
   entry_body z l h =
       let out = le-ltb (length s) (e.start + e.len) h in
@@ -288,29 +283,29 @@ module _ (e : Entry) (s : List ℕ) where
       (simp (z, l, like, out), simp (z, l, like, out))
 
   -- THE LAW: a good entry is read: where there is a body, as the value of its type
-  pub good_body : e.state ≡ body_state → bad_entry e s ≡ false → (body_length e.kind ≡ Bytes e.len) × (read_entry e s ≡ Of (value_of e.kind s e.start e.len))
+  pub good_body : e.state ≡ body_state → bad_entry e s ≡ false → (body_length e.kind ≡ Some e.len) × (read_entry e s ≡ Some (value_of e.kind s e.start e.len))
   unfolding read_entry
   good_body z good = (by_length (body_length e.kind) refl, simp (good, z))
     where
       bad : bad_entry e s ≡ true → ⊥
       bad b = let y : ◌≡◌ {A = ℕ} 0 1 = cc in absurd (omega arith)
 
-      by_length : (l : Length) → body_length e.kind ≡ l → body_length e.kind ≡ Bytes e.len
-      by_length Reserved l = absurd (bad (bad_body e (length s) z (λ n k q. let y : ◌≡◌ {A = ℕ} 0 1 = cc in absurd (omega arith))))
-      by_length (Bytes n) l =
+      by_length : (l : Length) → body_length e.kind ≡ l → body_length e.kind ≡ Some e.len
+      by_length None l = absurd (bad (bad_body e (length s) z (λ n k q. let y : ◌≡◌ {A = ℕ} 0 1 = cc in absurd (omega arith))))
+      by_length (Some n) l =
           by_cases (ℕ_discrete e.len n)
           (λ q. rw q l)
-          (λ ne. absurd (bad (bad_body e (length s) z (λ m k q. let y : Bytes m ≡ Bytes n = cc in absurd (ne (cc))))))
+          (λ ne. absurd (bad (bad_body e (length s) z (λ m k q. let y : Some m ≡ Some n = cc in absurd (ne (cc))))))
 
-  pub good_read : bad_entry e s ≡ false → (v : Cell) × (read_entry e s ≡ Of v)
+  pub good_read : bad_entry e s ≡ false → (v : Cell) × (read_entry e s ≡ Some v)
   good_read good =
       by_cases (ℕ_discrete e.state body_state)
       (λ there. (_, (good_body there good).1))
       (λ other. (Null, (entry_null other (by_order unused_state e.state (λ big. let y : ◌≡◌ {A = ℕ} 0 1 = cc (bad_state e (length s) big) in absurd (omega arith)) (λ hi. hi))).0))
 
   -- THE LAW: a body that is there reads as what is decoded at its start, if the length is what that takes
-  module _ (body : e.state ≡ body_state) (v : Cell) (n : ℕ) (there : decode_at e.kind s e.start ≡ Got v n) where
-    pub entry_decoded : e.start ≤ length s → e.len ≡ n → (read_entry e s ≡ Of v) × (◌≡◌ {A = ℕ} (entry_refusal e s) 0)
+  module _ (body : e.state ≡ body_state) (v : Cell) (n : ℕ) (there : decode_at e.kind s e.start ≡ Some (v, n)) where
+    pub entry_decoded : e.start ≤ length s → e.len ≡ n → (read_entry e s ≡ Some v) × (◌≡◌ {A = ℕ} (entry_refusal e s) 0)
     entry_decoded h q =
         let d = decoded e.kind s e.start v n there in
         let b = entry_body body (rw q d.0) (omega (arith, fits_inside e.kind n s e.start d.0 d.1 h)) in
@@ -319,12 +314,12 @@ module _ (e : Entry) (s : List ℕ) where
     pub bad_length : (e.len ≡ n → ⊥) → bad_entry e s ≡ true
     bad_length ne =
         let d = decoded e.kind s e.start v n there in
-        bad_body e (length s) body (λ m l q. let z : Bytes m ≡ Bytes n = cc in absurd (ne (cc)))
+        bad_body e (length s) body (λ m l q. let z : Some m ≡ Some n = cc in absurd (ne (cc)))
 
   -- THE LAW: an entry that was read stands for NULL, or for a body that lies in the slice
   pub entry_cases : (P : Cell → Type 0) → P Null →
-      (body_length e.kind ≡ Bytes e.len → e.start + e.len ≤ length s → P (value_of e.kind s e.start e.len)) →
-      (v : Cell) → read_entry e s ≡ Of v → P v
+      (body_length e.kind ≡ Some e.len → e.start + e.len ≤ length s → P (value_of e.kind s e.start e.len)) →
+      (v : Cell) → read_entry e s ≡ Some v → P v
   entry_cases P null body v r =
       by_order unused_state e.state (λ big. refused (bad_state e (length s) big))
       (λ hi.
@@ -336,17 +331,17 @@ module _ (e : Entry) (s : List ℕ) where
       refused b = let z : ◌≡◌ {A = ℕ} 0 1 = cc (entry_refused b).0 in absurd (omega arith)
 
       by_length : e.state ≡ body_state → (l : Length) → body_length e.kind ≡ l → P v
-      by_length there Reserved l = refused (bad_body e (length s) there (λ n k q. let z : ◌≡◌ {A = ℕ} 0 1 = cc in absurd (omega arith)))
-      by_length there (Bytes n) l =
+      by_length there None l = refused (bad_body e (length s) there (λ n k q. let z : ◌≡◌ {A = ℕ} 0 1 = cc in absurd (omega arith)))
+      by_length there (Some n) l =
           by_cases (ℕ_discrete e.len n)
           (λ q.
           by_order (length s) (e.start + e.len)
           (λ out. refused (bad_body e (length s) there (λ m k w. omega arith)))
           (λ h.
-          let like : body_length e.kind ≡ Bytes e.len = cc in
+          let like : body_length e.kind ≡ Some e.len = cc in
           let z : v ≡ value_of e.kind s e.start e.len = cc (entry_body there like h).0 in
           rw z (body like h)))
-          (λ ne. refused (bad_body e (length s) there (λ m k q. let z : Bytes m ≡ Bytes n = cc in absurd (ne (cc)))))
+          (λ ne. refused (bad_body e (length s) there (λ m k q. let z : Some m ≡ Some n = cc in absurd (ne (cc)))))
 
 -- ---- signed numbers of 64 bits, as the machine keeps them
 

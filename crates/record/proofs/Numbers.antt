@@ -1,14 +1,16 @@
 -- Going by cases; numbers made of groups of bits, over the group's width; and two's complement.
 -- Assumes nothing.
 use Prim.Native.Nat.{ℕ, zero, suc, ◌+◌, ◌-◌, ◌*◌, ◌/◌, ◌^◌, ◌<◌, ◌≤◌}
-use mathlib.Core.Path.{◌≡◌, refl, ◌∙◌, ap}
+use mathlib.Core.Path.{◌≡◌, refl, sym, ◌∙◌, ap}
 use mathlib.Core.Bool.{Bool, true, false, cond}
 use mathlib.Core.Logic.{by_cases}
 use native.Mathlib.Decide.{dec_lt}
 use native.Mathlib.Nat.{lt_of_lt_of_le, mul-add, mul-one, add-mul, one-mul, mul-le-mul_left, mul-le-mul_right, zero-add}
 use native.Mathlib.Omega.{arith}
 use lib.IntN.{pos, negsuc, ◌-ℤ◌}
-use mir.Val.{bool_byte}
+use mir.Syntax.{w64}
+use mir.Val.{bool_byte, to_z}
+use mir.Facts.{to_z_pos, to_z-neg}
 use lib.Pow.{pow_mono, pow-add}
 use borrow.Author.Tests.{lt-ltb, le-ltb}
 use Rattle.record.specs.Value.{twos_complement}
@@ -66,3 +68,12 @@ module _ (bits whole v : ℕ) (two : whole ≡ 2 ^ bits) where
       let i : bits ≡ bits - 1 + 1 = omega arith in
       let e : 2 ^ bits ≡ 2 ^ (bits - 1) * 2 = ap (2 ^◌) i ∙ pow-add 2 (bits - 1) 1 in
       simp (le-ltb (v + v) (2 ^ bits) (omega arith), lt-ltb v (2 ^ bits) (omega arith), two)
+
+-- and a signed word of 64 bits is that of its bits
+pub signed_word : (v : ℕ) → v < 2 ^ 64 → to_z w64 v ≡ twos_complement 64 v
+signed_word v h =
+    by_order v (2 ^ 63)
+    (λ low. to_z_pos w64 low ∙ sym (below_half 64 (2 ^ 64) v refl (omega arith)))
+    (λ high.
+    let k : v ≡ 2 ^ 64 - suc (2 ^ 64 - suc v) = omega arith in
+    ap (to_z w64) k ∙ to_z-neg w64 (2 ^ 64 - suc v) (omega arith) ∙ sym (from_half 64 (2 ^ 64) v refl (omega arith) (omega arith) h))

@@ -1,5 +1,6 @@
 -- A slice that lies in another: what is read in the one, said of the other.
 -- Assumes nothing.
+use Rattle.std.specs.Prelude.{None, Some}
 use Prim.Native.Nat.{ℕ, zero, suc, ◌+◌, ◌-◌, ◌*◌, ◌%◌, ◌≤◌, ◌<◌}
 use mathlib.Core.Path.{◌≡◌, refl, sym, ◌∙◌}
 use mathlib.Core.Bool.{Bool, true, false, cond}
@@ -15,8 +16,7 @@ use Rattle.record.specs.Value.{big_endian, twos_complement, value_of, moved_valu
 use Rattle.record.specs.Varint.{varint_from, varint_at}
 use Rattle.record.specs.declared.record.Value.{Value as Cell}
 use Rattle.record.specs.declared.record.Value.TheVariants.{Null, Int, Real, Text, Blob}
-use Rattle.record.specs.declared.varint.Varint.{Varint}
-use Rattle.record.specs.declared.varint.Varint.TheVariants.{Value, Short}
+use Rattle.record.specs.Varint.{Varint}
 use Rattle.record.proofs.Varints.{at_end, at_ninth, at_last, at_more, over}
 
 -- p is the part of s that begins at `by`
@@ -42,8 +42,8 @@ part_within {a} {b} {q} {p} {s} x y =
 
 -- ---- varints
 abbrev pub moved_varint : ℕ → Varint → Varint
-moved_varint by (Value v c) = Value v (record { at = by + c.at; padded = c.padded })
-moved_varint by Short = Short
+moved_varint by (Some (v, c)) = Some (v, (record { at = by + c.at; padded = c.padded }))
+moved_varint by None = None
 
 -- THE LAW: a varint of the part is one of the slice, if both end at the same place; and so is the rest of one
 pub rest_moved : {by : ℕ} {p s : List ℕ} → PartOf by p s → by + length p ≡ length s → (at v k : ℕ)

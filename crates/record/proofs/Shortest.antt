@@ -1,5 +1,6 @@
 -- A number that is read is marked as padded just where a varint of fewer bytes has its value.
 -- Assumes nothing.
+use Rattle.std.specs.Prelude.{None, Some}
 use Prim.Native.Nat.{ℕ, zero, suc, ◌+◌, ◌-◌, ◌*◌, ◌/◌, ◌%◌, ◌^◌, ◌<◌, ◌≤◌}
 use mathlib.Core.Path.{◌≡◌, refl, sym, ap, ◌∙◌}
 use mathlib.Core.Bool.{true, false}
@@ -11,8 +12,7 @@ use lib.Pow.{shr_lt, pow_mono}
 use borrow.Author.Tests.{le-ltb, ltb-true, ltb-false}
 use Rattle.record.specs.Varint.{width_of, varint_from, varint_at, Shortest}
 use Rattle.record.specs.declared.varint.Cursor.{Cursor}
-use Rattle.record.specs.declared.varint.Varint.{Varint}
-use Rattle.record.specs.declared.varint.Varint.TheVariants.{Value, Short}
+use Rattle.record.specs.Varint.{Varint}
 use Rattle.record.proofs.Numbers.{by_order, one_more}
 use Rattle.record.proofs.Shifts.{PartOf, moved_varint, rest_moved}
 use Rattle.record.proofs.Varints.{at_last, at_ninth, at_more, grown, over}
@@ -24,8 +24,8 @@ use Rattle.record.proofs.Widths.{width_some, width_most, width_least, width_nine
 -- the rest of a number, of which 8 - k bytes were read before `at` and gave v: the mark goes by the bytes read in all, and they have seven
 -- bits each, unless they are nine
 abbrev Holds : ℕ → ℕ → ℕ → Varint → Type 0
-Holds at v k Short = Unit
-Holds at v k (Value w c) =
+Holds at v k None = Unit
+Holds at v k (Some (w, c)) =
     k ≤ 8 → (at < c.at) × (c.padded ≡ ltb (width_of w) (8 - k + (c.at - at)))
     × (v < 2 ^ (7 * (8 - k)) → 8 - k + (c.at - at) < 9 → w < 2 ^ (7 * (8 - k + (c.at - at))))
 
@@ -42,8 +42,8 @@ module _ (s : List ℕ) where
       (λ at v k h high x rest. more at v k x rest)
     where
       more : (at v k : ℕ) (x : Varint) → Holds (at + 1) (grown s at v) k x → Holds at v (suc k) x
-      more at v k Short rest = tt
-      more at v k (Value w c) rest = λ few.
+      more at v k None rest = tt
+      more at v k (Some (w, c)) rest = λ few.
           let r = rest (omega arith) in
           let n : 8 - k + (c.at - (at + 1)) ≡ 8 - suc k + (c.at - at) = omega (arith, r.0) in
           let m : 8 - k ≡ 8 - suc k + 1 = omega arith in (
@@ -52,11 +52,11 @@ module _ (s : List ℕ) where
             λ small nine. rw n at (r.2 (rw m (one_more 7 (8 - suc k) v (get_or s at 0 % 128) small (omega arith))) (omega arith)),
           )
 
-module _ (s : List ℕ) (at v : ℕ) (c : Cursor) (e : varint_at s at ≡ Value v c) where
+module _ (s : List ℕ) (at v : ℕ) (c : Cursor) (e : varint_at s at ≡ Some (v, c)) where
   whole : (at < c.at) × (c.padded ≡ ltb (width_of v) (c.at - at)) × (c.at - at < 9 → v < 2 ^ (7 * (c.at - at)))
   unfolding varint_at
   whole =
-      let h : Holds at 0 8 (Value v c) = rw e at (holds s at 0 8) in
+      let h : Holds at 0 8 (Some (v, c)) = rw e at (holds s at 0 8) in
       let r = h (omega arith) in
       let n : 8 - 8 + (c.at - at) ≡ c.at - at = omega arith in
       (r.0, rw n at r.1, λ nine. rw n at (r.2 (omega arith) (omega arith)))
@@ -97,12 +97,12 @@ groups_bytes zero r = tt
 groups_bytes (suc n) r = bytes_behind (groups n (r / 128)) (128 + r % 128) (groups_bytes n (r / 128)) (omega arith)
 
 moved_none : (x : Varint) → moved_varint 0 x ≡ x
-moved_none (Value v c) = let e : 0 + c.at ≡ c.at = omega arith in rw e
-moved_none Short = refl
+moved_none (Some (v, c)) = let e : 0 + c.at ≡ c.at = omega arith in rw e
+moved_none None = refl
 
 moved_twice : (n : ℕ) (x : Varint) → moved_varint n (moved_varint 1 x) ≡ moved_varint (suc n) x
-moved_twice n (Value v c) = let e : n + (1 + c.at) ≡ suc n + c.at = omega arith in rw e
-moved_twice n Short = refl
+moved_twice n (Some (v, c)) = let e : n + (1 + c.at) ≡ suc n + c.at = omega arith in rw e
+moved_twice n None = refl
 
 behind_one : (b : ℕ) (l : List ℕ) → PartOf 1 l (b ∷ l)
 behind_one b l = record { ends = omega arith; same = λ i lt. let e : 1 + i ≡ suc i = omega arith in rw e }
@@ -124,7 +124,7 @@ through (suc n) r k rest h =
 pub record Written (v : ℕ) : Type 0 where
   pub bytes : List ℕ
   pub all_bytes : AllBytes bytes
-  pub is : varint_at bytes 0 ≡ Value v (record { at = width_of v; padded = false })
+  pub is : varint_at bytes 0 ≡ Some (v, (record { at = width_of v; padded = false }))
 
 module _ (v : ℕ) where
   low_form : (n : ℕ) → width_of v ≡ suc n → n < 8 → Written v
@@ -166,7 +166,7 @@ module _ (v : ℕ) where
       (λ high. high_form high h)
 
 -- ---- THE LAW: not padded is the shortest form, by the format; padded is not
-module _ (s : List ℕ) (at v : ℕ) (c : Cursor) (e : varint_at s at ≡ Value v c) where
+module _ (s : List ℕ) (at v : ℕ) (c : Cursor) (e : varint_at s at ≡ Some (v, c)) where
   pub shortest_is : c.padded ≡ false → Shortest v (c.at - at)
   shortest_is f t o d g =
       let k = ltb-false (width_of v) (c.at - at) (sym (padded_is s at v c e) ∙ f) in

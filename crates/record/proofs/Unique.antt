@@ -9,6 +9,7 @@ use Rattle.record.proofs.record.Value.len.Reads as value_len
 use Rattle.record.proofs.record.Value.start.Reads as value-start
 use Rattle.record.proofs.record.body_length.Reads as body-length
 use Rattle.record.proofs.record.decode_serial_type.Reads as decode-serial-type
+use Rattle.record.proofs.varint.Cursor.new.Reads as cursor-new
 use Rattle.record.proofs.varint.Cursor.header_length.Reads as header-length
 use Rattle.record.proofs.varint.Cursor.often_short.Reads as often-short
 use Rattle.record.proofs.varint.Cursor.serial_type.Reads as serial-type
@@ -22,6 +23,9 @@ FixesSeen {K} {A} {R} {S} Post see = (k : K) (a : A k) (x y : R k) (s t : S k) �
 -- the result itself
 abbrev pub Fixes {h i j l} : {K : Type h} {A : K → Type i} {R : K → Type j} {S : K → Type l} → ((k : K) → A k → R k → S k → Type 0) → Type (h ⊔ i ⊔ j ⊔ l)
 Fixes {K} {A} {R} {S} Post = (k : K) (a : A k) (x y : R k) (s t : S k) → Post k a x s → Post k a y t → x ≡ y
+
+pub cursor_new_fixed : Fixes cursor-new.Post
+cursor_new_fixed k a x y s t p q = p ∙ sym q
 
 pub varint_fixed : Fixes varint.Post
 varint_fixed k a x y s t p q = p ∙ sym q

@@ -1,5 +1,6 @@
 -- The cases of the definitions on values, each from facts on the numbers.
 -- Assumes nothing.
+use Rattle.std.specs.Prelude.{None, Some}
 use Prim.Native.Nat.{ℕ, zero, suc, ◌+◌, ◌*◌, ◌%◌, ◌≤◌, ◌<◌}
 use mathlib.Core.Path.{◌≡◌, refl, sym, ap, ◌∙◌}
 use mathlib.Core.Bool.{true, false, cond, or-true}
@@ -10,18 +11,17 @@ use lib.Ieee.{binary64, of_bits}
 use lib.IntN.{ℤ}
 use lib.ListN.{length, get_or}
 use borrow.Author.Tests.{lt-ltb, le-ltb, le-leb, ne_eqb, leb-true, eqb-true, ltb-false}
+use Rattle.std.proofs.lemmas.Option.{some_pair_parts}
 use Rattle.record.specs.Value.{small_lengths, body_length, body_fits, big_endian, twos_complement, value_of, decode_at}
-use Rattle.record.specs.declared.record.Decoded.TheVariants.{Of, Nothing}
-use Rattle.record.specs.declared.record.Length.{Length}
-use Rattle.record.specs.declared.record.Length.TheVariants.{Bytes, Reserved}
+use Rattle.record.specs.Value.{Length}
 use Rattle.record.specs.declared.record.Value.{Value}
 use Rattle.record.specs.declared.record.Value.TheVariants.{Null, Int, Real, Text, Blob}
 use Rattle.record.proofs.Numbers.{by_order, by_test}
 
 -- types below 10 are as long as the table says
-pub small_length_lem : (t n : ℕ) → t < 10 → body_length t ≡ Bytes n → n ≡ get_or small_lengths t 0
+pub small_length_lem : (t n : ℕ) → t < 10 → body_length t ≡ Some n → n ≡ get_or small_lengths t 0
 unfolding body_length
-small_length_lem t n h e = let z : Bytes (get_or small_lengths t 0) ≡ Bytes n = simp (lt-ltb t 10 h) at e in cc
+small_length_lem t n h e = let z : Some (get_or small_lengths t 0) ≡ Some n = simp (lt-ltb t 10 h) at e in cc
 
 -- the table by ranges
 pub below_five : (t : ℕ) → t < 5 → t ≡ get_or small_lengths t 0
@@ -50,7 +50,7 @@ module _ (t n : ℕ) (s : List ℕ) (at : ℕ) where
   unfolding body_fits
   fits_here h = simp (le-leb (at + n) (length s) h, or-true)
 
-  pub fits_inside : body_length t ≡ Bytes n → body_fits t n s at ≡ true → at ≤ length s → at + n ≤ length s
+  pub fits_inside : body_length t ≡ Some n → body_fits t n s at ≡ true → at ≤ length s → at + n ≤ length s
   unfolding body_fits
   fits_inside l f h =
       by_test (eqb t 0) (constant 0 (lit< tt) refl) λ no0.
@@ -95,31 +95,31 @@ value_past t s at n h =
 
 -- ---- `decode_at`
 module _ (t : ℕ) (s : List ℕ) (at : ℕ) where
-  pub decode_is : (n : ℕ) → body_length t ≡ Bytes n → body_fits t n s at ≡ true → decode_at t s at ≡ Of (value_of t s at n) n
+  pub decode_is : (n : ℕ) → body_length t ≡ Some n → body_fits t n s at ≡ true → decode_at t s at ≡ Some ((value_of t s at n), n)
   unfolding decode_at
   decode_is n l f = simp (l, f)
 
-  pub decode_out : (n : ℕ) → body_length t ≡ Bytes n → body_fits t n s at ≡ false → decode_at t s at ≡ Nothing
+  pub decode_out : (n : ℕ) → body_length t ≡ Some n → body_fits t n s at ≡ false → decode_at t s at ≡ None
   unfolding decode_at
   decode_out n l f = simp (l, f)
 
-  pub decode_none : body_length t ≡ Reserved → decode_at t s at ≡ Nothing
+  pub decode_none : body_length t ≡ None → decode_at t s at ≡ None
   unfolding decode_at
   decode_none l = simp l
 
-  decoded_as : (l : Length) → body_length t ≡ l → (v : Value) (n : ℕ) → decode_at t s at ≡ Of v n → (body_length t ≡ Bytes n) × (body_fits t n s at ≡ true) × (v ≡ value_of t s at n)
-  decoded_as Reserved l v n d = let z : ◌≡◌ {A = ℕ} 0 1 = cc (decode_none l) in absurd (omega arith)
-  decoded_as (Bytes m) l v n d =
+  decoded_as : (l : Length) → body_length t ≡ l → (v : Value) (n : ℕ) → decode_at t s at ≡ Some (v, n) → (body_length t ≡ Some n) × (body_fits t n s at ≡ true) × (v ≡ value_of t s at n)
+  decoded_as None l v n d = let z : ◌≡◌ {A = ℕ} 0 1 = cc (decode_none l) in absurd (omega arith)
+  decoded_as (Some m) l v n d =
       by_test (body_fits t m s at)
-      (λ f. let z : Of (value_of t s at m) m ≡ Of v n = sym (decode_is m l f) ∙ d in (cc, cc, cc))
+      (λ f. let z = some_pair_parts _ _ _ _ (sym (decode_is m l f) ∙ d) in (cc, cc, cc))
       (λ f. let z : ◌≡◌ {A = ℕ} 0 1 = cc (decode_out m l f) in absurd (omega arith))
 
   -- what stands behind a value that was decoded
-  pub decoded : (v : Value) (n : ℕ) → decode_at t s at ≡ Of v n → (body_length t ≡ Bytes n) × (body_fits t n s at ≡ true) × (v ≡ value_of t s at n)
+  pub decoded : (v : Value) (n : ℕ) → decode_at t s at ≡ Some (v, n) → (body_length t ≡ Some n) × (body_fits t n s at ≡ true) × (v ≡ value_of t s at n)
   decoded = decoded_as (body_length t) refl
 
   -- and behind none
-  pub undecoded : (n : ℕ) → decode_at t s at ≡ Nothing → body_length t ≡ Bytes n → length s < at + n
+  pub undecoded : (n : ℕ) → decode_at t s at ≡ None → body_length t ≡ Some n → length s < at + n
   undecoded n d l =
       by_test (body_fits t n s at)
       (λ f. let z : ◌≡◌ {A = ℕ} 0 1 = cc (decode_is n l f) in absurd (omega arith))

@@ -1,16 +1,16 @@
 -- The cases of `varint_from`, each from facts on the numbers, and induction over a varint's bytes.
 -- Assumes nothing.
+use Rattle.std.specs.Prelude.{None}
 use Prim.Native.Nat.{ℕ, zero, suc, ◌+◌, ◌-◌, ◌*◌, ◌%◌, ◌<◌, ◌≤◌}
 use mathlib.Core.Path.{◌≡◌}
 use mathlib.Core.List.{List}
 use lib.ListN.{length, get_or}
 use borrow.Author.Tests.{lt-ltb, le-ltb}
 use Rattle.record.specs.Varint.{varint_from, ended}
-use Rattle.record.specs.declared.varint.Varint.{Varint}
-use Rattle.record.specs.declared.varint.Varint.TheVariants.{Short}
+use Rattle.record.specs.Varint.{Varint}
 use Rattle.record.proofs.Numbers.{by_order}
 
-pub at_end : (s : List ℕ) (at v k : ℕ) → length s ≤ at → varint_from s at v k ≡ Short
+pub at_end : (s : List ℕ) (at v k : ℕ) → length s ≤ at → varint_from s at v k ≡ None
 unfolding varint_from
 at_end s at v zero h = simp (le-ltb at (length s) h)
 at_end s at v (suc k) h = simp (le-ltb at (length s) h)
@@ -34,7 +34,7 @@ module _ (s : List ℕ) (at v k : ℕ) (inside : at < length s) where
 
 -- what holds at each of the four ways to go on holds of every varint
 module _ (s : List ℕ) (P : ℕ → ℕ → ℕ → Varint → Type 0)
-    (end : (at v k : ℕ) → length s ≤ at → P at v k Short)
+    (end : (at v k : ℕ) → length s ≤ at → P at v k None)
     (ninth : (at v : ℕ) → at < length s → P at v 0 (ended (v * 256 + get_or s at 0) 9 (at + 1)))
     (last : (at v k : ℕ) → at < length s → get_or s at 0 < 128 → P at v (suc k) (ended (v * 128 + get_or s at 0) (8 - k) (at + 1)))
     (more : (at v k : ℕ) → at < length s → 128 ≤ get_or s at 0 → (x : Varint) → P (at + 1) (grown s at v) k x → P at v (suc k) x) where

@@ -1,12 +1,8 @@
 -- What a column entry reads as, and the bytes that it shows (rules 3.1 to 3.4).
 -- Assumes nothing.
-use Rattle.std.specs.Prelude.{ℕ, ◌+◌, Bool, true, cond, not, ◌&&◌, ◌||◌, List, [], length, take, drop, ltb, eqb}
-use Rattle.record.specs.Value.{body_length, value_of, start_of, length_of}
+use Rattle.std.specs.Prelude.{ℕ, ◌+◌, Bool, true, cond, not, ◌&&◌, ◌||◌, List, [], length, take, drop, ltb, eqb, Option, Some, None}
+use Rattle.record.specs.Value.{Length, body_length, value_of, start_of, length_of}
 use Rattle.record.specs.declared.entry.Entry.{Entry}
-use Rattle.record.specs.declared.entry.EntryRead.{EntryRead}
-use Rattle.record.specs.declared.entry.EntryRead.TheVariants.{Of, Refused}
-use Rattle.record.specs.declared.record.Length.{Length}
-use Rattle.record.specs.declared.record.Length.TheVariants.{Bytes, Reserved}
 use Rattle.record.specs.declared.record.Value.{Value}
 use Rattle.record.specs.declared.record.Value.TheVariants.{Null}
 
@@ -26,10 +22,14 @@ lost_state = 2
 abbrev pub unused_state : ℕ
 unused_state = 3
 
+-- what an entry reads as; none is a refusal
+abbrev pub EntryRead : Type 0
+EntryRead = Option Value
+
 -- whether a length is not the type's; types 10 and 11 have none
 abbrev pub unlike : ℕ → Length → Bool
-unlike len (Bytes n) = not (eqb len n)
-unlike len Reserved = true
+unlike len (Some n) = not (eqb len n)
+unlike len None = true
 
 -- Rule 3.2: there is no such state; or there should be a body, and the length is not the type's or the body leaves the slice
 -- of so many bytes
@@ -44,8 +44,8 @@ bad_entry e s = bad_within e (length s)
 -- Rule 3.3: a good entry reads as its body where that is there, and as NULL in the other states
 unfoldable pub read_entry : Entry → List ℕ → EntryRead
 read_entry e s =
-    cond (bad_entry e s) Refused
-    (cond (eqb e.state body_state) (Of (value_of e.kind s e.start e.len)) (Of Null))
+    cond (bad_entry e s) None
+    (cond (eqb e.state body_state) (Some (value_of e.kind s e.start e.len)) (Some Null))
 
 -- the number of that refusal
 abbrev pub bad_number : ℕ
@@ -53,8 +53,8 @@ bad_number = 2
 
 -- the number of what was read; 0 stands for none
 abbrev pub refusal_of : EntryRead → ℕ
-refusal_of (Of v) = 0
-refusal_of Refused = bad_number
+refusal_of (Some v) = 0
+refusal_of None = bad_number
 
 unfoldable pub entry_refusal : Entry → List ℕ → ℕ
 entry_refusal e s = cond (bad_entry e s) bad_number 0
@@ -64,8 +64,8 @@ abbrev pub value_bytes : List ℕ → Value → List ℕ
 value_bytes s v = take (length_of v) (drop (start_of v) s)
 
 abbrev pub shown : List ℕ → EntryRead → List ℕ
-shown s (Of v) = value_bytes s v
-shown s Refused = []
+shown s (Some v) = value_bytes s v
+shown s None = []
 
 unfoldable pub entry_bytes : Entry → List ℕ → List ℕ
 entry_bytes e s = shown s (read_entry e s)

@@ -1,10 +1,8 @@
 -- Places of a slice that a reader looks at (rule 2.4), and types one behind the other (rules 2.11 and 4.7).
 -- Assumes nothing.
-use Rattle.std.specs.Prelude.{ℕ, zero, suc, ◌+◌, ◌-◌, ◌≡◌, Bool, false, cond, ◌||◌, List, [], ◌∷◌, ◌++◌, ltb, length, get_or}
-use Rattle.record.specs.Varint.{varint_at}
+use Rattle.std.specs.Prelude.{ℕ, zero, suc, ◌+◌, ◌-◌, ◌≡◌, Bool, false, cond, ◌||◌, List, [], ◌∷◌, ◌++◌, ltb, length, get_or, Some, None}
+use Rattle.record.specs.Varint.{Varint, varint_at}
 use Rattle.record.specs.declared.varint.Cursor.{Cursor}
-use Rattle.record.specs.declared.varint.Varint.{Varint}
-use Rattle.record.specs.declared.varint.Varint.TheVariants.{Value, Short}
 
 -- n places, from `at` on
 abbrev pub places_from : ℕ → ℕ → List ℕ
@@ -13,8 +11,8 @@ places_from at (suc n) = at ∷ places_from (at + 1) n
 
 -- where reading a varint stopped: behind it, or at the slice's end where it runs off
 abbrev pub stop_of : List ℕ → Varint → ℕ
-stop_of s (Value v c) = c.at
-stop_of s Short = length s
+stop_of s (Some (v, c)) = c.at
+stop_of s None = length s
 
 -- Rule 2.4: the bytes that reading the varint at `at` looks at
 unfoldable pub varint_places : List ℕ → ℕ → List ℕ
@@ -24,8 +22,8 @@ varint_places s at = places_from at (stop_of s (varint_at s at) - at)
 
 -- the bytes that reading them looks at
 abbrev pub places_on : Varint → (ℕ → List ℕ) → List ℕ
-places_on (Value t c) rest = rest c.at
-places_on Short rest = []
+places_on (Some (t, c)) rest = rest c.at
+places_on None rest = []
 
 unfoldable pub type_places : ℕ → List ℕ → ℕ → ℕ → List ℕ
 type_places zero s at stop = []
@@ -33,8 +31,8 @@ type_places (suc f) s at stop = cond (ltb at stop) (varint_places s at ++ places
 
 -- Rule 2.11: whether one of them is padded
 abbrev pub padded_on : Varint → (ℕ → Bool) → Bool
-padded_on (Value t c) rest = c.padded || rest c.at
-padded_on Short rest = false
+padded_on (Some (t, c)) rest = c.padded || rest c.at
+padded_on None rest = false
 
 unfoldable pub types_padded : ℕ → List ℕ → ℕ → ℕ → Bool
 types_padded zero s at stop = false

@@ -1,16 +1,20 @@
 -- Serial types of the SQLite file format, section 2.1 (rules 2.5 to 2.9).
 -- Assumes nothing.
 use Rattle.std.specs.Prelude.{◌+◌, ◌-◌, ◌*◌, ◌/◌, ◌%◌, ◌^◌, ◌||◌, [], ◌∷◌}
-use Rattle.std.specs.Prelude.{ℕ, zero, suc, Bool, cond, List, ℤ, pos, length, get_or, ltb, leb, eqb}
+use Rattle.std.specs.Prelude.{ℕ, zero, suc, Bool, cond, List, ℤ, pos, length, get_or, ltb, leb, eqb, Option, Some, None}
 use Rattle.std.proofs.Math.IntN.{sub_ℕ}
 use Rattle.std.specs.Float.{binary64}
 use Rattle.std.specs.Float.Ieee.{of_bits}
-use Rattle.record.specs.declared.record.Decoded.{Decoded}
-use Rattle.record.specs.declared.record.Decoded.TheVariants.{Of, Nothing}
-use Rattle.record.specs.declared.record.Length.{Length}
-use Rattle.record.specs.declared.record.Length.TheVariants.{Bytes, Reserved}
 use Rattle.record.specs.declared.record.Value.{Value}
 use Rattle.record.specs.declared.record.Value.TheVariants.{Null, Int, Real, Text, Blob}
+
+-- how long a body is; none of a type that stands for nothing
+abbrev pub Length : Type 0
+Length = Option ℕ
+
+-- a value, and how many bytes its body takes
+abbrev pub Decoded : Type 0
+Decoded = Option (Value × ℕ)
 
 -- Rule 2.5: the body lengths of types 0 to 9
 abbrev pub small_lengths : List ℕ
@@ -18,9 +22,9 @@ small_lengths = 0 ∷ 1 ∷ 2 ∷ 3 ∷ 4 ∷ 6 ∷ 8 ∷ 8 ∷ 0 ∷ 0 ∷ []
 
 unfoldable pub body_length : ℕ → Length
 body_length t =
-    cond (ltb t 10) (Bytes (get_or small_lengths t 0))
-    (cond (ltb t 12) Reserved
-    (cond (eqb (t % 2) 0) (Bytes ((t - 12) / 2)) (Bytes ((t - 13) / 2))))
+    cond (ltb t 10) (Some (get_or small_lengths t 0))
+    (cond (ltb t 12) None
+    (cond (eqb (t % 2) 0) (Some ((t - 12) / 2)) (Some ((t - 13) / 2))))
 
 -- Rule 2.6: the number that n bytes are, the highest first
 unfoldable pub big_endian : List ℕ → ℕ → ℕ → ℕ
@@ -46,8 +50,8 @@ body_fits t n s at = eqb t 0 || (eqb t 8 || (eqb t 9 || leb (at + n) (length s))
 
 -- Rule 2.9: the value with the bytes that its body takes, or none
 abbrev pub decode_as : ℕ → List ℕ → ℕ → Length → Decoded
-decode_as t s at (Bytes n) = cond (body_fits t n s at) (Of (value_of t s at n) n) Nothing
-decode_as t s at Reserved = Nothing
+decode_as t s at (Some n) = cond (body_fits t n s at) (Some (value_of t s at n, n)) None
+decode_as t s at None = None
 
 unfoldable pub decode_at : ℕ → List ℕ → ℕ → Decoded
 decode_at t s at = decode_as t s at (body_length t)

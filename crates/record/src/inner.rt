@@ -4,6 +4,7 @@ ghost use Rattle.record.specs.Places.{stop_of};
 ghost use Rattle.record.specs.Value.{big_endian};
 ghost use Rattle.record.specs.Varint.{varint_at};
 
+// As a cast, or u64 made from it: by this name the proofs of `filter` and `page` know what a byte gives.
 pub fn wide(x: u8) -> u64
     ensures { result ≡ x }
 {
@@ -18,10 +19,8 @@ pub fn big_endian(bytes: &[u8], at: usize, n: usize) -> u64
     ensures small { result < 2 ^ (8 * n) }
 {
     let mut v: u64 = 0;
-    let mut i: usize = 0;
-    while i < n {
-        v = v * 256 + wide(bytes[at + i]);
-        i = i + 1;
+    for byte in &bytes[at..at + n] {
+        v = v * 256 + wide(*byte);
     }
     v
 }
@@ -31,19 +30,18 @@ pub fn skip_varint(bytes: &[u8], from: usize) -> usize
     ensures { result ≡ stop_of bytes.now (varint_at bytes.now from) }
 {
     let mut at = from;
-    let mut n: u64 = 0;
-    while n < 8 {
-        if bytes.len() <= at {
+    for _ in 0..8usize {
+        if at >= bytes.len() {
             return bytes.len();
         }
         if bytes[at] < 128 {
             return at + 1;
         }
-        at = at + 1;
-        n = n + 1;
+        at += 1;
     }
-    if bytes.len() <= at {
-        return bytes.len();
+    if at < bytes.len() {
+        at + 1
+    } else {
+        bytes.len()
     }
-    at + 1
 }

@@ -1,10 +1,11 @@
 -- What other crates rest on: they cite these laws and unfold no definition of this one.
 -- Assumes nothing.
+use Rattle.std.specs.Prelude.{Err, Ok, Result}
 use Prim.Native.Nat.{ℕ, zero, suc, ◌+◌, ◌*◌, ◌/◌, ◌≤◌, ◌<◌, min}
 use mathlib.Core.Path.{◌≡◌, refl, sym, ap, ◌∙◌}
 use mathlib.Core.Bool.{Bool, true, false, cond, ◌||◌, and-eq-true_iff}
 use mathlib.Core.List.{List, [], ◌∷◌, ◌++◌, append_assoc}
-use native.Mathlib.Nat.{add-zero, zero-add, add-suc, suc-add, suc-mul, min-le_left, min-le_right, min-eq_left, min-eq_right, le_of_lt, le_trans, le-div_iff_mul-le}
+use native.Mathlib.Nat.{add-zero, zero-add, add-suc, suc-add, suc-mul, min-le_left, min-le_right, min-eq_left, min-eq_right, le_of_lt, le_trans, le-div_iff_mul-le, div-div-eq-div-mul}
 use native.Mathlib.Numerals.{add-one}
 use native.Mathlib.Omega.{arith}
 use borrow.Author.Tests.{leb-true, ltb-false, not-false, ne_eqb, le-leb, lt-leb, le-ltb, lt-ltb}
@@ -24,14 +25,12 @@ use Rattle.sheet.specs.Slice.{slice_checks, counted_checks}
 use Rattle.sheet.specs.declared.columns.Column.{Column}
 use Rattle.sheet.specs.declared.columns.Column.TheVariants.{Body, Unfit, Lost, Unused}
 use Rattle.sheet.specs.declared.filled.Filled.{Filled}
-use Rattle.sheet.specs.declared.filled.Filled.TheVariants.{Refused as Barred}
-use Rattle.sheet.specs.declared.refusal.Checked.{Checked}
-use Rattle.sheet.specs.declared.refusal.Checked.TheVariants.{Passed, Refused}
+use Rattle.sheet.specs.Refusal.{Checked}
 use Rattle.sheet.specs.declared.refusal.Refusal.{Refusal}
 use Rattle.sheet.specs.declared.refusal.Refusal.TheVariants.{ColumnCount, Malformed, TooLarge, BaseTooFar, PageSize, NoSuchPage, NoColumnList, WalkSpace, NoRoom}
 use Rattle.sheet.specs.declared.row.Mode.{Mode}
 use Rattle.sheet.specs.declared.row.Row.{Row}
-use Rattle.sheet.specs.declared.row.RowId.{RowId}
+use Rattle.sheet.specs.Row.{RowId}
 use Rattle.sheet.specs.declared.row.Source.{Source}
 
 -- of two tests that do not hold together, neither does
@@ -66,11 +65,11 @@ NoneHolds [] = Unit
 NoneHolds (c ∷ cs) = (c.holds ≡ false) × NoneHolds cs
 
 -- THE LAW: what passed has passed each check
-pub none_holds : (cs : List Check) → first_held cs ≡ Passed → NoneHolds cs
+pub none_holds : (cs : List Check) → first_held cs ≡ (Ok tt) → NoneHolds cs
 none_holds [] e = tt
 none_holds (c ∷ cs) e = go c.holds refl e (λ p. none_holds cs p)
   where
-    go : (b : Bool) → c.holds ≡ b → cond b (Refused c.refusal) (first_held cs) ≡ Passed → (first_held cs ≡ Passed → NoneHolds cs)
+    go : (b : Bool) → c.holds ≡ b → cond b (Err c.refusal) (first_held cs) ≡ (Ok tt) → (first_held cs ≡ (Ok tt) → NoneHolds cs)
         → (c.holds ≡ false) × NoneHolds cs
     go true h e rest = let z : ◌≡◌ {A = ℕ} 0 1 = cc in absurd (omega arith)
     go false h e rest = (h, rest e)
@@ -89,13 +88,13 @@ pub record SliceFits (len columns base : ℕ) : Type 0 where
   pub few : columns ≤ most_columns
   pub near : base ≤ largest_base
 
-pub slice_fits : (len : ℕ) (hints : List ℕ) (base : ℕ) → first_held (slice_checks len hints base) ≡ Passed → SliceFits len (length hints) base
+pub slice_fits : (len : ℕ) (hints : List ℕ) (base : ℕ) → first_held (slice_checks len hints base) ≡ (Ok tt) → SliceFits len (length hints) base
 slice_fits len hints base e =
     let n = none_holds (slice_checks len hints base) e in
     let k = count_fits_lem (length hints) (not-false _ n.0) in
     record { small = ltb-false largest_region len n.1.1.0; some = k.0; few = k.1; near = ltb-false largest_base base n.1.1.1.0 }
 
-pub counted_fits : (len columns base : ℕ) → first_held (counted_checks len columns base) ≡ Passed → SliceFits len columns base
+pub counted_fits : (len columns base : ℕ) → first_held (counted_checks len columns base) ≡ (Ok tt) → SliceFits len columns base
 counted_fits len columns base e =
     let n = none_holds (counted_checks len columns base) e in
     let k = count_fits_lem columns (not-false _ n.0) in
@@ -173,18 +172,23 @@ sets_next l at vs i h = rw (add-one, add-suc, drop-cons vs i 0)
 
 -- ---- what fills one list
 -- an answer's number, and how many things it says are written
-abbrev pub Numbers : Filled → ℕ → ℕ → Type 0
+abbrev pub Numbers : Result Filled Refusal → ℕ → ℕ → Type 0
 Numbers answer number written = (filled_number answer ≡ number) × (filled_written answer ≡ written)
 
 -- THE LAW: they are those of the first check that holds; behind the checks it is 9 where there are more things than cells, and as many are written as fit
-pub filled_numbers : (c : Checked) (n room : ℕ) → Numbers (after Barred c (filled_by n room)) (number_after c n room) (written_after c n room)
-filled_numbers (Refused r) n room = (refl, refl)
-filled_numbers Passed n room =
+pub filled_numbers : (c : Checked) (n room : ℕ) → Numbers (after Err c (Ok (filled_by n room))) (number_after c n room) (written_after c n room)
+filled_numbers (Err r) n room = (refl, refl)
+filled_numbers (Ok tt) n room =
     by_order room n
     (λ more. simp (lt-leb n room more, lt-ltb room n more, min-eq_left (le_of_lt more)) (refl, refl))
     (λ fit. simp (le-leb n room fit, le-ltb room n fit, min-eq_right fit) (refl, refl))
 
 -- ---- room
+-- dividing by 4 and then by the width is dividing by their product
+pub room_least : (rows cols width : ℕ) → (width ≡ 0 → ⊥) → min (rows / words_per_row) (cols / words_per_entry / width) ≡ room_of rows cols width
+unfolding room_of
+room_least rows cols width h = simp (ne_eqb width 0 h, ← div-div-eq-div-mul)
+
 least : (b : Bool) (x y : ℕ) → cond b x (min x y) ≤ x
 least true x y = omega arith
 least false x y = min-le_left x y

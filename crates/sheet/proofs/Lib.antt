@@ -3,5 +3,6 @@ pub mod Filling
 pub mod Laws
 pub mod Percent
 pub mod ReadBack
+pub mod Sheets
 pub mod Shares
 pub mod Unique

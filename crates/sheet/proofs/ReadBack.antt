@@ -1,5 +1,6 @@
 -- Entries read back over the slice that was lent: each column as its value, what pads a group as NULL, and so all rows that a call writes.
 -- Assumes nothing.
+use Rattle.std.specs.Prelude.{Err, Ok, Some}
 use Prim.Native.Nat.{ℕ, zero, suc, ◌+◌, ◌-◌, ◌*◌, ◌≤◌, min}
 use mathlib.Core.Path.{◌≡◌, refl, sym, ap, ◌∙◌}
 use mathlib.Core.List.{List, [], ◌∷◌, ◌++◌, map, append_assoc}
@@ -11,9 +12,7 @@ use Rattle.record.proofs.Laws.{entry_body, entry_null}
 use Rattle.record.specs.Entry.{read_entry, body_state, unused_state}
 use Rattle.record.specs.Value.{body_length, value_of}
 use Rattle.record.specs.declared.entry.Entry.{Entry}
-use Rattle.record.specs.declared.entry.EntryRead.{EntryRead}
-use Rattle.record.specs.declared.entry.EntryRead.TheVariants.{Of}
-use Rattle.record.specs.declared.record.Length.TheVariants.{Bytes}
+use Rattle.record.specs.Entry.{EntryRead}
 use Rattle.record.specs.declared.record.Value.{Value}
 use Rattle.record.specs.declared.record.Value.TheVariants.{Null}
 use Rattle.sheet.specs.Columns.{column_words, unused_words}
@@ -25,13 +24,12 @@ use Rattle.sheet.specs.Sheet.{overlay, columns_words, entries_in, AllWithin}
 use Rattle.sheet.specs.Values.{groups_values, written_values}
 use Rattle.sheet.specs.declared.columns.Column.{Column}
 use Rattle.sheet.specs.declared.columns.Column.TheVariants.{Body, Unfit, Lost, Unused}
-use Rattle.sheet.specs.declared.refusal.Checked.{Checked}
-use Rattle.sheet.specs.declared.refusal.Checked.TheVariants.{Passed, Refused as Held}
+use Rattle.sheet.specs.Refusal.{Checked}
 use Rattle.sheet.proofs.Laws.{columns_append}
 
 -- the first n entries of a list lie in the slice, and read as these values
 pub record ReadBack (s : List ℕ) (n : ℕ) (cols : List ℕ) (values : List Value) : Type 0 where
-  pub reads : map (λ e. read_entry e s) (entries_in n cols) ≡ map Of values
+  pub reads : map (λ e. read_entry e s) (entries_in n cols) ≡ map Some values
   pub within : AllWithin (length s) (entries_in n cols)
 
 -- columns lie in the slice, and read over it as these values, before entries that read as others
@@ -50,7 +48,7 @@ module _ (s : List ℕ) where
 
   -- one more, by its entry
   reads_one : (c : Column) (state kind start len : ℕ) (v : Value) (cs : List Column) (vs : List Value) → column_words c ≡ state ∷ kind ∷ start ∷ len ∷ []
-      → read_entry (record { state = state; kind = kind; start = start; len = len }) s ≡ Of v → start + len ≤ length s → Reads s cs vs → Reads s (c ∷ cs) (v ∷ vs)
+      → read_entry (record { state = state; kind = kind; start = start; len = len }) s ≡ Some v → start + len ≤ length s → Reads s cs vs → Reads s (c ∷ cs) (v ∷ vs)
   reads_one c state kind start len v cs vs words is in' r =
       record {
         before = λ n cols values b.
@@ -58,7 +56,7 @@ module _ (s : List ℕ) where
             rw (suc-add (length cs) n, words) (record { reads = rw (is, later.reads); within = (in', later.within) });
       }
 
-  pub reads_body : (t at n : ℕ) (cs : List Column) (vs : List Value) → body_length t ≡ Bytes n → at + n ≤ length s → Reads s cs vs → Reads s (Body t at n ∷ cs) (value_of t s at n ∷ vs)
+  pub reads_body : (t at n : ℕ) (cs : List Column) (vs : List Value) → body_length t ≡ Some n → at + n ≤ length s → Reads s cs vs → Reads s (Body t at n ∷ cs) (value_of t s at n ∷ vs)
   unfolding column_words
   reads_body t at n cs vs l in' =
       reads_one (Body t at n) 0 t at n (value_of t s at n) cs vs refl (entry_body (record { state = 0; kind = t; start = at; len = n }) s refl l in').0 in'
@@ -100,7 +98,7 @@ module _ (s : List ℕ) where
       let read : Entry → EntryRead = λ e. read_entry e s in
       let same = ap (λ (l : List EntryRead). length l) (r.before 0 [] [] (record { reads = refl; within = tt })).reads in
       let words = columns_words cs ++ [] in
-      omega (arith, same, length-map (entries_in (length cs + 0) words) read, entries_length (length cs + 0) words, length-map (vs ++ []) Of, length-append vs [])
+      omega (arith, same, length-map (entries_in (length cs + 0) words) read, entries_length (length cs + 0) words, length-map (vs ++ []) Some, length-append vs [])
 
   -- ---- rows of at most so many columns, each with its values
   abbrev pub AllFit : ℕ → List Hit → List (List Value) → Type 0
@@ -159,15 +157,15 @@ module _ (s : List ℕ) where
       rw (n, words) (group.before (length hs * width) behind (groups_values width vss) later)
 
   -- THE LAW: what a call leaves that writes such rows, as many as there is room for, unless a check refuses
-  written_read : (a : RowFilling) (vss : List (List Value)) (c : Checked) → (c ≡ Passed → AllFit a.width a.hits vss)
+  written_read : (a : RowFilling) (vss : List (List Value)) (c : Checked) → (c ≡ (Ok tt) → AllFit a.width a.hits vss)
       → ReadBack s (after_or0 c (min (row_room a) (length a.hits)) * a.width) (after_or_kept c (overlay (groups_words a.width (take (row_room a) a.hits)) a.cols) a.cols) (after_or_kept c (groups_values a.width (take (row_room a) vss)) [])
-  written_read a vss Passed f =
+  written_read a vss (Ok tt) f =
       let written = take (row_room a) a.hits in
       rw (sym (length-take (row_room a) a.hits))
       (groups_read a.width written (take (row_room a) vss) (drop (length (groups_words a.width written)) a.cols) (fit_taken (row_room a) a.width a.hits vss (f refl)))
-  written_read a vss (Held k) f = nothing_read a.width a.cols
+  written_read a vss (Err k) f = nothing_read a.width a.cols
 
-  pub rows_read : (a : RowFilling) (vss : List (List Value)) (x : RowOutcome) → FillsRows a x → (a.checked ≡ Passed → AllFit a.width a.hits vss)
+  pub rows_read : (a : RowFilling) (vss : List (List Value)) (x : RowOutcome) → FillsRows a x → (a.checked ≡ (Ok tt) → AllFit a.width a.hits vss)
       → ReadBack s (filled_written x.answer * a.width) x.cols (written_values a vss)
   unfolding rows_written entries_left
   rows_read a vss x p f = rw (p.written, p.entries) (written_read a vss a.checked f)

@@ -1,24 +1,21 @@
 -- Calls that fill lent lists: the numbers of their answer, and what one promises that fills one list.
 -- Assumes nothing.
-use Rattle.std.specs.Prelude.{ℕ, min, ◌≡◌, cond, List, ltb, leb, length, take}
-use Rattle.sheet.specs.Refusal.{refusal_number, after, after_or0, after_or_kept}
+use Rattle.std.specs.Prelude.{ℕ, min, ◌≡◌, cond, List, ltb, leb, length, take, Result, Ok, Err}
+use Rattle.sheet.specs.Answer.{number_in, end_number, written_in, end_written}
+use Rattle.sheet.specs.Refusal.{Checked, refusal_number, after, after_or0, after_or_kept}
 use Rattle.sheet.specs.Sheet.{overlay}
 use Rattle.sheet.specs.declared.filled.Filled.{Filled}
-use Rattle.sheet.specs.declared.filled.Filled.TheVariants.{Done, Full, Refused}
-use Rattle.sheet.specs.declared.refusal.Checked.{Checked}
+use Rattle.sheet.specs.declared.filled.Filled.TheVariants.{Done, Full}
+use Rattle.sheet.specs.declared.refusal.Refusal.{Refusal}
 use Rattle.sheet.specs.declared.refusal.Refusal.TheVariants.{NoRoom}
 
 -- Rule 1.1: the number of an answer; 0 stands for none
-abbrev pub filled_number : Filled → ℕ
-filled_number (Done n) = 0
-filled_number (Full n) = refusal_number NoRoom
-filled_number (Refused r) = refusal_number r
+abbrev pub filled_number : Result Filled Refusal → ℕ
+filled_number r = number_in end_number r
 
 -- Rule 1.2: how many things an answer says are written
-abbrev pub filled_written : Filled → ℕ
-filled_written (Done n) = n
-filled_written (Full n) = n
-filled_written (Refused r) = 0
+abbrev pub filled_written : Result Filled Refusal → ℕ
+filled_written r = written_in end_written r
 
 -- Rule 1.2: what n things come to where there are so many cells
 abbrev pub filled_by : ℕ → ℕ → Filled
@@ -44,8 +41,8 @@ pub record ListFilling : Type 0 where
   pub things : List ℕ
   pub old : List ℕ
 
-unfoldable pub list_answer : ListFilling → Filled
-list_answer a = after Refused a.checked (filled_by (length a.things) (length a.old))
+unfoldable pub list_answer : ListFilling → Result Filled Refusal
+list_answer a = after Err a.checked (Ok (filled_by (length a.things) (length a.old)))
 
 unfoldable pub list_number : ListFilling → ℕ
 list_number a = number_after a.checked (length a.things) (length a.old)
@@ -58,10 +55,10 @@ list_left a = after_or_kept a.checked (laid a.things a.old) a.old
 
 -- what such a call comes to: its answer, and what the list holds at exit
 pub record ListOutcome : Type 0 where
-  pub answer : Filled
+  pub answer : Result Filled Refusal
   pub list : List ℕ
 
-abbrev pub list_outcome : Filled → List ℕ → ListOutcome
+abbrev pub list_outcome : Result Filled Refusal → List ℕ → ListOutcome
 list_outcome r list = record { answer = r; list = list }
 
 -- what it promises

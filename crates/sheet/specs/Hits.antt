@@ -1,14 +1,13 @@
 -- Rows that were found, with their columns, as words of lent lists; and what a call promises that fills two lists with them.
 -- Assumes nothing.
-use Rattle.std.specs.Prelude.{ℕ, ◌-◌, ◌≡◌, List, [], ◌∷◌, ◌++◌, length, take}
+use Rattle.std.specs.Prelude.{ℕ, ◌-◌, ◌≡◌, List, [], ◌∷◌, ◌++◌, length, take, Result, Ok, Err}
 use Rattle.sheet.specs.Columns.{unused_words, room_of}
 use Rattle.sheet.specs.Filled.{filled_number, filled_written, filled_by, number_after, written_after}
-use Rattle.sheet.specs.Refusal.{after, after_or_kept}
+use Rattle.sheet.specs.Refusal.{Checked, after, after_or_kept}
 use Rattle.sheet.specs.Sheet.{overlay, rows_words, columns_words}
 use Rattle.sheet.specs.declared.columns.Column.{Column}
 use Rattle.sheet.specs.declared.filled.Filled.{Filled}
-use Rattle.sheet.specs.declared.filled.Filled.TheVariants.{Refused as Barred}
-use Rattle.sheet.specs.declared.refusal.Checked.{Checked}
+use Rattle.sheet.specs.declared.refusal.Refusal.{Refusal}
 use Rattle.sheet.specs.declared.row.Row.{Row}
 
 -- ---- what is found, and the words that say it
@@ -44,8 +43,8 @@ abbrev pub row_room : RowFilling → ℕ
 row_room a = room_of (length a.rows) (length a.cols) a.width
 
 -- Rule 1.1: what it answers, the number of that, and how many rows it says are written
-unfoldable pub rows_answer : RowFilling → Filled
-rows_answer a = after Barred a.checked (filled_by (length a.hits) (row_room a))
+unfoldable pub rows_answer : RowFilling → Result Filled Refusal
+rows_answer a = after Err a.checked (Ok (filled_by (length a.hits) (row_room a)))
 
 unfoldable pub rows_number : RowFilling → ℕ
 rows_number a = number_after a.checked (length a.hits) (row_room a)
@@ -62,11 +61,11 @@ entries_left a = after_or_kept a.checked (overlay (groups_words a.width (take (r
 
 -- what such a call comes to: its answer, and what the lists hold at exit
 pub record RowOutcome : Type 0 where
-  pub answer : Filled
+  pub answer : Result Filled Refusal
   pub rows : List ℕ
   pub cols : List ℕ
 
-abbrev pub row_outcome : Filled → List ℕ → List ℕ → RowOutcome
+abbrev pub row_outcome : Result Filled Refusal → List ℕ → List ℕ → RowOutcome
 row_outcome r rows cols = record { answer = r; rows = rows; cols = cols }
 
 -- what it promises

@@ -1,8 +1,6 @@
 -- Refusals: their numbers, and which of a call's checks decides.
 -- Assumes nothing.
-use Rattle.std.specs.Prelude.{ℕ, Bool, cond, List, [], ◌∷◌}
-use Rattle.sheet.specs.declared.refusal.Checked.{Checked}
-use Rattle.sheet.specs.declared.refusal.Checked.TheVariants.{Passed, Refused}
+use Rattle.std.specs.Prelude.{ℕ, Bool, cond, List, [], ◌∷◌, Result, Err, Ok}
 use Rattle.sheet.specs.declared.refusal.Refusal.{Refusal}
 use Rattle.sheet.specs.declared.refusal.Refusal.TheVariants.{ColumnCount, Malformed, TooLarge, BaseTooFar, PageSize}
 use Rattle.sheet.specs.declared.refusal.Refusal.TheVariants.{NoSuchPage, NoColumnList, WalkSpace, NoRoom}
@@ -19,6 +17,10 @@ refusal_number NoColumnList = 7
 refusal_number WalkSpace = 8
 refusal_number NoRoom = 9
 
+-- what checks come to: they pass, or one refuses
+abbrev pub Checked : Type 0
+Checked = Result Unit Refusal
+
 -- a check: what it refuses with, and whether it does
 pub record Check : Type 0 where
   pub refusal : Refusal
@@ -26,13 +28,13 @@ pub record Check : Type 0 where
 
 -- Rule 1.1: checks run in their order: the first that holds refuses
 abbrev pub first_held : List Check → Checked
-first_held [] = Passed
-first_held (c ∷ cs) = cond c.holds (Refused c.refusal) (first_held cs)
+first_held [] = (Ok tt)
+first_held (c ∷ cs) = cond c.holds (Err c.refusal) (first_held cs)
 
 -- and without one the call comes to what its work does
 abbrev pub after : {A : Type 0} → (Refusal → A) → Checked → A → A
-after refused Passed done = done
-after refused (Refused r) done = refused r
+after refused (Ok tt) done = done
+after refused (Err r) done = refused r
 
 -- Rule 1.2: what is refused by a check answers 0 beside the number, and leaves a list as it was
 abbrev pub after_or0 : Checked → ℕ → ℕ

@@ -1,25 +1,27 @@
 -- The nine words of a row.
 -- Assumes nothing.
-use Rattle.std.specs.Prelude.{ℕ, ◌+◌, ◌*◌, cond, List, [], ◌∷◌}
+use Rattle.std.specs.Prelude.{ℕ, Option, ◌+◌, ◌*◌, cond, List, [], ◌∷◌, None, Some}
 use Rattle.std.specs.Float.{binary32}
 use Rattle.std.specs.Float.Ieee.{to_bits}
 use Rattle.sheet.specs.declared.row.Mode.{Mode}
 use Rattle.sheet.specs.declared.row.Mode.TheVariants.{Plain, Normal, ColumnsOnly, FirstColMissing}
 use Rattle.sheet.specs.declared.row.Row.{Row}
-use Rattle.sheet.specs.declared.row.RowId.{RowId}
-use Rattle.sheet.specs.declared.row.RowId.TheVariants.{Absent, Present}
 use Rattle.sheet.specs.declared.row.Source.{Source}
 use Rattle.sheet.specs.declared.row.Source.TheVariants.{Scan, Freelist, CarvedIntraPage, CarvedUnalloc}
 
+-- a row's id, where there is one: its bits
+abbrev pub RowId : Type 0
+RowId = Option ℕ
+
 -- whether there is a row id: 0 or 1
 abbrev pub presence : RowId → ℕ
-presence Absent = 0
-presence (Present bits) = 1
+presence None = 0
+presence (Some bits) = 1
 
 -- the row id's bits, 0 when it is absent
 abbrev pub id_bits : RowId → ℕ
-id_bits Absent = 0
-id_bits (Present bits) = bits
+id_bits None = 0
+id_bits (Some bits) = bits
 
 -- the number of a source
 abbrev pub source_code : Source → ℕ

@@ -6,7 +6,7 @@ use crate::{WORDS_PER_ENTRY, WORDS_PER_ROW};
 use record::entry::{BODY, LOST, UNFIT, UNUSED};
 
 // A case for each state of an entry.
-#[derive(Clone, Copy)]
+#[derive(Clone, Copy, Debug, PartialEq, Eq)]
 pub enum Column {
     // The serial type, and where the body lies in the lent slice.
     Body { kind: u64, start: u64, len: u64 },
@@ -22,6 +22,7 @@ fn entry(state: u64, kind: u64, start: u64, len: u64) -> [u64; WORDS_PER_ENTRY]
     [state, kind, start, len]
 }
 
+#[tactic(auto, unfolding(crate::specs::Columns::column_words))]
 pub fn words(column: Column) -> [u64; WORDS_PER_ENTRY]
     ensures { result ≡ column_words column }
 {
@@ -34,6 +35,7 @@ pub fn words(column: Column) -> [u64; WORDS_PER_ENTRY]
 }
 
 // How many rows fit, each with a group of `width` entries.
+#[tactic(auto, using(crate::proofs::Laws::room_least), unfolding(crate::specs::Columns::room_of))]
 pub fn room(rows: usize, cols: usize, width: usize) -> usize
     ensures { result ≡ room_of rows cols width }
 {
@@ -43,6 +45,5 @@ pub fn room(rows: usize, cols: usize, width: usize) -> usize
         return whole;
     }
     // Two divisions, since the words of a group may pass what a usize holds.
-    let groups = cols / WORDS_PER_ENTRY / width;
-    if whole < groups { whole } else { groups }
+    whole.min(cols / WORDS_PER_ENTRY / width)
 }

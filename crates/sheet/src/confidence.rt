@@ -3,6 +3,7 @@ ghost use Rattle.std.specs.Prelude.{◌≡◌};
 ghost use Rattle.sheet.specs.Confidence.{share, freed_share, rebuilt_share, percent_of};
 
 // The share of the columns that the row's values suit.
+#[tactic(auto, unfolding(crate::specs::Confidence::share))]
 pub fn suited_share(suited: u16, columns: u16) -> f32
     ensures { result ≡ share suited columns }
 {
@@ -10,6 +11,7 @@ pub fn suited_share(suited: u16, columns: u16) -> f32
 }
 
 // A row in freed space may be partly overwritten, so it counts for less.
+#[tactic(auto, unfolding(crate::specs::Confidence::freed_share))]
 pub fn freed(confidence: f32) -> f32
     ensures { result ≡ freed_share confidence }
 {
@@ -17,6 +19,7 @@ pub fn freed(confidence: f32) -> f32
 }
 
 // A rebuilt row had a part of it guessed, so it counts for less.
+#[tactic(auto, unfolding(crate::specs::Confidence::rebuilt_share))]
 pub fn rebuilt(confidence: f32) -> f32
     ensures { result ≡ rebuilt_share confidence }
 {

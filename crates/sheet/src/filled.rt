@@ -1,38 +1,33 @@
-// What a call that fills one lent list answers.
+// What a call answers that has filled one lent list.
 ghost use Rattle.std.specs.Prelude.{◌≡◌};
-ghost use Rattle.sheet.specs.Filled.{filled_number, filled_written};
+ghost use Rattle.sheet.specs.Answer.{end_number, end_written};
 
-use crate::refusal;
-use crate::refusal::{FULL, Refusal};
+use crate::answer::Answer;
+use crate::refusal::Refusal;
 
-#[derive(Clone, Copy)]
+#[derive(Clone, Copy, Debug, PartialEq, Eq)]
 pub enum Filled {
     // How many things there are, all of them written.
     Done(usize),
     // How many are written, which fill the list; there are more.
     Full(usize),
-    Refused(Refusal),
 }
 
-impl Filled {
-    // The refusal's number, 0 for none.
-    pub fn number(self) -> u64
-        ensures { result ≡ filled_number self }
-    {
+impl Answer for Filled {
+    ghost number_of = { end_number };
+
+    ghost written_of = { end_written };
+
+    fn number(self) -> u64 {
         match self {
             Filled::Done(_) => 0,
-            Filled::Full(_) => FULL,
-            Filled::Refused(refusal) => refusal::number(refusal),
+            Filled::Full(_) => Refusal::NoRoom.number(),
         }
     }
 
-    pub fn written(self) -> u64
-        ensures { result ≡ filled_written self }
-    {
+    fn written(self) -> u64 {
         match self {
-            Filled::Done(n) => n as u64,
-            Filled::Full(n) => n as u64,
-            Filled::Refused(_) => 0,
+            Filled::Done(n) | Filled::Full(n) => n as u64,
         }
     }
 }

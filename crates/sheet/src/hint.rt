@@ -1,4 +1,5 @@
-// Hints: what a column is said to hold, by a code, and the two tests that every call over columns begins with.
+// Hints: what a column is said to hold, by a code, and the two tests that every call over columns begins with. Codes are bytes of a lent
+// list, as the C interface has them, so any byte may stand there.
 ghost use Rattle.std.specs.Prelude.{◌≡◌};
 ghost use Rattle.sheet.specs.Limits.{count_fits, hints_known};
 
@@ -16,24 +17,15 @@ pub const NULL: u8 = 4;
 
 pub const ANY: u8 = 5;
 
+#[tactic(auto, unfolding(crate::specs::Limits::count_fits))]
 pub fn hint_count_fits(count: usize) -> bool
     ensures { result ≡ count_fits count }
 {
-    if count < 1 {
-        return false;
-    }
-    count <= MOST_COLUMNS
+    1 <= count && count <= MOST_COLUMNS
 }
 
 pub fn hints_known(hints: &[u8]) -> bool
     ensures { result ≡ hints_known hints.now }
 {
-    let mut i = 0;
-    while i < hints.len() {
-        if hints[i] > HIGHEST_HINT {
-            return false;
-        }
-        i = i + 1;
-    }
-    true
+    hints.iter().all(|hint| *hint <= HIGHEST_HINT)
 }

@@ -11,34 +11,36 @@ use crate::filled::Filled;
 use crate::row::Row;
 use crate::{WORDS_PER_ENTRY, WORDS_PER_ROW, columns, row};
 
-// What carving came to: how many rows there are now; or a row found no room.
-#[derive(Clone, Copy)]
-pub enum Carved {
-    On(usize),
-    Full,
+// Two lent lists that rows are added to, one of rows and one of their entries in groups of `width`: for how many rows they have room, and
+// how many stand there.
+#[derive(Drop)]
+pub struct Sheet<'a> {
+    pub rows: &'a mut [u64],
+    pub cols: &'a mut [u64],
+    pub width: usize,
+    pub room: usize,
+    pub n: usize,
 }
 
-impl Carved {
-    // What a call answers that had room for `most` rows.
-    pub fn filled(self, most: usize) -> Filled
-        ensures { result ≡ filled_to most self }
+impl Sheet<'_> {
+    // What a call answers whose rows have all found room, or not.
+    pub fn filled(&self, added: Option<()>) -> Filled
+        ensures { result ≡ filled_to self.now added }
     {
-        match self {
-            Carved::On(n) => Filled::Done(n),
-            Carved::Full => Filled::Full(most),
+        match added {
+            Some(()) => Filled::Done(self.n),
+            None => Filled::Full(self.room),
         }
     }
 }
 
-// Rows and entries go through this one loop.
+// Rows and entries go through this one loop: `copy_from_slice` was tried, and takes three times the instructions for an entry's four words.
 pub fn put_words(list: &mut [u64], at: usize, words: &[u64])
     requires { at + length words.now ≤ length list.old }
     ensures { list.new ≡ sets list.old at words.now }
 {
-    let mut i = 0;
-    while i < words.len() {
-        list[at + i] = words[i];
-        i = i + 1;
+    for (i, word) in words.iter().enumerate() {
+        list[at + i] = *word;
     }
 }
 
@@ -64,11 +66,7 @@ pub fn put_unused(cols: &mut [u64], at: usize, n: usize)
     requires { at + words_per_entry * n ≤ length cols.old }
     ensures { cols.new ≡ sets cols.old at (unused_words n) }
 {
-    let mut to = at;
-    let mut left = n;
-    while left > 0 {
-        put_column(cols, to, Column::Unused);
-        to = to + WORDS_PER_ENTRY;
-        left = left - 1;
+    for k in 0..n {
+        put_column(cols, at + WORDS_PER_ENTRY * k, Column::Unused);
     }
 }

@@ -3,6 +3,7 @@
 // the other carvers'.
 #![tactic(auto)]
 
+pub mod answer;
 pub mod columns;
 pub mod confidence;
 pub mod filled;

@@ -1,54 +1,36 @@
-// Why a call is refused.
+// Why a call is refused, each by its number.
 // The tests behind the first two, named here too.
 ghost use Rattle.std.specs.Prelude.{◌≡◌};
 ghost use Rattle.sheet.specs.Refusal.{refusal_number};
 
 pub use crate::hint::hints_known;
 
-#[derive(Clone, Copy)]
+#[derive(Clone, Copy, Debug, PartialEq, Eq)]
 pub enum Refusal {
     // No columns, or more than there may be: as lent, or as a statement gives them.
-    ColumnCount,
+    ColumnCount = 1,
     // An unknown hint code, table lists that do not belong together, or an entry that names no value.
-    Malformed,
+    Malformed = 2,
     // More bytes, tables or rows than a call takes.
-    TooLarge,
+    TooLarge = 3,
     // The base is so far on that offsets might not fit.
-    BaseTooFar,
+    BaseTooFar = 4,
     // Not one of the page sizes that the file format has.
-    PageSize,
+    PageSize = 5,
     // Page 0, or a page that the database does not hold whole.
-    NoSuchPage,
+    NoSuchPage = 6,
     // A statement with no brackets around its columns.
-    NoColumnList,
+    NoColumnList = 7,
     // Too few flags for the pages, or a page that the stack cannot take.
-    WalkSpace,
-    // One thing more to write than the lent list can take.
-    NoRoom,
+    WalkSpace = 8,
+    // One thing more to write than the lent list can take: what is written then is said beside it.
+    NoRoom = 9,
 }
 
-// What the checks before a call come to.
-#[derive(Clone, Copy)]
-pub enum Checked {
-    Passed,
-    Refused(Refusal),
-}
-
-// The number of `NoRoom`, for answers that say how much was written into a full list and so hold no `Refusal`.
-pub const FULL: u64 = 9;
-
-pub fn number(refusal: Refusal) -> u64
-    ensures { result ≡ refusal_number refusal }
-{
-    match refusal {
-        Refusal::ColumnCount => 1,
-        Refusal::Malformed => 2,
-        Refusal::TooLarge => 3,
-        Refusal::BaseTooFar => 4,
-        Refusal::PageSize => 5,
-        Refusal::NoSuchPage => 6,
-        Refusal::NoColumnList => 7,
-        Refusal::WalkSpace => 8,
-        Refusal::NoRoom => FULL,
+impl Refusal {
+    pub fn number(self) -> u64
+        ensures { result ≡ refusal_number self }
+    {
+        self as u64
     }
 }

@@ -1,13 +1,12 @@
 // A row that was found, and the nine words that say it in a lent list.
-ghost use Rattle.std.specs.Prelude.{◌≡◌, ◌+◌, ◌*◌, ◌≤◌};
-ghost use Rattle.std.specs.Float.{binary32};
-ghost use Rattle.std.specs.Float.Ieee.{to_bits};
-ghost use Rattle.sheet.specs.Row.{presence, id_bits, source_code, source_percent, mode_code, row_words};
+ghost use Rattle.std.specs.Prelude.{◌≡◌, ◌+◌, ◌*◌};
+ghost use Rattle.sheet.specs.Row.{source_code, source_percent, mode_code, row_words};
 
 use crate::WORDS_PER_ROW;
+use std::num::f32_to_bits_with_nan;
 
 // Where a row was found, with its percent where there is one.
-#[derive(Clone, Copy)]
+#[derive(Clone, Copy, Debug, PartialEq, Eq)]
 pub enum Source {
     Scan,
     Freelist,
@@ -15,28 +14,22 @@ pub enum Source {
     CarvedUnalloc(u64),
 }
 
-// Which of the three modes read the row.
-#[derive(Clone, Copy)]
+// Which of the three modes read the row, each by its number.
+#[derive(Clone, Copy, Debug, PartialEq, Eq)]
 pub enum Mode {
     // None of them.
-    Plain,
-    Normal,
-    ColumnsOnly,
-    FirstColMissing,
+    Plain = 0,
+    Normal = 1,
+    ColumnsOnly = 2,
+    FirstColMissing = 3,
 }
 
-#[derive(Clone, Copy)]
-pub enum RowId {
-    Absent,
-    // The id's 64 bits.
-    Present(u64),
-}
-
-#[derive(Clone, Copy)]
+#[derive(Clone, Copy, Debug)]
 pub struct Row {
     pub offset: u64,
     pub consumed: u64,
-    pub id: RowId,
+    // Its 64 bits, where there is one.
+    pub id: Option<u64>,
     pub source: Source,
     pub confidence: f32,
     pub mode: Mode,
@@ -46,55 +39,25 @@ pub struct Row {
     pub padded: bool,
 }
 
-fn presence_of(id: RowId) -> u64
-    ensures { result ≡ presence id }
-{
-    match id {
-        RowId::Absent => 0,
-        RowId::Present(_) => 1,
+impl Source {
+    fn code(self) -> u64
+        ensures { result ≡ source_code self }
+    {
+        match self {
+            Source::Scan => 0,
+            Source::Freelist => 1,
+            Source::CarvedIntraPage(_) => 2,
+            Source::CarvedUnalloc(_) => 3,
+        }
     }
-}
 
-fn id_bits(id: RowId) -> u64
-    ensures { result ≡ id_bits id }
-{
-    let RowId::Present(bits) = id else {
-        return 0;
-    };
-    bits
-}
-
-fn source_code(source: Source) -> u64
-    ensures { result ≡ source_code source }
-{
-    match source {
-        Source::Scan => 0,
-        Source::Freelist => 1,
-        Source::CarvedIntraPage(_) => 2,
-        Source::CarvedUnalloc(_) => 3,
-    }
-}
-
-fn source_percent(source: Source) -> u64
-    ensures { result ≡ source_percent source }
-{
-    match source {
-        Source::Scan => 0,
-        Source::Freelist => 0,
-        Source::CarvedIntraPage(percent) => percent,
-        Source::CarvedUnalloc(percent) => percent,
-    }
-}
-
-fn mode_code(mode: Mode) -> u64
-    ensures value { result ≡ mode_code mode }
-    ensures small { result ≤ 3 }
-{
-    match mode {
-        Mode::Plain => 0,
-        Mode::Normal => 1,
-        Mode::ColumnsOnly => 2,
-        Mode::FirstColMissing => 3,
+    fn percent(self) -> u64
+        ensures { result ≡ source_percent self }
+    {
+        match self {
+            Source::Scan | Source::Freelist => 0,
+            Source::CarvedIntraPage(percent) | Source::CarvedUnalloc(percent) => percent,
+        }
     }
 }
 
@@ -102,36 +65,21 @@ fn mode_code(mode: Mode) -> u64
 fn mode_word(mode: Mode, table: u16) -> u64
     ensures { result ≡ mode_code mode + 4 * table }
 {
-    mode_code(mode) + 4 * table as u64
-}
-
-// `to_bits` is not defined at a NaN, so that one is written as the definitions have it.
-fn float_bits(x: f32) -> u64
-    ensures { result ≡ to_bits binary32 x }
-{
-    if x != x {
-        return 0x7fc0_0000;
-    }
-    f32::to_bits(x) as u64
+    mode as u64 + 4 * table as u64
 }
 
 pub fn words(row: Row) -> [u64; WORDS_PER_ROW]
     ensures { result ≡ row_words row }
 {
-    let id = row.id;
-    let source = row.source;
-    let mode = row.mode;
-    let percent = source_percent(source);
-    let confidence = float_bits(row.confidence);
     [
         row.offset,
         row.consumed,
-        presence_of(id),
-        id_bits(id),
-        source_code(source),
-        percent,
-        confidence,
-        mode_word(mode, row.table),
+        row.id.is_some() as u64,
+        row.id.unwrap_or(0),
+        row.source.code(),
+        row.source.percent(),
+        f32_to_bits_with_nan(row.confidence) as u64,
+        mode_word(row.mode, row.table),
         row.padded as u64,
     ]
 }

@@ -4,17 +4,20 @@ use Prim.Native.Nat.{ℕ, zero, suc, ◌+◌, ◌-◌, ◌%◌, ◌≤◌, ◌<�
 use mathlib.Core.Path.{◌≡◌, refl, sym, ap, ◌∙◌}
 use mathlib.Core.Bool.{Bool, true, false, cond, not, ◌&&◌, ◌||◌, and-eq-true_iff}
 use mathlib.Core.List.{List, [], ◌∷◌, ◌++◌, reverse, reverse-append, reverse-reverse, reverse-cons}
-use mathlib.Core.Logic.{by_cases}
-use native.Mathlib.Decide.{ℕ_discrete}
-use native.Mathlib.Nat.{add-zero}
+use native.Mathlib.Nat.{zero-add}
 use native.Mathlib.Numerals.{add-one}
 use native.Mathlib.Omega.{arith}
-use borrow.Author.Tests.{ne_eqb, eqb-false, lt-ltb, le-ltb, le-leb, lt-leb, leb-true, leb-false}
+use borrow.Author.Tests.{ne_eqb, eqb-false, lt-ltb, le-ltb, ltb-false, le-leb, lt-leb, leb-true, leb-false}
 use lib.Dec.{leb, ltb, eqb, leb-suc-suc}
 use lib.ListN.{length, take, drop, get_or, length-drop, length-reverse}
-use lib.Seq.{drop-cons, drop-length, take-suc, take_all, take-length, length-take-le, drop-drop}
+use Rattle.std.proofs.lemmas.List.{take-append-drop}
+use lib.Seq.{drop-append_seam, drop-cons, take-suc, take_all, length-take-le, drop-drop}
+use Rattle.std.specs.List.{position_or_len, position, list_all, zip}
+use Rattle.std.proofs.lemmas.List.Sums.{prefix_len-le-length}
+use Rattle.std.specs.Option.{unwrap_or}
+use Rattle.std.specs.Prelude.{Option}
 use Rattle.record.proofs.Numbers.{by_test}
-use Rattle.words.specs.Inner.{AllIn, Leads, Kept, WordEnds, PieceEnds, pieces_from}
+use Rattle.words.specs.Inner.{Leads, Kept, WordEnds, PieceEnds, pieces_from}
 use Rattle.words.specs.Runs.{is_blank, in_word, is_unlike, take_while, drop_while, drop_while_end, is_not, has, behind_first, before_last}
 use Rattle.words.specs.Words.{comma, pieces, second_word, behind_word, word_behind, raise, starts_with, holds}
 
@@ -26,6 +29,15 @@ from_at s i h = rw (add-one, drop-cons s i 0)
 pub part_from : (s : List ℕ) (i : ℕ) → take (length s - i) (drop i s) ≡ drop i s
 part_from s i = take_all (length s - i) (drop i s) (omega (arith, length-drop i s))
 
+-- what is left behind the last bytes, last first
+drop-reverse : (s : List ℕ) (n : ℕ) → n ≤ length s → drop n (reverse s) ≡ reverse (take (length s - n) s)
+drop-reverse s n h =
+    let m = length s - n in
+    let long : length (reverse (drop m s)) ≡ n = rw (length-reverse, length-drop) (omega arith) in
+    let parts : reverse s ≡ reverse (drop m s) ++ reverse (take m s) =
+    ap reverse (sym (take-append-drop m s)) ∙ reverse-append (take m s) (drop m s) in
+    rw parts (ap (λ k. drop k (reverse (drop m s) ++ reverse (take m s))) (sym long) ∙ drop-append_seam (reverse (drop m s)) (reverse (take m s)))
+
 back_from : (s : List ℕ) (e : ℕ) → 0 < e → e ≤ length s → reverse (take e s) ≡ get_or s (e - 1) 0 ∷ reverse (take (e - 1) s)
 back_from s zero h l = absurd (omega arith)
 back_from s (suc e) h l =
@@ -35,6 +47,18 @@ back_from s (suc e) h l =
 
 -- ---- runs: a byte is of the run, or ends it
 module _ (p : ℕ → Bool) where
+  -- a run is as long as the place of the first byte that is not of it, or as the list
+  run_place : (s : List ℕ) → position_or_len (λ b. not (p b)) s ≡ length (take_while p s)
+  unfolding take_while
+  run_place [] = refl
+  run_place (b ∷ s) = by_test (p b) (λ h. rw (h, run_place s) (omega arith)) (λ h. rw h)
+
+  pub run_length : (s : List ℕ) {r : Option ℕ} {n : ℕ} → r ≡ position (λ b. not (p b)) s → n ≡ length s → unwrap_or r n ≡ length (take_while p s)
+  run_length s {r} {n} e l =
+      by_test (ltb (position_or_len (λ b. not (p b)) s) (length s))
+      (λ h. rw (e, h) (run_place s))
+      (λ h. rw (e, h) (omega (arith, l, run_place s, ltb-false _ _ h, prefix_len-le-length (λ b. not (not (p b))) s)))
+
   -- THE LAW: the length of a run parts the list into it and what stands behind it
   pub take_run : (s : List ℕ) → take (length (take_while p s)) s ≡ take_while p s
   unfolding take_while
@@ -46,52 +70,28 @@ module _ (p : ℕ → Bool) where
   drop_run [] = refl
   drop_run (b ∷ s) = by_test (p b) (λ h. rw h (drop_run s)) (λ h. rw h)
 
-  module _ (s : List ℕ) (i : ℕ) (inside : i < length s) where
-    pub run_more : p (get_or s i 0) ≡ true → i + length (take_while p (drop i s)) ≡ i + 1 + length (take_while p (drop (i + 1) s))
-    unfolding take_while
-    run_more h = rw (from_at s i inside, h) (omega arith)
-
-    pub run_ends : p (get_or s i 0) ≡ false → i + length (take_while p (drop i s)) ≡ i
-    unfolding take_while
-    run_ends h = rw (from_at s i inside, h) (omega arith)
-
-  -- n bytes of the run at once
-  pub run_many : (s : List ℕ) (i n : ℕ) → i + n ≤ length s → ((k : ℕ) → k < n → p (get_or s (i + k) 0) ≡ true) →
-      i + length (take_while p (drop i s)) ≡ i + n + length (take_while p (drop (i + n) s))
-  run_many s i zero h all = rw add-zero
-  run_many s i (suc n) h all =
-      let e : i + suc n ≡ i + n + 1 = omega arith in
-      rw e (run_many s i n (omega arith) (λ k below. all k (omega arith)) ∙ run_more s (i + n) (omega arith) (all n (omega arith)))
-
-  -- one byte more passes the test, if it does
-  pub all_more : (s : List ℕ) (at k : ℕ) {all b : Bool} → AllIn p s at k all → b ≡ p (get_or s (at + k) 0) → AllIn p s at (k + 1) (all && b)
-  all_more s at k {all} {b} h e t j below =
-      let both = (and-eq-true_iff all b).0 t in
-      by_cases (ℕ_discrete j k) (λ q. rw q (sym e ∙ both.1)) (λ other. h both.0 j (omega arith))
-
-  pub back_all : (s : List ℕ) → drop_while p (reverse s) ≡ drop_while p (reverse (take (length s) s))
-  back_all s = rw take-length
-
-  module _ (s : List ℕ) (e : ℕ) (some : 0 < e) (inside : e ≤ length s) where
-    pub back_more : p (get_or s (e - 1) 0) ≡ true → drop_while p (reverse (take e s)) ≡ drop_while p (reverse (take (e - 1) s))
-    unfolding drop_while
-    back_more h = rw (back_from s e some inside, h)
-
-    pub back_ends : p (get_or s (e - 1) 0) ≡ false → drop_while p (reverse (take e s)) ≡ reverse (take e s)
-    unfolding drop_while
-    back_ends h = rw (back_from s e some inside, h)
-
-  pub back_none : (s : List ℕ) (e : ℕ) → e ≤ 0 → drop_while p (reverse (take e s)) ≡ reverse (take e s)
-  unfolding drop_while
-  back_none s zero h = refl
-  back_none s (suc e) h = absurd (omega arith)
-
   -- THE LAW: where a list ends without the run at its end is how many bytes are left of it
   pub kept_at : (s : List ℕ) (e : ℕ) → e ≤ length s → drop_while p (reverse s) ≡ reverse (take e s) →
       (e ≡ length (drop_while_end p s)) × Kept p s e
   kept_at s e h q =
       let part = sym (ap reverse q ∙ reverse-reverse (take e s)) in
       (sym (length-take-le e s h) ∙ ap length part, record { within = h; kept = part })
+
+  -- THE LAW: so it ends where the run of its bytes from the last on does
+  pub kept_run : (s : List ℕ) {n : ℕ} → n ≡ length (take_while p (reverse s)) → (length s - n ≡ length (drop_while_end p s)) × Kept p s (length s - n)
+  kept_run s {n} e =
+      let h : n ≤ length s = omega (arith, run_place (reverse s), prefix_len-le-length (λ b. not (not (p b))) (reverse s), length-reverse s) in
+      kept_at s (length s - n) (omega arith) (sym (drop_run (reverse s)) ∙ rw (← e) (drop-reverse s n h))
+
+-- the test on a byte and on what stands behind it
+pub leads_behind : (p : ℕ → Bool) (x r : List ℕ) (m : ℕ) → ((k : ℕ) → k < length x → p (get_or x k 0) ≡ true) → Leads p r m → Leads p (x ++ r) (length x + m)
+unfolding take_while
+leads_behind p [] r m all l = rw zero-add l
+leads_behind p (b ∷ x) r m all l =
+    let w = leads_behind p x r m (λ k h. all (suc k) (omega arith)) l in
+    let e : suc (length x) + m ≡ suc (length x + m) = omega arith in
+    let h : p b ≡ true = all 0 (omega arith) in
+    rw e (record { within = omega (arith, w.within); rest = rw h (ap suc w.rest ∙ omega arith) })
 
 -- ---- the first and the last x
 pub none_behind : (s : List ℕ) → length s ≡ 0 → s ≡ drop 1 s
@@ -211,14 +211,13 @@ starts_other [] s h ne = absurd (omega arith)
 starts_other (a ∷ w) [] h ne = refl
 starts_other (a ∷ w) (b ∷ s) h ne = rw (ne_eqb (raise b) a (λ e. ne (sym (raise_mod b) ∙ rw e)))
 
-pub starts_at : (w s : List ℕ) (i : ℕ) → i < length w → i < length s →
-    starts_with (drop i w) (drop i s) ≡ (eqb (raise (get_or s i 0)) (get_or w i 0) && starts_with (drop (i + 1) w) (drop (i + 1) s))
+-- a word that is no longer than the text is compared letter by letter
+pub starts_zip : (w s : List ℕ) → length w ≤ length s → starts_with w s ≡ list_all (λ (b : ℕ × ℕ). eqb (raise b.0) b.1) (zip s w)
 unfolding starts_with
-starts_at w s i h k = rw (from_at w i h, from_at s i k)
-
-pub starts_all : (w s : List ℕ) → starts_with (drop (length w) w) s ≡ true
-unfolding starts_with
-starts_all w s = rw drop-length
+starts_zip [] [] h = refl
+starts_zip [] (b ∷ s) h = refl
+starts_zip (a ∷ w) [] h = absurd (omega arith)
+starts_zip (a ∷ w) (b ∷ s) h = rw (starts_zip w s (omega arith))
 
 -- THE LAW: a word stands at none of the bytes that cannot be its first letter
 holds_run : (w s : List ℕ) → 0 < length w → holds w s ≡ holds w (drop (length (take_while (is_unlike (get_or w 0 0)) s)) s)

@@ -1,3 +1,4 @@
 pub mod Held
+pub mod Blocks
 pub mod Laws
 pub mod Unique

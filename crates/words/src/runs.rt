@@ -1,10 +1,10 @@
 // Runs of bytes at the front or at the end of a slice.
-ghost use Rattle.std.specs.Prelude.{◌≡◌, ◌+◌, ◌≤◌, length};
+ghost use Rattle.std.specs.Prelude.{◌≡◌, ◌≤◌, length};
 ghost use Rattle.words.specs.Inner.{AllIn, Leads, Kept};
 ghost use Rattle.words.specs.Runs.{is_blank, in_run, take_while, drop_while, drop_while_end, before_first, behind_first};
 
 // Bytes of one kind, one behind the other.
-#[derive(Clone, Copy)]
+#[derive(Clone, Copy, Debug, PartialEq, Eq)]
 pub enum Run {
     Blanks,
     // Bytes that are no blanks.
@@ -15,20 +15,11 @@ pub enum Run {
     Unlike(u8),
 }
 
+#[tactic(auto, unfolding(crate::specs::Runs::is_blank))]
 pub fn is_blank(byte: u8) -> bool
     ensures { result ≡ is_blank byte }
 {
-    // Most bytes are letters.
-    if byte > 32 {
-        return false;
-    }
-    if byte == 32 {
-        return true;
-    }
-    if byte < 9 {
-        return false;
-    }
-    byte <= 13
+    matches!(byte, 9..=13 | 32)
 }
 
 pub fn in_run(run: Run, byte: u8) -> bool
@@ -48,26 +39,18 @@ pub fn leading(s: &[u8], run: Run) -> usize
     ensures value { result ≡ length (take_while (in_run run) s.now) }
     ensures within { result ≤ length s.now }
 {
-    let mut i = 0;
-    while i < s.len() {
-        if !in_run(run, s[i]) {
-            return i;
-        }
-        i = i + 1;
-    }
-    i
+    s.iter()
+        .position(|byte| !in_run(run, *byte))
+        .unwrap_or(s.len())
 }
 
-// Whether 8 bytes are of the run, all of them tested: a test for all at once is cheap.
-fn all_in(s: &[u8], at: usize, run: Run) -> bool
-    requires { at + 8 ≤ length s.now }
-    ensures { AllIn (in_run run) s.now at 8 result }
+// Whether a block is of the run, each byte tested: a test for all at once is cheap.
+fn all_in(block: &[u8], run: Run) -> bool
+    ensures { AllIn (in_run run) block.now 0 (length block.now) result }
 {
     let mut all = true;
-    let mut k = 0;
-    while k < 8 {
-        all = all & in_run(run, s[at + k]);
-        k = k + 1;
+    for byte in block {
+        all &= in_run(run, *byte);
     }
     all
 }
@@ -76,14 +59,10 @@ fn all_in(s: &[u8], at: usize, run: Run) -> bool
 fn whole_blocks(s: &[u8], run: Run) -> usize
     ensures { Leads (in_run run) s.now result }
 {
-    let mut i = 0;
-    while s.len() - i >= 8 {
-        if !all_in(s, i, run) {
-            return i;
-        }
-        i = i + 8;
-    }
-    i
+    8 * s
+        .chunks_exact(8)
+        .take_while(|block| all_in(block, run))
+        .count()
 }
 
 // As `leading`, for runs that are long.
@@ -100,36 +79,31 @@ pub fn kept(s: &[u8], run: Run) -> usize
     ensures value { result ≡ length (drop_while_end (in_run run) s.now) }
     ensures part { Kept (in_run run) s.now result }
 {
-    let mut end = s.len();
-    while end > 0 {
-        if !in_run(run, s[end - 1]) {
-            return end;
-        }
-        end = end - 1;
-    }
-    end
+    let behind = s
+        .iter()
+        .rev()
+        .position(|byte| !in_run(run, *byte))
+        .unwrap_or(s.len());
+    s.len() - behind
 }
 
 pub fn dropped(s: &[u8], run: Run) -> &[u8]
     ensures { result.now ≡ drop_while (in_run run) s.now }
 {
-    let n = leading(s, run);
-    &s[n..]
+    &s[leading(s, run)..]
 }
 
 pub fn before_first(s: &[u8], byte: u8) -> &[u8]
     ensures { result.now ≡ before_first byte s.now }
 {
-    let n = leading(s, Run::Until(byte));
-    &s[..n]
+    &s[..leading(s, Run::Until(byte))]
 }
 
 pub fn behind_first(s: &[u8], byte: u8) -> &[u8]
     ensures { result.now ≡ behind_first byte s.now }
 {
-    let from = dropped(s, Run::Until(byte));
-    if from.len() == 0 {
-        return from;
+    match dropped(s, Run::Until(byte)) {
+        [_, behind @ ..] => behind,
+        none => none,
     }
-    &from[1..]
 }

@@ -9,16 +9,14 @@ pub fn trimmed(s: &[u8]) -> &[u8]
     ensures { result.now ≡ trim s.now }
 {
     let from = dropped(s, Run::Blanks);
-    let end = kept(from, Run::Blanks);
-    &from[..end]
+    &from[..kept(from, Run::Blanks)]
 }
 
 pub fn first_word(s: &[u8]) -> &[u8]
     ensures { result.now ≡ first_word s.now }
 {
     let from = dropped(s, Run::Blanks);
-    let n = leading(from, Run::Word);
-    &from[..n]
+    &from[..leading(from, Run::Word)]
 }
 
 pub fn second_word(s: &[u8]) -> &[u8]
@@ -40,38 +38,24 @@ pub fn word_behind(s: &[u8], words: usize) -> &[u8]
     ensures { result.now ≡ word_behind words s.now }
 {
     let mut at = 0;
-    let mut left = words;
-    while left > 0 {
-        at = at + word_end(&s[at..]);
-        left = left - 1;
+    for _ in 0..words {
+        at += word_end(&s[at..]);
     }
     first_word(&s[at..])
 }
 
+#[tactic(auto, unfolding(crate::specs::Words::raise))]
 pub fn raised(byte: u8) -> u8
     ensures { result ≡ raise byte }
 {
-    if byte < b'a' {
-        return byte;
-    }
-    if byte > b'z' {
-        return byte;
-    }
-    byte - 32
+    byte.to_ascii_uppercase()
 }
 
 pub fn starts_with(s: &[u8], word: &[u8]) -> bool
     ensures { result ≡ starts_with word.now s.now }
 {
-    if s.len() < word.len() {
-        return false;
-    }
-    let mut i = 0;
-    while i < word.len() {
-        if raised(s[i]) != word[i] {
-            return false;
-        }
-        i = i + 1;
-    }
-    true
+    s.len() >= word.len()
+        && s.iter()
+            .zip(word)
+            .all(|(byte, letter)| raised(*byte) == *letter)
 }

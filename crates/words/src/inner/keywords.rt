@@ -10,23 +10,14 @@ pub fn begins(s: &[u8], word: &[u8]) -> bool
     requires { 0 < length word.now }
     ensures { result ≡ starts_with word.now s.now }
 {
-    if s.len() < word.len() {
-        return false;
-    }
-    if s[0] % 32 != word[0] % 32 {
-        return false;
-    }
-    starts_with(s, word)
+    s.len() >= word.len() && s[0] % 32 == word[0] % 32 && starts_with(s, word)
 }
 
 pub fn is_word(s: &[u8], word: &[u8]) -> bool
     requires { 0 < length word.now }
     ensures { result ≡ equals word.now s.now }
 {
-    if s.len() != word.len() {
-        return false;
-    }
-    begins(s, word)
+    s.len() == word.len() && begins(s, word)
 }
 
 pub fn holds_word(s: &[u8], word: &[u8]) -> bool
@@ -34,12 +25,13 @@ pub fn holds_word(s: &[u8], word: &[u8]) -> bool
     ensures { result ≡ holds word.now s.now }
 {
     let mut i = 0;
+    // A step goes on to the first letter's next place.
     while i < s.len() {
-        i = i + long_run(&s[i..], Run::Unlike(word[0]));
+        i += long_run(&s[i..], Run::Unlike(word[0]));
         if starts_with(&s[i..], word) {
             return true;
         }
-        i = i + 1;
+        i += 1;
     }
     false
 }

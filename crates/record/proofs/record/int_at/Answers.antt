@@ -24,9 +24,6 @@ negative : (c : Else-v-whole) → c.args.whole < 2 ^ 63 → c.big_endian-v.resul
 negative c fits less =
     rw (to_z_pos w64 {n = c.big_endian-v.result} (omega arith), to_z_pos w64 fits) (below_zero _ _ less)
 
-pub overflow_cast-result : goal.overflow_cast-result
-overflow_cast-result c = let l = limit (goal.at.overflow_cast-result c).After-big_endian-v in record { sfits = omega arith }
-
 pub returns-then-v-whole : goal.returns-then-v-whole
 returns-then-v-whole c =
     let l = limit (goal.at.returns-then-v-whole c).After-big_endian-v in
@@ -34,18 +31,15 @@ returns-then-v-whole c =
     ∙ sym (below_half (8 * c.args.n) c.args.whole _ c.requires.whole_of_n_bytes.2 c.if-v-whole.true)
     ∙ ap (twos_complement (8 * c.args.n)) c.big_endian-v.ensures.value
 
-pub overflow_cast-result-2 : goal.overflow_cast-result-2
-overflow_cast-result-2 c = let l = limit (goal.at.overflow_cast-result-2 c).After-big_endian-v in record { sfits = omega arith }
-
-pub overflow_cast-result-3 : goal.overflow_cast-result-3
-overflow_cast-result-3 c = record { sfits = (limit (goal.at.overflow_cast-result-3 c).After-big_endian-v).1 }
+pub overflow_cast-result-else-v-whole-2 : goal.overflow_cast-result-else-v-whole-2
+overflow_cast-result-else-v-whole-2 c = record { sfits = (limit (goal.at.overflow_cast-result-else-v-whole-2 c).After-big_endian-v).1 }
 
 pub overflow_sub-result : goal.overflow_sub-result
 overflow_sub-result c = let l = limit (goal.at.overflow_sub-result c).After-big_endian-v in rw (negative c l.1 l.0) (record { sfits = omega arith })
 
-pub returns : goal.returns
-returns c =
-    let l = limit (goal.at.returns c).After-big_endian-v in
+pub returns-else-v-whole : goal.returns-else-v-whole
+returns-else-v-whole c =
+    let l = limit (goal.at.returns-else-v-whole c).After-big_endian-v in
     to_z-of_z (overflow_sub-result c)
     ∙ negative c l.1 l.0
     ∙ sym (from_half (8 * c.args.n) c.args.whole _ c.requires.whole_of_n_bytes.2 (omega arith) c.if-v-whole.false l.0)

@@ -1,40 +1,29 @@
 -- `sheet::inner::put_unused` meets its contract.
 -- Assumes nothing.
-use Prim.Native.Nat.{ℕ, zero, suc, ◌+◌, ◌-◌, ◌<◌}
-use mathlib.Core.Path.{◌≡◌, refl, ◌∙◌}
-use mathlib.Core.List.{List}
-use native.Mathlib.Nat.{sub-zero, suc-sub-suc}
-use native.Mathlib.Omega.{arith}
-use borrow.Author.Rules.{rules}
+use Prim.Native.Nat.{ℕ, zero, suc, ◌+◌, ◌*◌}
+use mathlib.Core.Path.{◌≡◌, refl, sym, ap, ◌∙◌}
+use mathlib.Core.List.{List, ◌++◌, append-nil, append_assoc}
+use native.Mathlib.Numerals.{add-one}
 use lib.Seq.{sets}
 use Rattle.sheet.specs.Columns.{column_words, unused_words}
 use Rattle.sheet.specs.Limits.{words_per_entry}
 use Rattle.sheet.specs.declared.columns.Column.TheVariants.{Unused}
-use Rattle.sheet.proofs.Laws.{sets_append, column_words-length}
+use Rattle.sheet.proofs.Laws.{sets_append, unused_words-length}
 use Rattle.sheet.proofs.inner.put_unused.Goals as goal
 
--- one entry, and then those behind it
-one_more : (cols : List ℕ) (to left : ℕ) → 0 < left →
-    sets (sets cols to (column_words Unused)) (to + words_per_entry) (unused_words (left - 1)) ≡ sets cols to (unused_words left)
+-- one entry more at the end
+one_more : (n : ℕ) → unused_words n ++ column_words Unused ≡ unused_words (n + 1)
 unfolding unused_words
-one_more cols to zero h = absurd (omega arith)
-one_more cols to (suc k) h = rw (← column_words-length Unused, suc-sub-suc, sub-zero) (sets_append cols to (column_words Unused) (unused_words k))
+one_more zero = sym (append-nil (column_words Unused))
+one_more (suc n) = rw add-one (append_assoc (column_words Unused) (unused_words n) (column_words Unused) ∙ ap (λ (ws : List ℕ). column_words Unused ++ ws) (one_more n ∙ rw add-one))
 
-pub loop-left-init : goal.loop-left-init
-loop-left-init c = (refl, search rules, refl)
+written : (cols : List ℕ) (at n : ℕ) →
+    sets (sets cols at (unused_words n)) (at + words_per_entry * n) (column_words Unused) ≡ sets cols at (unused_words (n + 1))
+written cols at n = rw (← unused_words-length n, sets_append, one_more)
 
-pub loop-left-preserved : goal.loop-left-preserved
-loop-left-preserved c = (
-  c.put_column.auto.cols ∙ c.loop-left.invariant.0,
-  omega (arith, c.put_column.auto.cols),
-  rw c.put_column.ensures (one_more _ _ _ c.loop-left-test.true ∙ c.loop-left.invariant.2),
-)
-
-pub shape_of-cols : goal.shape_of-cols
-shape_of-cols c = c.loop-left.invariant.0
-
-pub returns : goal.returns
+pub loop-k-init : goal.loop-k-init
 unfolding unused_words
-returns c =
-    let e : c.loop-left.left ≡ 0 = omega arith in
-    rw e at c.loop-left.invariant.2
+loop-k-init c = refl
+
+pub loop-k-preserved : goal.loop-k-preserved
+loop-k-preserved c = rw (c.put_column.ensures, c.loop-k.invariant) (written c.args.cols.now c.args.at c.loop-k.k)

@@ -1,25 +1,20 @@
 -- `sheet::inner::put_words` meets its contract.
 -- Assumes nothing.
-use mathlib.Core.Path.{◌≡◌, refl, ◌∙◌}
+use mathlib.Core.Path.{◌≡◌, ◌∙◌}
 use native.Mathlib.Nat.{add-zero}
 use native.Mathlib.Omega.{arith}
-use borrow.Author.Rules.{rules}
-use lib.ListN.{length, length-set}
+use lib.ListN.{length}
 use lib.Seq.{drop-length}
 use Rattle.sheet.proofs.Laws.{sets_next}
 use Rattle.sheet.proofs.inner.put_words.Goals as goal
 
 pub loop-i-init : goal.loop-i-init
-loop-i-init c = (search rules, refl, rw add-zero)
+loop-i-init c = rw add-zero
 
 pub loop-i-preserved : goal.loop-i-preserved
-loop-i-preserved c =
-    (omega arith, simp length-set c.loop-i.invariant.1, sets_next _ _ _ _ c.loop-i-test.true ∙ c.loop-i.invariant.2)
-
-pub shape_of-list : goal.shape_of-list
-shape_of-list c = c.loop-i.invariant.1
+loop-i-preserved c = sets_next _ _ _ _ c.loop-i-test.true ∙ c.loop-i.invariant
 
 pub returns : goal.returns
 returns c =
     let e : c.loop-i.i ≡ length c.args.words.now = omega arith in
-    rw (e, drop-length) at c.loop-i.invariant.2
+    rw (e, drop-length) at c.loop-i.invariant

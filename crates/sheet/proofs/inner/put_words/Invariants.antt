@@ -1,14 +1,10 @@
 -- `sheet::inner::put_words` meets its contract. The loop's invariant: the words from i on, written to what the list has become, give what all of them give.
 -- Assumes nothing.
-use Prim.Native.Nat.{◌+◌, ◌-◌, ◌≤◌}
+use Prim.Native.Nat.{◌+◌}
 use mathlib.Core.Path.{◌≡◌}
-use lib.ListN.{length, drop}
+use lib.ListN.{drop}
 use lib.Seq.{sets}
 use Rattle.sheet.proofs.inner.put_words.Given as goal
 
 abbrev pub invariant-loop-i : goal.invariant-loop-i
-invariant-loop-i l =
-    (l.i ≤ length l.words) × (length l.list ≡ length l.initial.list) × (sets l.list (l.at + l.i) (drop l.i l.words) ≡ sets l.initial.list l.at l.words)
-
-abbrev pub decreases-loop-i : goal.decreases-loop-i
-decreases-loop-i l = length l.words - l.i
+invariant-loop-i l = sets l.list (l.at + l.i) (drop l.i l.words) ≡ sets l.initial.list l.at l.words

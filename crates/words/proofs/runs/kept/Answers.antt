@@ -1,25 +1,17 @@
--- `words::runs::kept` meets its contract.
+-- `words::runs::kept` meets its contract: the run is told from the last byte on.
 -- Assumes nothing.
-use mathlib.Core.Path.{sym, ◌∙◌}
-use native.Mathlib.Omega.{arith}
-use borrow.Author.Rules.{rules}
-use Rattle.words.proofs.Laws.{back_all, back_more, back_ends, back_none, kept_at}
+use Rattle.std.proofs.Common.{◌∙◌, sym, rules, reverse}
+use Rattle.std.proofs.lemmas.List.{length-reverse}
+use borrow.Author.Tests.{tests}
+use Rattle.std.specs.Prelude.{not}
+use Rattle.std.proofs.lemmas.Iterator.Adapters.{YieldsList-from_rev_slice}
+use Rattle.std.proofs.lemmas.Iterator.Search.{position_from_yields_List}
+use Rattle.words.specs.Runs.{in_run}
+use Rattle.words.proofs.Laws.{run_length, kept_run}
 use Rattle.words.proofs.runs.kept.Goals as goal
 
-pub loop-end-init : goal.loop-end-init
-loop-end-init c = (search rules, back_all _ c.args.s.now)
-
-pub returns-then-not-in_run : goal.returns-then-not-in_run
-returns-then-not-in_run c = let z = kept_at _ _ _ c.loop-end.invariant.0
-    (c.loop-end.invariant.1
-    ∙ back_ends _ _ _ c.loop-end-test.true c.loop-end.invariant.0 (sym c.in_run.ensures ∙ c.if-not-in_run.true)) in record { value = z.0; part = z.1 }
-
-pub loop-end-preserved : goal.loop-end-preserved
-loop-end-preserved c = (
-  omega arith,
-  c.loop-end.invariant.1
-      ∙ back_more _ _ _ c.loop-end-test.true c.loop-end.invariant.0 (sym c.in_run.ensures ∙ c.if-not-in_run.false),
-)
-
 pub returns : goal.returns
-returns c = let z = kept_at _ _ _ c.loop-end.invariant.0 (c.loop-end.invariant.1 ∙ back_none _ _ _ c.loop-end-test.false) in record { value = z.0; part = z.1 }
+returns c =
+    let z = kept_run (in_run c.args.run) c.args.s.now (c.unwrap_or-behind.ensures ∙ run_length (in_run c.args.run) (reverse c.args.s.now)
+    (position_from_yields_List (λ b. not (in_run c.args.run b)) c.position.new.self _ c.position.result c.position.ensures.ran (YieldsList-from_rev_slice c.args.s.now cc) (λ x b q k. search (rules, tests))) (sym (length-reverse c.args.s.now))) in
+    record { value = z.0; part = z.1 }

@@ -1,33 +1,15 @@
--- `words::runs::leading` meets its contract.
+-- `words::runs::leading` meets its contract: the run ends at the first byte that is not of it, or with the slice.
 -- Assumes nothing.
-use mathlib.Core.Path.{◌≡◌, sym, ◌∙◌}
-use native.Mathlib.Omega.{arith}
-use borrow.Author.Rules.{rules}
-use lib.ListN.{length}
-use lib.Seq.{drop-length}
-use Rattle.words.specs.Runs.{take_while}
-use Rattle.words.proofs.Laws.{run_more, run_ends}
+use Rattle.std.proofs.Common.{◌∙◌, refl, rules}
+use borrow.Author.Tests.{tests}
+use Rattle.std.specs.Prelude.{not}
+use Rattle.std.proofs.lemmas.Iterator.{YieldsList-from_slice}
+use Rattle.std.proofs.lemmas.Iterator.Search.{position_from_yields_List}
+use Rattle.words.specs.Runs.{in_run}
+use Rattle.words.proofs.Laws.{run_length}
 use Rattle.words.proofs.runs.leading.Goals as goal
 
-pub loop-i-init : goal.loop-i-init
-loop-i-init c = (search rules, search rules)
-
-pub returns-then-not-in_run : goal.returns-then-not-in_run
-returns-then-not-in_run c = record {
-  value = sym (c.loop-i.invariant.1
-      ∙ run_ends _ _ _ c.loop-i-test.true (sym c.in_run.ensures ∙ c.if-not-in_run.true));
-  within = search rules;
-}
-
-pub loop-i-preserved : goal.loop-i-preserved
-loop-i-preserved c = (
-  omega arith,
-  c.loop-i.invariant.1
-      ∙ run_more _ _ _ c.loop-i-test.true (sym c.in_run.ensures ∙ c.if-not-in_run.false),
-)
-
-pub returns : goal.returns
-unfolding take_while
-returns c =
-    let e : c.loop-i.i ≡ length c.args.s.now = omega arith in
-    record { value = sym (c.loop-i.invariant.1 ∙ rw (e, drop-length) (omega arith)); within = search rules }
+pub returns-clause-value : goal.returns-clause-value
+returns-clause-value c =
+    c.unwrap_or.ensures ∙ run_length (in_run c.args.run) c.args.s.now
+    (position_from_yields_List (λ b. not (in_run c.args.run b)) _ _ c.position.result c.position.ensures.ran (YieldsList-from_slice c.args.s.now c.iter.ensures.rest) (λ x b q k. search (rules, tests))) refl

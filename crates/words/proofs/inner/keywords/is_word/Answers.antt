@@ -6,8 +6,8 @@ use Rattle.words.proofs.inner.keywords.is_word.Goals as goal
 
 pub returns-then-s-word : goal.returns-then-s-word
 unfolding equals
-returns-then-s-word c = simp (ne_eqb _ _ c.if-s-word.true)
+returns-then-s-word c = simp (eq-eqb _ _ c.if-s-word.true, c.begins.ensures)
 
-pub returns : goal.returns
+pub returns-else-s-word : goal.returns-else-s-word
 unfolding equals
-returns c = simp (eq-eqb _ _ c.if-s-word.false, c.begins.ensures)
+returns-else-s-word c = simp (ne_eqb _ _ c.if-s-word.false)

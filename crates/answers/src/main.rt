@@ -4,14 +4,13 @@
 mod lists;
 mod values;
 
-use cases::case::call;
-use cases::files::{MOST_CASES, Next, case_space, finish, open, read_case};
-use cases::line::{begin, heading};
-use cases::lists::{byte_space, fill_bytes, fill_words, word_space};
-use std::fs::File;
+use cases::case::{CELLS, call};
+use cases::files::say_cases;
+use cases::lists::{fill_bytes, fill_words};
 use streams::Output;
 
-// The call by its number, with the list that it is lent: of bytes or of words.
+// The call by its number, with the list that it is lent: of bytes or of words. An enum would name each call once more,
+// between its number and the function of its name.
 fn answer(said: Output, case: &[u8], bytes: &mut [u8], words: &mut [u64]) -> Output {
     match call(case) {
         1 => values::read_varint(said, case),
@@ -29,44 +28,12 @@ fn answer(said: Output, case: &[u8], bytes: &mut [u8], words: &mut [u64]) -> Out
     }
 }
 
-fn say_case(said: Output, n: u64, case: &[u8], bytes: &mut [u8], words: &mut [u64]) -> Output {
-    if call(case) == 0 {
-        return heading(said, case);
-    }
-    let said = begin(said, n, case);
-    let one = fill_bytes(bytes, case, 0);
-    let two = fill_words(words, case, 1);
-    let said = answer(said, case, &mut bytes[..one], &mut words[..two]);
-    said.say(b"\n")
-}
-
-fn say_cases(
-    rt: HostRuntime,
-    file: &mut File,
-    case: &mut [u8],
-    bytes: &mut [u8],
-    words: &mut [u64],
-) {
-    let mut said = Output::new(rt);
-    let mut n = 0;
-    while n < MOST_CASES {
-        let next = read_case(&rt, file, case);
-        let Next::Case = next else {
-            finish(rt, said, b"answers", next, n);
-            return;
-        };
-        n = n + 1;
-        said = say_case(said, n, case, bytes, words);
-    }
-    finish(rt, said, b"answers", Next::Case, n);
-}
-
 fn main(rt: HostRuntime) {
-    let Some(mut file) = open(rt, b"answers") else {
-        return;
-    };
-    let mut case = case_space();
-    let mut bytes = byte_space();
-    let mut words = word_space();
-    say_cases(rt, &mut file, &mut case, &mut bytes, &mut words);
+    let mut bytes = [0; CELLS];
+    let mut words = [0; CELLS];
+    say_cases(rt, b"answers", |said, case| {
+        let one = fill_bytes(&mut bytes, case, 0);
+        let two = fill_words(&mut words, case, 1);
+        answer(said, case, &mut bytes[..one], &mut words[..two])
+    });
 }

@@ -7,6 +7,10 @@ use Rattle.record.specs.Value.{big_endian}
 unfoldable pub word_at : List ℕ → ℕ → ℕ
 word_at s at = cond (nat_le (at + 8) (length s)) (big_endian s at 8) 0
 
+-- the i-th word of those from a first place on; 0 behind the last
+abbrev pub word_of : ℕ → ℕ → List ℕ → ℕ → ℕ
+word_of first last s i = cond (nat_le i last) (word_at s (first + 8 * i)) 0
+
 -- the call's number, and whether the Rust was asked and agreed
 abbrev pub call_of : List ℕ → ℕ
 call_of s = word_at s 0

@@ -1,7 +1,8 @@
 -- The lists that a call is lent, as oracle/README.md has them: before it each cell tells its place.
 -- Assumes nothing.
-use Rattle.std.specs.Prelude.{◌≡◌, ◌+◌, ◌*◌, ◌/◌, ◌%◌, ◌^◌, [], ◌∷◌, ◌++◌, ◌==◌}
+use Rattle.std.specs.Prelude.{◌≡◌, ◌+◌, ◌*◌, ◌/◌, ◌%◌, ◌^◌, ◌<◌, [], ◌∷◌, ◌++◌, ◌==◌}
 use Rattle.std.specs.Prelude.{ℕ, zero, suc, min, Bool, false, cond, List, length, take, bit_xor, slice_index}
+use Rattle.std.specs.List.{HoldsAt}
 use Rattle.cases.specs.Layout.{word_at}
 use Rattle.cases.specs.declared.lists.Cells.{Cells}
 use Rattle.sheet.specs.Limits.{words_per_row, words_per_entry}
@@ -68,3 +69,7 @@ cells_by f (suc n) = cells_by f n ++ (f n ∷ [])
 -- as many cells as are asked, or as there are, hold the values of f
 abbrev pub FilledBy : (ℕ → ℕ) → ℕ → List ℕ → ℕ → Type 0
 FilledBy f asked list n = (n ≡ min asked (length list)) × (take n list ≡ cells_by f n)
+
+-- as many cells as are asked, or as there are, and at each place one that P has for it
+abbrev pub FilledEach : {X : Type 0} → (ℕ → X → Type 0) → ℕ → List X → ℕ → Type 0
+FilledEach P asked list n = (n ≡ min asked (length list)) × ((i : ℕ) → i < n → HoldsAt (P i) list i)

@@ -1,33 +1,33 @@
 // The file of cases that a program is given: opened, read case by case, and what is said when it ends.
-ghost use Rattle.std.specs.Prelude.{◌≡◌, length};
-
-use crate::case::{CASE, HEAD, is_whole, size};
+use crate::case::{CASE, HEAD, call, is_whole, size};
+use crate::line::{begin, heading};
 use std::env::Env;
 use std::fs::File;
 use std::io::{Error, Read};
 use std::str;
 use std::time::Clock;
-use streams::{Got, Output, fail, has_word, read_whole, say_aside};
+use streams::{Output, fail, has_word, read_whole, say_aside};
 
 // A longer file is not read to its end, and the program says so.
-pub const MOST_CASES: u64 = 1_000_000;
+const MOST_CASES: u64 = 1_000_000;
 
-// What came of reading a case.
+// Why no case comes any more.
 #[derive(Clone, Copy)]
-pub enum Next {
-    Case,
+enum Stop {
     // The file ends here,
     End,
     // or in a case, or with a head that no case has.
     Broken,
-    // It could not be read any further.
+    // It could not be read any further,
     Failed(Error),
+    // or is longer than it may be.
+    TooLong,
 }
 
-pub fn case_space() -> [u8; CASE]
-    ensures { 100000 ≡ length result }
-{
-    [0; CASE]
+impl From<Error> for Stop {
+    fn from(error: Error) -> Stop {
+        Stop::Failed(error)
+    }
 }
 
 fn complain(rt: HostRuntime, program: &[u8], text: &[u8]) {
@@ -48,7 +48,7 @@ fn has_one_word(rt: HostRuntime) -> bool {
 }
 
 // The file that the program's one word names, or none, and then it was said why.
-pub fn open(rt: HostRuntime, program: &[u8]) -> Option<File> {
+fn open(rt: HostRuntime, program: &[u8]) -> Option<File> {
     if !has_one_word(rt) {
         complain(rt, program, b": name one file of cases: ");
         complain(rt, program, b" FILE\n");
@@ -70,78 +70,78 @@ pub fn open(rt: HostRuntime, program: &[u8]) -> Option<File> {
 }
 
 // Fills the space; the file may end before its first byte.
-fn read_part(clock: &impl Clock, file: &mut impl Read, space: &mut [u8]) -> Next {
-    let n = match read_whole(clock, file, space) {
-        Got::Bytes(n) => n,
-        Got::Failed(error) => return Next::Failed(error),
-    };
+fn read_part(clock: &impl Clock, file: &mut impl Read, space: &mut [u8]) -> Result<(), Stop> {
+    let n = read_whole(clock, file, space)?;
     if n == space.len() {
-        return Next::Case;
+        Ok(())
+    } else if n == 0 {
+        Err(Stop::End)
+    } else {
+        Err(Stop::Broken)
     }
-    if n == 0 {
-        return Next::End;
-    }
-    Next::Broken
-}
-
-// What stands behind the head.
-fn read_rest(clock: &impl Clock, file: &mut impl Read, case: &mut [u8], size: usize) -> Next {
-    if size > case.len() {
-        return Next::Broken;
-    }
-    if size < HEAD {
-        return Next::Broken;
-    }
-    let rest = read_part(clock, file, &mut case[HEAD..size]);
-    let Next::End = rest else {
-        return rest;
-    };
-    Next::Broken
 }
 
 // The next case, at the front of the space.
-pub fn read_case(clock: &impl Clock, file: &mut impl Read, case: &mut [u8]) -> Next {
-    if case.len() < HEAD {
-        return Next::Broken;
-    }
-    let head = read_part(clock, file, &mut case[..HEAD]);
-    let Next::Case = head else {
-        return head;
-    };
+fn read_case(clock: &impl Clock, file: &mut impl Read, case: &mut [u8; CASE]) -> Result<(), Stop> {
+    read_part(clock, file, &mut case[..HEAD])?;
     if !is_whole(case) {
-        return Next::Broken;
+        return Err(Stop::Broken);
     }
     let size = size(case);
-    read_rest(clock, file, case, size)
+    let rest = case.get_mut(HEAD..size).ok_or(Stop::Broken)?;
+    // Behind the head the file may not end.
+    read_part(clock, file, rest).map_err(|stop| match stop {
+        Stop::End => Stop::Broken,
+        _ => stop,
+    })
 }
 
 // Why no case comes behind the first n, where that is worth a word.
-fn tell(rt: HostRuntime, program: &[u8], next: Next, n: u64) {
-    match next {
-        Next::Case => complain_of(
+fn tell(rt: HostRuntime, program: &[u8], stop: Stop, n: u64) {
+    match stop {
+        Stop::TooLong => complain_of(
             rt,
             program,
             b": the cases are not read further than case ",
             n,
         ),
-        Next::Broken => complain_of(rt, program, b": the cases break off behind case ", n),
-        Next::Failed(error) => {
+        Stop::Broken => complain_of(rt, program, b": the cases break off behind case ", n),
+        Stop::Failed(error) => {
             complain(rt, program, b": ");
             fail(rt, b"the file of cases", error);
         }
-        Next::End => {
-            if n == 0 {
-                complain(rt, program, b": there is no case\n");
-            }
-        }
+        Stop::End if n == 0 => complain(rt, program, b": there is no case\n"),
+        Stop::End => {}
     }
 }
 
 // What is said at the end, on standard error.
-pub fn finish(rt: HostRuntime, said: Output, program: &[u8], next: Next, n: u64) {
-    tell(rt, program, next, n);
-    if !said.whole {
+fn finish(rt: HostRuntime, said: Output, program: &[u8], stop: Stop, n: u64) {
+    tell(rt, program, stop, n);
+    if !said.is_whole() {
         complain(rt, program, b": ");
     }
     said.end(b"standard output");
+}
+
+// Says what a program answers to each case of the file that its one word names.
+pub fn say_cases<F: FnMut(Output, &[u8]) -> Output>(rt: HostRuntime, program: &[u8], mut answer: F)
+    requires { F.IsAlwaysCallable answer }
+{
+    let Some(mut file) = open(rt, program) else {
+        return;
+    };
+    let mut case = [0; CASE];
+    let mut said = Output::new(rt);
+    for n in 0..MOST_CASES {
+        if let Err(stop) = read_case(&rt, &mut file, &mut case) {
+            return finish(rt, said, program, stop, n);
+        }
+        said = if call(&case) == 0 {
+            heading(said, &case)
+        } else {
+            answer(begin(said, n + 1, &case), &case).say(b"\n")
+        };
+    }
+    finish(rt, said, program, Stop::TooLong, MOST_CASES);
 }

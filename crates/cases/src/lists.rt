@@ -1,26 +1,12 @@
 // Lists that a call is lent: before it each cell tells its place, so that a cell that the call wrote, or did not, is known.
-ghost use Rattle.std.specs.Prelude.{◌≡◌, ◌≤◌, length};
+ghost use Rattle.std.specs.Prelude.{◌≡◌, ℕ, ◌<◌, length};
 ghost use Rattle.cases.specs.Layout.{cells_of};
-ghost use Rattle.cases.specs.Lent.{FilledBy, byte_in, fresh_byte, fresh_in, fresh_word, starts_in, touched_in, changed_in};
+ghost use Rattle.cases.specs.Lent.{FilledBy, FilledEach, byte_in, fresh_byte, fresh_in, fresh_word, starts_in, changed_in};
 ghost use Rattle.cases.specs.Lent.{fold_step, fold_of};
 ghost use Rattle.io.specs.Counts.{IsPrefixLen};
 
-use crate::case::{CELLS, cells};
-use record::inner::wide;
+use crate::case::cells;
 use sheet::{WORDS_PER_ENTRY, WORDS_PER_ROW};
-use std::num::wrapping_add_u64;
-
-pub fn word_space() -> [u64; CELLS]
-    ensures { 4096 ≡ length result }
-{
-    [0; CELLS]
-}
-
-pub fn byte_space() -> [u8; CELLS]
-    ensures { 4096 ≡ length result }
-{
-    [0; CELLS]
-}
 
 // What the cells of a list are.
 #[derive(Clone, Copy)]
@@ -37,7 +23,7 @@ pub enum Cells {
 fn fresh_word(i: usize) -> u64
     ensures { result ≡ fresh_word i }
 {
-    wrapping_add_u64(0x5EED_0000_0000_0000, i as u64)
+    0x5EED_0000_0000_0000_u64.wrapping_add(i as u64)
 }
 
 // No hint code is that high, and no page flag is clear.
@@ -47,37 +33,31 @@ fn fresh_byte(i: usize) -> u8
     200 + (i % 50) as u8
 }
 
+// Writes what `cell` gives for its place into each of the first cells, as many as are asked or as there are, and says how many.
+pub(crate) fn fill<T: Copy, F: Fn(usize) -> T>(list: &mut [T], asked: usize, cell: F) -> usize
+    requires { (i : ℕ) → i < asked → F.pre cell i }
+    ensures { FilledEach (F.post cell) asked list.new result }
+{
+    let n = asked.min(list.len());
+    for (i, place) in list[..n].iter_mut().enumerate() {
+        *place = cell(i);
+    }
+    n
+}
+
 // Fresh cells, as many as the list of the case has, and how many.
 pub fn fill_words(list: &mut [u64], case: &[u8], which: usize) -> usize
     ensures prefix_len { IsPrefixLen result list.new }
     ensures cells { FilledBy fresh_word (cells_of case.now which) list.new result }
 {
-    let cells = cells(case, which);
-    let mut i = 0;
-    while i < list.len() {
-        if i >= cells {
-            return i;
-        }
-        list[i] = fresh_word(i);
-        i = i + 1;
-    }
-    i
+    fill(list, cells(case, which), fresh_word)
 }
 
 pub fn fill_bytes(list: &mut [u8], case: &[u8], which: usize) -> usize
     ensures prefix_len { IsPrefixLen result list.new }
     ensures cells { FilledBy fresh_byte (cells_of case.now which) list.new result }
 {
-    let cells = cells(case, which);
-    let mut i = 0;
-    while i < list.len() {
-        if i >= cells {
-            return i;
-        }
-        list[i] = fresh_byte(i);
-        i = i + 1;
-    }
-    i
+    fill(list, cells(case, which), fresh_byte)
 }
 
 // Whether a cell holds what it held before the call.
@@ -86,10 +66,8 @@ pub fn is_fresh(of: Cells, i: usize, cell: u64) -> bool
 {
     match of {
         Cells::Out => false,
-        Cells::Bytes => cell == wide(fresh_byte(i)),
-        Cells::Words => cell == fresh_word(i),
-        Cells::Rows => cell == fresh_word(i),
-        Cells::Entries => cell == fresh_word(i),
+        Cells::Bytes => cell == u64::from(fresh_byte(i)),
+        Cells::Words | Cells::Rows | Cells::Entries => cell == fresh_word(i),
     }
 }
 
@@ -100,42 +78,30 @@ pub fn starts(of: Cells, i: usize) -> bool
     match of {
         Cells::Rows => i % WORDS_PER_ROW == 0,
         Cells::Entries => i % WORDS_PER_ENTRY == 0,
-        Cells::Bytes => false,
-        Cells::Words => false,
-        Cells::Out => false,
+        Cells::Bytes | Cells::Words | Cells::Out => false,
     }
-}
-
-// 1 where the call changed the cell.
-fn touched(of: Cells, i: usize, cell: u64) -> u64
-    ensures value { result ≡ touched_in of i cell }
-    ensures small { result ≤ 1 }
-{
-    if is_fresh(of, i, cell) {
-        return 0;
-    }
-    1
 }
 
 // How many cells the call changed.
 pub fn changed(of: Cells, list: &[u64]) -> u64
     ensures { result ≡ changed_in of list.now }
 {
-    let mut n: u64 = 0;
-    let mut i = 0;
-    while i < list.len() {
-        n = n + touched(of, i, list[i]);
-        i = i + 1;
+    let mut n = 0;
+    for (i, cell) in list.iter().enumerate() {
+        if !is_fresh(of, i, *cell) {
+            n += 1;
+        }
     }
     n
 }
 
 // One step of it for each cell; two lists that differ in one cell have folds that differ.
+#[tactic(auto, unfolding(crate::specs::Lent::fold_step))]
 fn folded(fold: u64, cell: u64) -> u64
     ensures { result ≡ fold_step fold cell }
 {
-    let sum = wrapping_add_u64(fold, cell);
-    let spread = wrapping_add_u64(sum, sum << 10);
+    let sum = fold.wrapping_add(cell);
+    let spread = sum.wrapping_add(sum << 10);
     spread ^ (spread >> 6)
 }
 
@@ -143,10 +109,8 @@ pub fn fold(list: &[u64]) -> u64
     ensures { result ≡ fold_of list.now }
 {
     let mut fold = 0;
-    let mut i = 0;
-    while i < list.len() {
-        fold = folded(fold, list[i]);
-        i = i + 1;
+    for cell in list {
+        fold = folded(fold, *cell);
     }
     fold
 }
@@ -156,13 +120,5 @@ pub fn widened(list: &[u8], words: &mut [u64]) -> usize
     ensures prefix_len { IsPrefixLen result words.new }
     ensures cells { FilledBy (byte_in list.now) (length list.now) words.new result }
 {
-    let mut i = 0;
-    while i < words.len() {
-        if i >= list.len() {
-            return i;
-        }
-        words[i] = wide(list[i]);
-        i = i + 1;
-    }
-    i
+    fill(words, list.len(), |i| u64::from(list[i]))
 }

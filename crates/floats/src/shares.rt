@@ -1,14 +1,17 @@
 // Confidences by their bits (5.4), each with its percent (5.5), of more columns suited than there are, and of none.
 use sheet::confidence::{freed, percent, rebuilt, suited_share};
-use sheet::row::{Mode, Row, RowId, Source, words};
+use sheet::row::{Mode, Row, Source, words};
 use streams::Output;
+
+// Columns suited, of so many: of one, of the largest percent, of what is cut to it, and of an infinity and a NaN.
+const SHARES: [(u16, u16); 5] = [(1, 1), (51, 20), (3, 1), (1, 0), (0, 0)];
 
 // As a row has them.
 fn bits(confidence: f32) -> u64 {
     let row = words(Row {
         offset: 0,
         consumed: 0,
-        id: RowId::Absent,
+        id: None,
         source: Source::Scan,
         confidence,
         mode: Mode::Plain,
@@ -33,11 +36,7 @@ fn say_share(said: Output, suited: u16, columns: u16) -> Output {
 }
 
 pub(crate) fn say_all(said: Output) -> Output {
-    let said = say_share(said, 1, 1);
-    // The largest percent, and what is cut to it.
-    let said = say_share(said, 51, 20);
-    let said = say_share(said, 3, 1);
-    // An infinity, and a NaN.
-    let said = say_share(said, 1, 0);
-    say_share(said, 0, 0)
+    SHARES
+        .iter()
+        .fold(said, |said, share| say_share(said, share.0, share.1))
 }

@@ -1,63 +1,36 @@
 // Shows the record on standard input: its header's length, then the type and the value of each column.
 #![tactic(auto)]
 
-ghost use Rattle.std.specs.Prelude.{◌≡◌, ◌≤◌, nat_abs, length};
+ghost use Rattle.std.specs.Prelude.{◌≡◌, ◌≤◌, length};
 
-use record::record::{Decoded, Value, decode_serial_type};
-use record::varint::{Cursor, Varint};
-use streams::{Got, Output, fail, has_word, read_whole, say_aside};
+use record::record::{Value, decode_serial_type};
+use record::varint::Cursor;
+use streams::{Output, fail, has_word, read_whole, say_aside};
 
 // As much as a row may be long, and a byte more, which tells a longer input.
 const LONGEST: usize = 65_536;
 
-fn space() -> [u8; 65_537]
-    ensures { 65537 ≡ length result }
-{
-    [0; 65_537]
-}
+const SPACE: usize = LONGEST + 1;
 
-// The two hexadecimal digits of each byte from start up to end.
-fn say_hex(out: Output, bytes: &[u8], start: usize, end: usize) -> Output
-    requires { end ≤ length bytes.now }
-{
-    let mut out = out;
-    let mut i = start;
-    while i < end {
-        out = out.say_hex(bytes[i] as u64, 2);
-        i = i + 1;
-    }
-    out
-}
-
-// How far v is from 0; -v itself need not be an i64.
-fn magnitude(v: i64) -> u64
-    ensures { result ≡ nat_abs v }
-{
-    if v < 0 {
-        return (-1 - v) as u64 + 1;
-    }
-    v as u64
+// The two hexadecimal digits of each byte.
+fn say_hex(out: Output, bytes: &[u8]) -> Output {
+    bytes
+        .iter()
+        .fold(out, |out, byte| out.say_hex(u64::from(*byte), 2))
 }
 
 fn say_int(out: Output, v: i64) -> Output {
-    let out = out.say(b"int ");
-    if v < 0 {
-        return out.say(b"-").say_decimal(magnitude(v));
-    }
-    out.say_decimal(magnitude(v))
+    let out = out.say(if v < 0 { b"int -" } else { b"int " });
+    out.say_decimal(v.unsigned_abs())
 }
 
-// The value whose body goes from start up to end.
-fn say_value(out: Output, value: Value, bytes: &[u8], start: usize, end: usize) -> Output
-    requires start_le_end { start ≤ end }
-    requires end_in_bounds { end ≤ length bytes.now }
-{
+fn say_value(out: Output, value: Value, body: &[u8]) -> Output {
     match value {
         Value::Null => out.say(b"null"),
         Value::Int(v) => say_int(out, v),
-        Value::Real(_) => say_hex(out.say(b"real 0x"), bytes, start, end),
-        Value::Text { start: _, len: _ } => out.say(b"text ").say(&bytes[start..end]),
-        Value::Blob { start: _, len: _ } => say_hex(out.say(b"blob 0x"), bytes, start, end),
+        Value::Real(_) => say_hex(out.say(b"real 0x"), body),
+        Value::Text { .. } => out.say(b"text ").say(body),
+        Value::Blob { .. } => say_hex(out.say(b"blob 0x"), body),
     }
 }
 
@@ -73,7 +46,7 @@ fn say_column(out: Output, kind: u64, bytes: &[u8], start: usize) -> Column
     ensures { result.next ≤ length bytes.now }
 {
     let out = out.say(b"type ").say_decimal(kind).say(b" ");
-    let Decoded::Of(value, n) = decode_serial_type(kind, bytes, start) else {
+    let Some((value, n)) = decode_serial_type(kind, bytes, start) else {
         return Column {
             out: out.say(b"does not fit\n"),
             next: start,
@@ -81,7 +54,7 @@ fn say_column(out: Output, kind: u64, bytes: &[u8], start: usize) -> Column
     };
     let next = start + n;
     Column {
-        out: say_value(out, value, bytes, start, next).say(b"\n"),
+        out: say_value(out, value, &bytes[start..next]).say(b"\n"),
         next,
     }
 }
@@ -94,8 +67,7 @@ fn say_columns(out: Output, bytes: &[u8], from: usize, header: usize) -> Output
     let mut at = from;
     let mut body = header;
     while at < header {
-        let c = Cursor { at, padded: false };
-        let Varint::Value(kind, next) = c.serial_type(bytes) else {
+        let Some((kind, next)) = Cursor::new(at).serial_type(bytes) else {
             return out.say(b"cut off\n");
         };
         let column = say_column(out, kind, bytes, body);
@@ -107,11 +79,7 @@ fn say_columns(out: Output, bytes: &[u8], from: usize, header: usize) -> Output
 }
 
 fn say_record(out: Output, bytes: &[u8]) -> Output {
-    let c = Cursor {
-        at: 0,
-        padded: false,
-    };
-    let Varint::Value(header, next) = c.header_length(bytes) else {
+    let Some((header, next)) = Cursor::new(0).header_length(bytes) else {
         return out.say(b"no header\n");
     };
     let out = out.say(b"header ").say_decimal(header).say(b"\n");
@@ -136,7 +104,7 @@ fn answer(rt: HostRuntime, bytes: &[u8]) {
         );
         return;
     }
-    if bytes.len() == 0 {
+    if bytes.is_empty() {
         say_usage(rt);
     }
     say_record(Output::new(rt), bytes).end(b"readrecord: standard output");
@@ -147,9 +115,9 @@ fn main(rt: HostRuntime) {
         say_usage(rt);
         return;
     }
-    let mut space = space();
+    let mut space = [0; SPACE];
     match read_whole(&rt, &mut rt.stdin(), &mut space) {
-        Got::Bytes(n) => answer(rt, &space[..n]),
-        Got::Failed(error) => fail(rt, b"readrecord: standard input", error),
+        Ok(n) => answer(rt, &space[..n]),
+        Err(error) => fail(rt, b"readrecord: standard input", error),
     }
 }

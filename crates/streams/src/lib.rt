@@ -2,11 +2,11 @@
 // An answer that says so has the error of the call that failed, so that `fail` can say why.
 #![tactic(auto)]
 
-ghost use Rattle.std.specs.Prelude.{true, None, Some, ◌≡◌, ◌≤◌, eqb, length};
-ghost use Rattle.streams.specs.Moving.{AtMost, StandsIn, StillWhole};
+ghost use Rattle.std.specs.Prelude.{true, ◌≡◌, ◌≤◌, ◌<◌, length, is_ok, IfOk, IfErr};
+ghost use Rattle.streams.specs.Moving.{AtMost, StandsIn, is_whole, StillWhole};
 
 use std::env::{Env, FillError};
-use std::io::{Error, ErrorKind, Read, Result, Write};
+use std::io::{Error, ErrorKind, Read, Write};
 use std::thread;
 use std::time::{Clock, Duration};
 
@@ -15,171 +15,100 @@ const TRIES: u64 = 6_000;
 
 const PAUSE: u64 = 10_000_000;
 
-// What came of one read or write.
+// A write that failed before the whole text was taken: how many bytes were, and why no more.
 #[derive(Clone, Copy)]
-enum Moved {
-    // So many bytes; none of a read is the end of the input.
-    Bytes(usize),
-    // None yet: a signal came in between, or the other side is slower.
-    NotYet(Error),
-    Failed(Error),
-}
-
-// What came of reading to the end.
-#[derive(Clone, Copy)]
-pub enum Got {
-    // So many bytes, and then the input ended or the space was full.
-    Bytes(usize),
-    Failed(Error),
-}
-
-// How many bytes of a text were taken, and why no more were.
-#[derive(Clone, Copy)]
-pub struct Taken {
+pub struct Cut {
     pub count: usize,
-    pub why: Option<Error>,
+    pub why: Error,
 }
 
-// Standard output, and whether all that was said so far was taken. Once it was not, nothing more is written.
+// Standard output, and what failed of all that was said so far. Once something did, nothing more is written.
 #[derive(Clone, Copy)]
 pub struct Output {
-    pub whole: bool,
     rt: HostRuntime,
-    // What failed, if it is not whole.
-    why: Option<Error>,
+    failed: Option<Error>,
 }
 
 // Whether the program was given a word at that place; the first behind its name is at 1.
 pub fn has_word(env: &impl Env, i: usize) -> bool {
     let mut space = [0u8; 1];
-    match env.arg(i, &mut space) {
-        Ok(_) => true,
-        Err(FillError::TooLong) => true,
-        Err(FillError::NotPresent) => false,
-    }
+    matches!(env.arg(i, &mut space), Ok(_) | Err(FillError::TooLong))
 }
 
 fn pause(clock: &impl Clock) {
     thread::sleep(clock, Duration::from_nanos(PAUSE));
 }
 
-fn came_of(got: Result<usize>, bytes: &[u8]) -> Moved
-    ensures { AtMost (length bytes.now) result }
-{
-    match got {
-        Ok(n) => Moved::Bytes(n.min(bytes.len())),
-        Err(error) => not_moved(error),
-    }
+// None was moved yet: a signal came in between, or the other side is slower.
+fn is_not_ready(moved: &std::io::Result<usize>) -> bool {
+    matches!(moved, Err(error) if matches!(error.kind(), ErrorKind::Interrupted | ErrorKind::WouldBlock))
 }
 
-fn not_moved(error: Error) -> Moved
-    ensures { AtMost 0 result }
+// Reads or writes once, as soon as that is ready; it moves as many bytes as it says, and `most` at most.
+fn when_ready<F: FnMut() -> std::io::Result<usize>>(
+    clock: &impl Clock,
+    most: usize,
+    mut once: F,
+) -> std::io::Result<usize>
+    requires { F.IsAlwaysCallable once }
+    ensures { AtMost most result }
 {
-    match error.kind() {
-        ErrorKind::Interrupted => Moved::NotYet(error),
-        ErrorKind::WouldBlock => Moved::NotYet(error),
-        _ => Moved::Failed(error),
-    }
-}
-
-fn read_once(file: &mut impl Read, space: &mut [u8]) -> Moved
-    ensures { AtMost (length space.new) result }
-{
-    let got = file.read(space);
-    came_of(got, space)
-}
-
-fn read_some(clock: &impl Clock, file: &mut impl Read, space: &mut [u8]) -> Moved
-    ensures { AtMost (length space.new) result }
-{
-    let mut tries = TRIES;
-    while tries > 0 {
-        let answer = read_once(file, space);
-        let Moved::NotYet(_) = answer else {
-            return answer;
-        };
+    let mut moved = once();
+    for _ in 0..TRIES {
+        if !is_not_ready(&moved) {
+            break;
+        }
         pause(clock);
-        tries = tries - 1;
+        moved = once();
     }
-    read_once(file, space)
+    moved.map(|n| n.min(most))
 }
 
-// Fills the space, up to the end of the input.
-pub fn read_whole(clock: &impl Clock, file: &mut impl Read, space: &mut [u8]) -> Got
+// Fills the space, up to the end of the input, and says how far.
+pub fn read_whole(
+    clock: &impl Clock,
+    file: &mut impl Read,
+    space: &mut [u8],
+) -> std::io::Result<usize>
     ensures { StandsIn space.new result }
 {
     let mut done = 0;
     while done < space.len() {
-        let n = match read_some(clock, file, &mut space[done..]) {
-            Moved::Bytes(n) => n,
-            Moved::NotYet(error) => return Got::Failed(error),
-            Moved::Failed(error) => return Got::Failed(error),
-        };
+        let rest = &mut space[done..];
+        let most = rest.len();
+        let n = when_ready(clock, most, || file.read(rest))?;
         if n == 0 {
-            return Got::Bytes(done);
+            break;
         }
-        done = done + n;
+        done += n;
     }
-    Got::Bytes(done)
-}
-
-fn write_once(file: &mut impl Write, text: &[u8]) -> Moved
-    ensures { AtMost (length text.now) result }
-{
-    came_of(file.write(text), text)
-}
-
-fn write_some(clock: &impl Clock, file: &mut impl Write, text: &[u8]) -> Moved
-    ensures { AtMost (length text.now) result }
-{
-    let mut tries = TRIES;
-    while tries > 0 {
-        let answer = write_once(file, text);
-        let Moved::NotYet(_) = answer else {
-            return answer;
-        };
-        pause(clock);
-        tries = tries - 1;
-    }
-    write_once(file, text)
+    Ok(done)
 }
 
 // How many bytes of the text were taken: all of them, unless a write failed.
-pub fn write_whole(clock: &impl Clock, file: &mut impl Write, text: &[u8]) -> Taken
-    ensures count { result.count ≤ length text.now }
-    ensures why { result.why ≡ None → result.count ≡ length text.now }
+pub fn write_whole(clock: &impl Clock, file: &mut impl Write, text: &[u8]) -> Result<usize, Cut>
+    ensures whole { IfOk result (λ n. n ≡ length text.now) }
+    ensures cut { IfErr result (λ cut. cut.count < length text.now) }
 {
     let mut done = 0;
     while done < text.len() {
-        let n = match write_some(clock, file, &text[done..]) {
-            Moved::Bytes(n) => n,
-            Moved::NotYet(error) => return cut_off(done, error),
-            Moved::Failed(error) => return cut_off(done, error),
-        };
+        let rest = &text[done..];
+        let moved = when_ready(clock, rest.len(), || file.write(rest));
+        let n = moved.map_err(|why| Cut { count: done, why })?;
         if n == 0 {
-            return cut_off(done, Error::from(ErrorKind::WriteZero));
+            return Err(Cut {
+                count: done,
+                why: Error::from(ErrorKind::WriteZero),
+            });
         }
-        done = done + n;
+        done += n;
     }
-    Taken {
-        count: done,
-        why: None,
-    }
-}
-
-fn cut_off(count: usize, error: Error) -> Taken
-    ensures count { result.count ≡ count }
-    ensures why { result.why ≡ Some error }
-{
-    Taken {
-        count,
-        why: Some(error),
-    }
+    Ok(done)
 }
 
 // On standard error; what is not taken there is lost.
 pub fn say_aside(rt: HostRuntime, text: &[u8]) {
-    write_whole(&rt, &mut rt.stderr(), text);
+    let _ = write_whole(&rt, &mut rt.stderr(), text);
 }
 
 // A line on standard error: what failed, as the caller names it, a colon and the error's words.
@@ -195,46 +124,47 @@ fn say_words(rt: HostRuntime, error: Error) {
     let Ok(text) = format!(in rt.alloc(); "{error}") else {
         return;
     };
-    match text.split_once(" (os error ") {
-        Some((words, _)) => say_aside(rt, words.as_bytes()),
-        None => say_aside(rt, text.as_bytes()),
-    }
+    let words = text
+        .split_once(" (os error ")
+        .map_or(text.as_str(), |parts| parts.0);
+    say_aside(rt, words.as_bytes());
 }
 
 impl Output {
     pub fn new(rt: HostRuntime) -> Self
-        ensures { result.whole ≡ true }
+        ensures { is_whole result ≡ true }
     {
-        Output {
-            whole: true,
-            rt,
-            why: None,
-        }
+        Output { rt, failed: None }
     }
 
-    // So many bytes were taken of those that were asked.
-    fn after(rt: HostRuntime, taken: Taken, asked: usize) -> Self
-        ensures { result.whole ≡ eqb taken.count asked }
+    // Whether all that was said so far was taken.
+    pub fn is_whole(&self) -> bool
+        ensures { result ≡ is_whole self.now }
+    {
+        self.failed.is_none()
+    }
+
+    // It is whole where the whole text was taken.
+    fn after(rt: HostRuntime, taken: Result<usize, Cut>) -> Self
+        ensures { is_whole result ≡ is_ok taken }
     {
         Output {
-            whole: taken.count == asked,
             rt,
-            why: taken.why,
+            failed: taken.err().map(|cut| cut.why),
         }
     }
 
     pub fn say(self, text: &[u8]) -> Self
-        ensures { StillWhole self.whole result.whole }
+        ensures { StillWhole self result }
     {
-        if !self.whole {
+        if !self.is_whole() {
             return self;
         }
-        let taken = write_whole(&self.rt, &mut self.rt.stdout(), text);
-        Output::after(self.rt, taken, text.len())
+        Output::after(self.rt, write_whole(&self.rt, &mut self.rt.stdout(), text))
     }
 
     pub fn say_decimal(self, n: u64) -> Self
-        ensures { StillWhole self.whole result.whole }
+        ensures { StillWhole self result }
     {
         let mut digits = [0u8; 20];
         let k = io::decimal(n, &mut digits);
@@ -242,7 +172,7 @@ impl Output {
     }
 
     pub fn say_hex(self, n: u64, width: usize) -> Self
-        ensures { StillWhole self.whole result.whole }
+        ensures { StillWhole self result }
     {
         let mut digits = [0u8; 16];
         let k = io::hex(n, width, &mut digits);
@@ -251,10 +181,7 @@ impl Output {
 
     // A line on standard error where something was not taken.
     pub fn end(self, name: &[u8]) {
-        if self.whole {
-            return;
-        }
-        if let Some(error) = self.why {
+        if let Some(error) = self.failed {
             fail(self.rt, name, error);
         }
     }

@@ -3,97 +3,46 @@
 
 mod walks;
 
-use cases::case::call;
-use cases::files::{MOST_CASES, Next, case_space, finish, open, read_case};
-use cases::line::{begin, heading};
-use cases::lists::{byte_space, fill_bytes, fill_words, word_space};
-use std::fs::File;
+use cases::case::{CELLS, call};
+use cases::files::say_cases;
+use cases::lists::{fill_bytes, fill_words};
 use streams::Output;
 
-// The call by its number, with the lists that it is lent.
-fn walk(
-    said: Output,
-    case: &[u8],
-    flags: &mut [u8],
-    stack: &mut [u64],
-    first: &mut [u64],
-    second: &mut [u64],
-) -> Output {
+// The lists that a call is lent: two to walk with, and one or two that it fills.
+#[derive(Drop)]
+struct Lent<'a> {
+    flags: &'a mut [u8],
+    stack: &'a mut [u64],
+    first: &'a mut [u64],
+    second: &'a mut [u64],
+}
+
+// The call by its number; an enum would name each of them once more, between its number and the function of its name.
+fn walk(said: Output, case: &[u8], lent: &mut Lent) -> Output {
     match call(case) {
-        12 => walks::collect_leaf_pages(said, case, flags, stack, first),
-        13 => walks::recover_freeblocks(said, case, flags, stack, first, second),
-        16 => walks::scan_page_gaps(said, case, flags, stack, first, second),
+        12 => walks::collect_leaf_pages(said, case, lent),
+        13 => walks::recover_freeblocks(said, case, lent),
+        16 => walks::scan_page_gaps(said, case, lent),
         _ => said.say(b"there is no such call here"),
     }
 }
 
-fn say_case(
-    said: Output,
-    n: u64,
-    case: &[u8],
-    flags: &mut [u8],
-    stack: &mut [u64],
-    first: &mut [u64],
-    second: &mut [u64],
-) -> Output {
-    if call(case) == 0 {
-        return heading(said, case);
-    }
-    let said = begin(said, n, case);
-    let pages = fill_bytes(flags, case, 0);
-    let depth = fill_words(stack, case, 1);
-    let one = fill_words(first, case, 2);
-    let two = fill_words(second, case, 3);
-    let said = walk(
-        said,
-        case,
-        &mut flags[..pages],
-        &mut stack[..depth],
-        &mut first[..one],
-        &mut second[..two],
-    );
-    said.say(b"\n")
-}
-
-fn say_cases(
-    rt: HostRuntime,
-    file: &mut File,
-    case: &mut [u8],
-    flags: &mut [u8],
-    stack: &mut [u64],
-    first: &mut [u64],
-    second: &mut [u64],
-) {
-    let mut said = Output::new(rt);
-    let mut n = 0;
-    while n < MOST_CASES {
-        let next = read_case(&rt, file, case);
-        let Next::Case = next else {
-            finish(rt, said, b"walked", next, n);
-            return;
-        };
-        n = n + 1;
-        said = say_case(said, n, case, flags, stack, first, second);
-    }
-    finish(rt, said, b"walked", Next::Case, n);
-}
-
 fn main(rt: HostRuntime) {
-    let Some(mut file) = open(rt, b"walked") else {
-        return;
-    };
-    let mut case = case_space();
-    let mut flags = byte_space();
-    let mut stack = word_space();
-    let mut first = word_space();
-    let mut second = word_space();
-    say_cases(
-        rt,
-        &mut file,
-        &mut case,
-        &mut flags,
-        &mut stack,
-        &mut first,
-        &mut second,
-    );
+    let mut flags = [0; CELLS];
+    let mut stack = [0; CELLS];
+    let mut first = [0; CELLS];
+    let mut second = [0; CELLS];
+    say_cases(rt, b"walked", |said, case| {
+        let pages = fill_bytes(&mut flags, case, 0);
+        let depth = fill_words(&mut stack, case, 1);
+        let one = fill_words(&mut first, case, 2);
+        let two = fill_words(&mut second, case, 3);
+        let mut lent = Lent {
+            flags: &mut flags[..pages],
+            stack: &mut stack[..depth],
+            first: &mut first[..one],
+            second: &mut second[..two],
+        };
+        walk(said, case, &mut lent)
+    });
 }

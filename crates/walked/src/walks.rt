@@ -1,5 +1,6 @@
 // Calls that walk a database: over one table, or over tables whose roots and counts of columns are slices of words.
-use cases::case::{number, slice, word_list, words};
+use crate::Lent;
+use cases::case::{WORDS, number, slice, words};
 use cases::line::{answered, say_bytes, say_list, say_rows};
 use cases::lists::Cells;
 use phsarodil::freeblocks::phs_recover_freeblocks;
@@ -8,43 +9,36 @@ use phsarodil::pages::phs_collect_leaf_pages;
 use streams::Output;
 
 // What a walk answers, and what it leaves in flags and stack.
-fn say_walk(said: Output, answer: u64, out: u64, flags: &[u8], stack: &[u64]) -> Output {
-    let said = say_bytes(answered(said, answer, &[out]), b"flags", flags);
-    say_list(said, b"stack", Cells::Words, stack)
+fn say_walk(said: Output, answer: u64, out: &[u64; 1], lent: &Lent) -> Output {
+    let said = say_bytes(answered(said, answer, out), b"flags", lent.flags);
+    say_list(said, b"stack", Cells::Words, lent.stack)
 }
 
-pub(crate) fn collect_leaf_pages(
-    said: Output,
-    case: &[u8],
-    flags: &mut [u8],
-    stack: &mut [u64],
-    leaves: &mut [u64],
-) -> Output {
+// That of a walk which carves, and the rows.
+fn say_carved(said: Output, answer: u64, out: &[u64; 1], lent: &Lent) -> Output {
+    let said = say_walk(said, answer, out, lent);
+    say_rows(said, lent.first, lent.second)
+}
+
+pub(crate) fn collect_leaf_pages(said: Output, case: &[u8], lent: &mut Lent) -> Output {
     let mut out = [0; 1];
     let answer = phs_collect_leaf_pages(
         slice(case, 0),
         number(case, 0),
         number(case, 1),
-        flags,
-        stack,
-        leaves,
+        lent.flags,
+        lent.stack,
+        lent.first,
         &mut out,
     );
-    let said = say_walk(said, answer, out[0], flags, stack);
-    say_list(said, b"leaves", Cells::Words, leaves)
+    let said = say_walk(said, answer, &out, lent);
+    say_list(said, b"leaves", Cells::Words, lent.first)
 }
 
-pub(crate) fn recover_freeblocks(
-    said: Output,
-    case: &[u8],
-    flags: &mut [u8],
-    stack: &mut [u64],
-    rows: &mut [u64],
-    cols: &mut [u64],
-) -> Output {
-    let mut roots = word_list();
+pub(crate) fn recover_freeblocks(said: Output, case: &[u8], lent: &mut Lent) -> Output {
+    let mut roots = [0; WORDS];
     let tables = words(slice(case, 2), &mut roots);
-    let mut counts = word_list();
+    let mut counts = [0; WORDS];
     let widths = words(slice(case, 3), &mut counts);
     let mut out = [0; 1];
     let answer = phs_recover_freeblocks(
@@ -53,26 +47,19 @@ pub(crate) fn recover_freeblocks(
         &roots[..tables],
         &counts[..widths],
         slice(case, 1),
-        flags,
-        stack,
-        rows,
-        cols,
+        lent.flags,
+        lent.stack,
+        lent.first,
+        lent.second,
         &mut out,
     );
-    say_rows(say_walk(said, answer, out[0], flags, stack), rows, cols)
+    say_carved(said, answer, &out, lent)
 }
 
-pub(crate) fn scan_page_gaps(
-    said: Output,
-    case: &[u8],
-    flags: &mut [u8],
-    stack: &mut [u64],
-    rows: &mut [u64],
-    cols: &mut [u64],
-) -> Output {
-    let mut roots = word_list();
+pub(crate) fn scan_page_gaps(said: Output, case: &[u8], lent: &mut Lent) -> Output {
+    let mut roots = [0; WORDS];
     let tables = words(slice(case, 2), &mut roots);
-    let mut counts = word_list();
+    let mut counts = [0; WORDS];
     let widths = words(slice(case, 3), &mut counts);
     let mut out = [0; 1];
     let answer = phs_scan_page_gaps(
@@ -82,11 +69,11 @@ pub(crate) fn scan_page_gaps(
         &roots[..tables],
         &counts[..widths],
         slice(case, 1),
-        flags,
-        stack,
-        rows,
-        cols,
+        lent.flags,
+        lent.stack,
+        lent.first,
+        lent.second,
         &mut out,
     );
-    say_rows(say_walk(said, answer, out[0], flags, stack), rows, cols)
+    say_carved(said, answer, &out, lent)
 }

@@ -1,7 +1,6 @@
 -- `streams::write_whole` ends: each turn writes a byte or more.
 -- Assumes nothing.
-use Prim.Native.Nat.{◌-◌, ◌≤◌}
-use lib.ListN.{length}
+use Rattle.std.proofs.Common.{length, ◌-◌, ◌≤◌}
 use Rattle.streams.proofs.write_whole.Given as goal
 
 abbrev pub invariant-loop-done : goal.invariant-loop-done

@@ -1,11 +1,7 @@
--- `cases::line::say_cells` meets its contract and ends: each turn passes a cell.
+-- `cases::line::say_cells`: an output that is whole was whole at each cell.
 -- Assumes nothing.
-use Rattle.std.proofs.Common.{◌-◌, length}
 use Rattle.streams.specs.Moving.{StillWhole}
 use Rattle.cases.proofs.line.say_cells.Given as goal
 
 abbrev pub invariant-loop-i : goal.invariant-loop-i
-invariant-loop-i l = StillWhole l.initial.said.whole l.said.whole
-
-abbrev pub decreases-loop-i : goal.decreases-loop-i
-decreases-loop-i l = length l.list - l.i
+invariant-loop-i l = StillWhole l.initial.said l.said

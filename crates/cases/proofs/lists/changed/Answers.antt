@@ -1,20 +1,21 @@
--- `cases::lists::changed` meets its contract and ends: each turn passes a cell.
+-- `cases::lists::changed` meets its contract: each turn counts the cell if the call changed it.
 -- Assumes nothing.
-use Rattle.std.proofs.Common.{◌≡◌, length, sym, ◌∙◌, arith}
-use Rattle.cases.proofs.Cellwise.{changed_start, changed_step}
+use Rattle.std.proofs.Common.{arith, sym, ◌∙◌}
+use Rattle.cases.proofs.Cellwise.{changed_start, changed_hit, changed_miss}
 use Rattle.cases.proofs.lists.changed.Goals as goal
+use Rattle.cases.proofs.lists.changed.Goals.{then-not-is_fresh, else-not-is_fresh}
 
 pub loop-i-init : goal.loop-i-init
-loop-i-init c = (omega arith, omega arith, changed_start _ _)
-
-pub overflow_add-n : goal.overflow_add-n
-overflow_add-n c = omega (arith, c.touched-n.ensures.small, c.loop-i.invariant.1)
+loop-i-init c = (omega arith, changed_start _ _)
 
 pub loop-i-preserved : goal.loop-i-preserved
-loop-i-preserved c =
-    (omega arith, omega (arith, c.touched-n.ensures.small, c.loop-i.invariant.1), rw (c.touched-n.ensures.value, c.loop-i.invariant.2) (sym (changed_step _ _ _)))
-
-pub returns : goal.returns
-returns c =
-    let all : c.loop-i.i ≡ length c.args.list.now = omega (arith, c.loop-i.invariant.0, c.loop-i-test.false) in
-    c.loop-i.invariant.2 ∙ rw all
+loop-i-preserved c = elim c.if-not-is_fresh.branch [
+  | then-not-is_fresh w ↦ (
+    omega (arith, w.n-is, c.loop-i.invariant.0),
+    w.n-is ∙ rw c.loop-i.invariant.1 (changed_hit _ _ _ (sym c.is_fresh.ensures ∙ w.if-not-is_fresh.true)),
+  )
+  | else-not-is_fresh w ↦ (
+    omega (arith, w.n-is, c.loop-i.invariant.0),
+    w.n-is ∙ rw c.loop-i.invariant.1 (changed_miss _ _ _ (sym c.is_fresh.ensures ∙ w.if-not-is_fresh.false)),
+  )
+]

@@ -1,5 +1,6 @@
 -- Two slices of one length that agree at the header places of an attempt at the first: it is the same attempt, and reads at the same places.
 -- Assumes nothing.
+use Rattle.std.specs.Prelude.{None, Some}
 use Prim.Native.Nat.{ℕ, zero, suc, ◌+◌, ◌<◌}
 use mathlib.Core.Path.{◌≡◌, refl, sym, ◌∙◌}
 use mathlib.Core.Bool.{Bool, true, false, cond}
@@ -13,8 +14,7 @@ use Rattle.record.proofs.Numbers.{by_order}
 use Rattle.record.proofs.Types.{places_step, places_cut, places_end, places_none, padded_step, padded_cut, padded_end, padded_none}
 use Rattle.record.specs.Places.{AgreeAt, varint_places, type_places, types_padded, header_padded}
 use Rattle.record.specs.Varint.{varint_at}
-use Rattle.record.specs.declared.varint.Varint.{Varint}
-use Rattle.record.specs.declared.varint.Varint.TheVariants.{Value, Short}
+use Rattle.record.specs.Varint.{Varint}
 
 module _ (x y : List ℕ) (same : length x ≡ length y) where
   pub agree_split : (a b : List ℕ) → AgreeAt x y (a ++ b) → AgreeAt x y a × AgreeAt x y b
@@ -42,7 +42,7 @@ module _ (x y : List ℕ) (same : length x ≡ length y) where
       ))
     where
       go : at < stop → (v : Varint) → varint_at x at ≡ v → ((k : ℕ) → AgreeAt x y (type_places f x k stop) → TypesSame f k stop) → TypesSame (suc f) at stop
-      go lt (Value t c) e rest =
+      go lt (Some (t, c)) e rest =
           let p = places_step f x at stop t c lt e in
           let s = agree_split (varint_places x at) (type_places f x c.at stop) (rw p at a) in
           let e' = varint_agree x y same at s.0 ∙ e in
@@ -51,7 +51,7 @@ module _ (x y : List ℕ) (same : length x ≡ length y) where
             places_step f y at stop t c lt e' ∙ rw (places_agree x y same at s.0, r.1) (sym p),
             padded_step f y at stop t c lt e' ∙ rw r.2 (sym (padded_step f x at stop t c lt e)),
           )
-      go lt Short e rest =
+      go lt None e rest =
           let p = places_cut f x at stop lt e in
           let s = agree_split (varint_places x at) [] (rw p at a) in
           let e' = varint_agree x y same at s.0 ∙ e in (
@@ -62,7 +62,7 @@ module _ (x y : List ℕ) (same : length x ≡ length y) where
 
   behind_same : (hints : List ℕ) (o : ℕ) (v : Varint) → AgreeAt x y (places_behind x o v)
       → (attempt_with y hints o v ≡ attempt_with x hints o v) × (places_behind y o v ≡ places_behind x o v)
-  behind_same hints o (Value h c) a = rw (← same) (go (header_fits (length x) o h) a)
+  behind_same hints o (Some (h, c)) a = rw (← same) (go (header_fits (length x) o h) a)
     where
       go : (b : Bool) → AgreeAt x y (cond b (type_places h x c.at (o + h)) [])
           → (cond b (judged_whole (length x) hints o h (header_padded h y c (o + h)) (types_from h y c.at (o + h))) miss
@@ -70,7 +70,7 @@ module _ (x y : List ℕ) (same : length x ≡ length y) where
           × (cond b (type_places h y c.at (o + h)) [] ≡ cond b (type_places h x c.at (o + h)) [])
       go true a = let r = types_same h c.at (o + h) a in (rw (r.0, r.2), r.1)
       go false a = (refl, refl)
-  behind_same hints o Short a = (refl, refl)
+  behind_same hints o None a = (refl, refl)
 
   pub attempt_same : (hints : List ℕ) (o : ℕ) → AgreeAt x y (attempt_places x o) → attempt_at y hints o ≡ attempt_at x hints o
   unfolding attempt_at attempt_places

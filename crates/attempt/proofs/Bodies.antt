@@ -1,5 +1,6 @@
 -- Bodies one behind the other: the total that the code carries decides as the definition does.
 -- Assumes nothing.
+use Rattle.std.specs.Prelude.{None, Some}
 use Prim.Native.Nat.{ℕ, ◌+◌, ◌-◌, ◌≤◌, ◌<◌, min}
 use mathlib.Core.Path.{◌≡◌, refl, sym, ap, subst, ◌∙◌}
 use mathlib.Core.Bool.{Bool, true, false, cond, ◌&&◌}
@@ -11,8 +12,7 @@ use lib.Dec.{ltb, eqb}
 use borrow.Author.Tests.{lt-ltb, le-ltb, le-leb, lt-leb, eq-eqb, ne_eqb}
 use Rattle.record.proofs.Numbers.{by_order}
 use Rattle.record.specs.Value.{body_length}
-use Rattle.record.specs.declared.record.Length.{Length}
-use Rattle.record.specs.declared.record.Length.TheVariants.{Bytes, Reserved}
+use Rattle.record.specs.Value.{Length}
 use Rattle.attempt.specs.Attempt.{Bodies, unfit, laid, before, bodies_from, miss, hit, sized, judged, most_bytes}
 use Rattle.attempt.specs.Hints.{suited}
 use Rattle.attempt.specs.Inner.{too_long, size_or, body_size, total_from, sizes, columns_at}
@@ -25,15 +25,15 @@ total_min total [] h = omega arith
 total_min total (t ∷ ts) h = let z = total_min (min too_long (total + body_size t)) ts (omega arith) in omega arith
 
 -- a size that is not too long is a body's
-size_is : (t : ℕ) → body_size t < too_long → body_length t ≡ Bytes (body_size t)
+size_is : (t : ℕ) → body_size t < too_long → body_length t ≡ Some (body_size t)
 unfolding body_size
 size_is t h = go (body_length t) h
   where
-    go : (l : Length) → size_or l < too_long → l ≡ Bytes (size_or l)
-    go (Bytes n) h = refl
-    go Reserved h = absurd (omega arith)
+    go : (l : Length) → size_or l < too_long → l ≡ Some (size_or l)
+    go (Some n) h = refl
+    go None h = absurd (omega arith)
 
-size_of : (t n : ℕ) → body_length t ≡ Bytes n → body_size t ≡ n
+size_of : (t n : ℕ) → body_length t ≡ Some n → body_size t ≡ n
 unfolding body_size
 size_of t n e = rw e
 
@@ -43,15 +43,15 @@ unfolding bodies_from
 bodies_end len at = refl
 
 module _ (len : ℕ) (at t : ℕ) (ts : List ℕ) where
-  pub bodies_step : (n : ℕ) → body_length t ≡ Bytes n → at + n ≤ len → bodies_from len at (t ∷ ts) ≡ before (Body t at n) (bodies_from len (at + n) ts)
+  pub bodies_step : (n : ℕ) → body_length t ≡ Some n → at + n ≤ len → bodies_from len at (t ∷ ts) ≡ before (Body t at n) (bodies_from len (at + n) ts)
   unfolding bodies_from
   bodies_step n l h = simp (l, le-leb (at + n) len h)
 
-  pub bodies_out : (n : ℕ) → body_length t ≡ Bytes n → len < at + n → bodies_from len at (t ∷ ts) ≡ unfit
+  pub bodies_out : (n : ℕ) → body_length t ≡ Some n → len < at + n → bodies_from len at (t ∷ ts) ≡ unfit
   unfolding bodies_from
   bodies_out n l h = simp (l, lt-leb (at + n) len h)
 
-  pub bodies_none : body_length t ≡ Reserved → bodies_from len at (t ∷ ts) ≡ unfit
+  pub bodies_none : body_length t ≡ None → bodies_from len at (t ∷ ts) ≡ unfit
   unfolding bodies_from
   bodies_none l = simp l
 
@@ -73,7 +73,7 @@ behind c (laid ds end') cs end e = let z : end' ≡ end = cc in (ds, rw z, cc)
 
 -- what holds where no body is left, and of one before others, holds of bodies that are laid
 module _ (len end : ℕ) (P : ℕ → List ℕ → List Column → Type 0) (none : P end [] [])
-    (more : (at t : ℕ) (ts : List ℕ) (n : ℕ) (ds : List Column) → body_length t ≡ Bytes n → at + n ≤ len → P (at + n) ts ds → P at (t ∷ ts) (Body t at n ∷ ds)) where
+    (more : (at t : ℕ) (ts : List ℕ) (n : ℕ) (ds : List Column) → body_length t ≡ Some n → at + n ≤ len → P (at + n) ts ds → P at (t ∷ ts) (Body t at n ∷ ds)) where
   pub over_laid : (at : ℕ) (ts : List ℕ) (cs : List Column) → bodies_from len at ts ≡ laid cs end → P at ts cs
   over_laid at [] cs e =
       let z : laid [] at ≡ laid cs end = sym (bodies_end len at) ∙ e in
@@ -83,8 +83,8 @@ module _ (len end : ℕ) (P : ℕ → List ℕ → List Column → Type 0) (none
   over_laid at (t ∷ ts) cs e = go (body_length t) refl (λ k ds d. over_laid k ts ds d)
     where
       go : (l : Length) → body_length t ≡ l → ((k : ℕ) (ds : List Column) → bodies_from len k ts ≡ laid ds end → P k ts ds) → P at (t ∷ ts) cs
-      go Reserved l rest = never (sym (bodies_none len at t ts l) ∙ e)
-      go (Bytes n) l rest =
+      go None l rest = never (sym (bodies_none len at t ts l) ∙ e)
+      go (Some n) l rest =
           by_order len (at + n) (λ out. never (sym (bodies_out len at t ts n l out) ∙ e))
           (λ in'.
           let b = behind (Body t at n) (bodies_from len (at + n) ts) cs end (sym (bodies_step len at t ts n l in') ∙ e) in

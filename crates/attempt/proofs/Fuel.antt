@@ -1,6 +1,7 @@
 -- The bound on the types of a header never cuts them short: any bound from its length on gives the same types, places and
 -- mark.
 -- Assumes nothing.
+use Rattle.std.specs.Prelude.{None, Some}
 use Prim.Native.Nat.{ℕ, zero, suc, ◌+◌, ◌≤◌, ◌<◌}
 use mathlib.Core.Path.{◌≡◌, refl, sym, ap, ◌∙◌}
 use mathlib.Core.Bool.{Bool, ◌||◌}
@@ -13,8 +14,7 @@ use Rattle.record.proofs.Numbers.{by_order}
 use Rattle.record.proofs.Types.{places_step, places_cut, places_end, padded_step, padded_cut, padded_end}
 use Rattle.record.specs.Places.{varint_places, type_places, types_padded}
 use Rattle.record.specs.Varint.{varint_at}
-use Rattle.record.specs.declared.varint.Varint.{Varint}
-use Rattle.record.specs.declared.varint.Varint.TheVariants.{Value, Short}
+use Rattle.record.specs.Varint.{Varint}
 
 module _ (s : List ℕ) (stop : ℕ) where
   -- what reading from `at` on gives with one bound it gives with the other
@@ -36,14 +36,14 @@ module _ (s : List ℕ) (stop : ℕ) where
       by_order at stop (λ lt. go lt (varint_at s at) refl (λ c p q. any_fuel f g c p q)) (λ ge. same_end (suc f) (suc g) at ge)
     where
       go : at < stop → (v : Varint) → varint_at s at ≡ v → ((c : ℕ) → stop ≤ c + f → stop ≤ c + g → Same f g c) → Same (suc f) (suc g) at
-      go lt (Value t c) e rest =
+      go lt (Some (t, c)) e rest =
           let past = (varint_reach s at).whole t c e in
           let r = rest c.at (omega arith) (omega arith) in (
             types_step f s at stop t c lt e ∙ ap (λ (ts : Types). kind t ts) r.0 ∙ sym (types_step g s at stop t c lt e),
             places_step f s at stop t c lt e ∙ ap (λ (ps : List ℕ). varint_places s at ++ ps) r.1 ∙ sym (places_step g s at stop t c lt e),
             padded_step f s at stop t c lt e ∙ ap (λ (b : Bool). c.padded || b) r.2 ∙ sym (padded_step g s at stop t c lt e),
           )
-      go lt Short e rest = (
+      go lt None e rest = (
         types_cut f s at stop lt e ∙ sym (types_cut g s at stop lt e),
         places_cut f s at stop lt e ∙ sym (places_cut g s at stop lt e),
         padded_cut f s at stop lt e ∙ sym (padded_cut g s at stop lt e),

@@ -1,5 +1,6 @@
 -- The ways out of an attempt: what each says of the definition, and of the header places.
 -- Assumes nothing.
+use Rattle.std.specs.Prelude.{None, Some}
 use Prim.Native.Nat.{ℕ, ◌+◌, ◌-◌, ◌≤◌, ◌<◌}
 use mathlib.Core.Path.{◌≡◌, refl, ap, ◌∙◌}
 use mathlib.Core.Bool.{Bool, true, false, false≢true, ◌&&◌}
@@ -13,7 +14,6 @@ use Rattle.record.proofs.Numbers.{by_order, by_test}
 use Rattle.record.specs.Places.{places_from, stop_of, varint_places, type_places, header_padded}
 use Rattle.record.specs.Varint.{varint_at}
 use Rattle.record.specs.declared.varint.Cursor.{Cursor}
-use Rattle.record.specs.declared.varint.Varint.TheVariants.{Value, Short}
 use Rattle.attempt.specs.Attempt.{Types, ended, cut, kind, kinds, is_whole, miss, judged, judged_whole, header_fits, attempt_at, most_bytes}
 use Rattle.attempt.specs.Inner.{reach, header_types, total_from, Headed, WholeIs, MissIs, HitIs, judged_header}
 use Rattle.attempt.specs.Places.{most_places, attempt_places}
@@ -111,14 +111,14 @@ fits_not len o h no' = go (leb 2 h) (leb h most_header) (leb h (len - o)) refl r
     go false b c p q r = refl
 
 module _ (s hints : List ℕ) (o : ℕ) where
-  pub attempt_short : varint_at s o ≡ Short → o ≤ length s → MissIs (attempt_at s hints o) (attempt_places s o) (length s - o)
+  pub attempt_short : varint_at s o ≡ None → o ≤ length s → MissIs (attempt_at s hints o) (attempt_places s o) (length s - o)
   unfolding attempt_at attempt_places
   attempt_short e h =
       let y : stop_of s (varint_at s o) ≡ length s = ap (stop_of s) e in
       let n = length-append (varint_places s o) [] in
       record { misses = rw e; counts = rw e (omega (arith, n, places_count s o)); few = omega (arith, (varint_reach s o).near) }
 
-  module _ (h : ℕ) (c : Cursor) (e : varint_at s o ≡ Value h c) where
+  module _ (h : ℕ) (c : Cursor) (e : varint_at s o ≡ Some (h, c)) where
     pub attempt_bad : header_fits (length s) o h ≡ false → MissIs (attempt_at s hints o) (attempt_places s o) (c.at - o)
     unfolding attempt_at attempt_places
     attempt_bad f =
@@ -130,7 +130,7 @@ module _ (s hints : List ℕ) (o : ℕ) where
     unfolding attempt_at
     attempt_is f = simp (e, f)
 
-module _ (s : List ℕ) (o h : ℕ) (c : Cursor) (e : varint_at s o ≡ Value h c) where
+module _ (s : List ℕ) (o h : ℕ) (c : Cursor) (e : varint_at s o ≡ Some (h, c)) where
   pub places_is : header_fits (length s) o h ≡ true → attempt_places s o ≡ places_from o (c.at - o) ++ type_places h s c.at (o + h)
   unfolding attempt_places
   places_is f = rw (places_are s o, e, f)
@@ -150,6 +150,6 @@ fits_is len o h = go (leb 2 h) (leb h most_header) (leb h (len - o)) refl refl r
     go true false c p q r e = absurd (false≢true e)
     go false b c p q r e = absurd (false≢true e)
 
-pub places_short : (s : List ℕ) (o : ℕ) → varint_at s o ≡ Short → attempt_places s o ≡ varint_places s o ++ []
+pub places_short : (s : List ℕ) (o : ℕ) → varint_at s o ≡ None → attempt_places s o ≡ varint_places s o ++ []
 unfolding attempt_places
 places_short s o e = rw e

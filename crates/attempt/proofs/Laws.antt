@@ -1,5 +1,6 @@
 -- What other crates rest on: they cite these laws and unfold no definition of this one.
 -- Assumes nothing.
+use Rattle.std.specs.Prelude.{None, Some}
 use Prim.Native.Nat.{ℕ, suc, ◌+◌, ◌-◌, ◌≤◌, ◌<◌}
 use mathlib.Core.Path.{◌≡◌, refl, ap, ◌∙◌}
 use mathlib.Core.Bool.{Bool, true, false, cond, ◌&&◌}
@@ -18,8 +19,7 @@ use Rattle.record.proofs.Laws.{varint_lies, varint_reach, places_count}
 use Rattle.record.specs.Places.{varint_places, header_padded}
 use Rattle.record.specs.Varint.{varint_at}
 use Rattle.record.specs.declared.varint.Cursor.{Cursor}
-use Rattle.record.specs.declared.varint.Varint.{Varint}
-use Rattle.record.specs.declared.varint.Varint.TheVariants.{Value, Short}
+use Rattle.record.specs.Varint.{Varint}
 use Rattle.sheet.specs.Limits.{most_header}
 
 -- THE LAW: an attempt has at most 520 header places
@@ -27,8 +27,8 @@ pub places_few : (s : List ℕ) (o : ℕ) → length (attempt_places s o) ≤ mo
 places_few s o = go (varint_at s o) refl
   where
     go : (v : Varint) → varint_at s o ≡ v → length (attempt_places s o) ≤ most_places
-    go Short e = rw (places_short s o e) (omega (arith, length-append (varint_places s o) [], places_count s o, (varint_reach s o).near))
-    go (Value h c) e = by_fit (header_fits (length s) o h) refl
+    go None e = rw (places_short s o e) (omega (arith, length-append (varint_places s o) [], places_count s o, (varint_reach s o).near))
+    go (Some (h, c)) e = by_fit (header_fits (length s) o h) refl
       where
         by_fit : (b : Bool) → header_fits (length s) o h ≡ b → length (attempt_places s o) ≤ most_places
         by_fit false f = let m = attempt_bad s [] o h c e f in omega (arith, m.counts, m.few)
@@ -44,8 +44,8 @@ unfolding attempt_at
 attempt_beyond s hints o h = go (varint_at s o) refl
   where
     go : (v : Varint) → varint_at s o ≡ v → attempt_with s hints o v ≡ miss
-    go (Value n c) e = let z = varint_lies s o n c e in absurd (omega (arith, z.past, z.inside))
-    go Short e = refl
+    go (Some (n, c)) e = let z = varint_lies s o n c e in absurd (omega (arith, z.past, z.inside))
+    go None e = refl
 
 pub columns_at-length : (at : ℕ) (ts : List ℕ) → length (columns_at at ts) ≡ length ts
 columns_at-length at [] = refl
@@ -119,7 +119,7 @@ module _ (len : ℕ) (hints : List ℕ) (o h : ℕ) (p : Bool) (x : Found) (insi
 pub record HitFrom (s hints : List ℕ) (o : ℕ) (x : Found) : Type 0 where
   pub head : ℕ
   pub next : Cursor
-  pub read : varint_at s o ≡ Value head next
+  pub read : varint_at s o ≡ Some (head, next)
   pub low : 2 ≤ head
   pub high : head ≤ most_header
   pub inside : o + head ≤ length s
@@ -132,8 +132,8 @@ module _ (s hints : List ℕ) (o : ℕ) (x : Found) where
   hit_from e = with_length (varint_at s o) refl e
     where
       with_length : (v : Varint) → varint_at s o ≡ v → attempt_with s hints o v ≡ hit x → HitFrom s hints o x
-      with_length Short r e = never e
-      with_length (Value h c) r e = go (header_fits (length s) o h) refl e
+      with_length None r e = never e
+      with_length (Some (h, c)) r e = go (header_fits (length s) o h) refl e
         where
           go : (b : Bool) → header_fits (length s) o h ≡ b → cond b (judged_header s hints o h c.at (header_padded h s c (o + h))) miss ≡ hit x
               → HitFrom s hints o x

@@ -1,5 +1,6 @@
 -- The mark decides nothing: without it an attempt finds what it found when there was none.
 -- Assumes nothing.
+use Rattle.std.specs.Prelude.{None, Some}
 use Prim.Native.Nat.{ℕ, ◌+◌, ◌-◌}
 use mathlib.Core.Path.{◌≡◌, refl}
 use mathlib.Core.Bool.{Bool, cond, ◌&&◌}
@@ -11,8 +12,7 @@ use Rattle.attempt.specs.Hints.{suited}
 use Rattle.record.proofs.Numbers.{tested}
 use Rattle.record.specs.Places.{header_padded}
 use Rattle.record.specs.Varint.{varint_at}
-use Rattle.record.specs.declared.varint.Varint.{Varint}
-use Rattle.record.specs.declared.varint.Varint.TheVariants.{Value, Short}
+use Rattle.record.specs.Varint.{Varint}
 
 -- what was found, with the mark q
 abbrev pub marked : Bool → Tried → Tried
@@ -34,8 +34,8 @@ module _ (q : Bool) where
 
   -- an attempt whose every row has the mark q: what it finds knows of no padded number
   abbrev pub marked_with : List ℕ → List ℕ → ℕ → Varint → Tried
-  marked_with s hints o (Value h c) = cond (header_fits (length s) o h) (judged_whole (length s) hints o h q (types_from h s c.at (o + h))) miss
-  marked_with s hints o Short = miss
+  marked_with s hints o (Some (h, c)) = cond (header_fits (length s) o h) (judged_whole (length s) hints o h q (types_from h s c.at (o + h))) miss
+  marked_with s hints o None = miss
 
   -- THE LAW: an attempt is that one, but for the mark
   pub attempt_marked : (s hints : List ℕ) (o : ℕ) → marked q (attempt_at s hints o) ≡ marked_with s hints o (varint_at s o)
@@ -43,6 +43,6 @@ module _ (q : Bool) where
   attempt_marked s hints o = by_length (varint_at s o)
     where
       by_length : (v : Varint) → marked q (attempt_with s hints o v) ≡ marked_with s hints o v
-      by_length Short = refl
-      by_length (Value h c) =
+      by_length None = refl
+      by_length (Some (h, c)) =
           tested (marked q) (header_fits (length s) o h) _ miss (whole_marked (length s) hints o h (header_padded h s c (o + h)) (types_from h s c.at (o + h))) refl

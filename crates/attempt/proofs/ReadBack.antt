@@ -1,5 +1,6 @@
 -- The columns of a row, read back from the words that say them: the values of the row's types, each at its place.
 -- Assumes nothing.
+use Rattle.std.specs.Prelude.{Some}
 use Prim.Native.Nat.{ℕ, suc, ◌+◌}
 use mathlib.Core.Path.{◌≡◌, refl, sym, ap, ◌∙◌}
 use mathlib.Core.List.{List, [], ◌∷◌, map}
@@ -14,11 +15,10 @@ use Rattle.attempt.proofs.Laws.{hit_from}
 use Rattle.attempt.proofs.Shifts.{laid_moved}
 use Rattle.record.proofs.Shifts.{PartOf, value_moved}
 use Rattle.record.specs.Value.{body_length, value_of, moved_value}
-use Rattle.record.specs.declared.record.Length.TheVariants.{Bytes}
 use Rattle.sheet.proofs.ReadBack.{Reads, reads_nil, reads_body}
 use Rattle.sheet.specs.declared.columns.Column.{Column}
 
-values_step : (s : List ℕ) (at t : ℕ) (ts : List ℕ) (n : ℕ) → body_length t ≡ Bytes n → values_from s at (t ∷ ts) ≡ value_of t s at n ∷ values_from s (at + n) ts
+values_step : (s : List ℕ) (at t : ℕ) (ts : List ℕ) (n : ℕ) → body_length t ≡ Some n → values_from s at (t ∷ ts) ≡ value_of t s at n ∷ values_from s (at + n) ts
 unfolding values_from
 values_step s at t ts n e = rw e
 

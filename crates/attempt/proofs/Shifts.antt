@@ -1,5 +1,6 @@
 -- A header that stands in a part of a slice, and the same header in the slice; and one whose length is made up, in bytes before it.
 -- Assumes nothing.
+use Rattle.std.specs.Prelude.{None, Some}
 use Prim.Native.Nat.{ℕ, zero, suc, ◌+◌, ◌-◌, ◌≤◌, ◌<◌}
 use mathlib.Core.Path.{◌≡◌, refl, sym, ap, ◌∙◌}
 use mathlib.Core.Bool.{Bool, true, false, cond, ◌&&◌, ◌||◌}
@@ -24,11 +25,9 @@ use Rattle.record.proofs.Types.{padded_step, padded_cut, padded_end}
 use Rattle.record.specs.Places.{types_padded}
 use Rattle.record.specs.Value.{body_length}
 use Rattle.record.specs.Varint.{varint_at}
-use Rattle.record.specs.declared.record.Length.{Length}
-use Rattle.record.specs.declared.record.Length.TheVariants.{Bytes, Reserved}
+use Rattle.record.specs.Value.{Length}
 use Rattle.record.specs.declared.varint.Cursor.{Cursor}
-use Rattle.record.specs.declared.varint.Varint.{Varint}
-use Rattle.record.specs.declared.varint.Varint.TheVariants.{Value, Short}
+use Rattle.record.specs.Varint.{Varint}
 use Rattle.sheet.specs.declared.columns.Column.{Column}
 use Rattle.sheet.specs.declared.columns.Column.TheVariants.{Body, Unfit, Lost, Unused}
 use Rattle.sheet.specs.Limits.{most_header}
@@ -73,7 +72,7 @@ module _ {by : ℕ} {p s : List ℕ} (part : PartOf by p s) (together : by + len
       by_order at stop (λ lt. go lt (varint_at p at) refl (λ k h h'. types_moved f g k stop h h')) (ended_both (suc f) (suc g) at stop)
     where
       go : at < stop → (v : Varint) → varint_at p at ≡ v → ((k : ℕ) → stop ≤ k + f → stop ≤ k + g → Both f g k stop) → Both (suc f) (suc g) at stop
-      go lt (Value t c) e rest =
+      go lt (Some (t, c)) e rest =
           let past = (varint_lies p at t c e).past in
           let e' = varint_moved part together at ∙ ap (moved_varint by) e in
           let r = rest c.at (omega arith) (omega arith) in
@@ -81,7 +80,7 @@ module _ {by : ℕ} {p s : List ℕ} (part : PartOf by p s) (together : by + len
           let k = padded_step f s (by + at) (by + stop) t n (omega arith) e' in
           rw (types_step f s (by + at) (by + stop) t n (omega arith) e', types_step g p at stop t c lt e, k, padded_step g p at stop t c lt e)
           (record { whole = r.whole; kinds_are = ap (λ l. t ∷ l) r.kinds_are; marks = ap (λ b. c.padded || b) r.marks })
-      go lt Short e rest =
+      go lt None e rest =
           let e' = varint_moved part together at ∙ ap (moved_varint by) e in
           let k = padded_cut f s (by + at) (by + stop) (omega arith) e' in
           rw (types_cut f s (by + at) (by + stop) (omega arith) e', types_cut g p at stop lt e, k, padded_cut g p at stop lt e)
@@ -103,8 +102,8 @@ bodies_moved by len at (t ∷ ts) = go (body_length t) refl (λ k. bodies_moved 
   where
     go : (l : Length) → body_length t ≡ l → ((k : ℕ) → bodies_from (by + len) (by + k) ts ≡ moved_bodies by (bodies_from len k ts))
         → bodies_from (by + len) (by + at) (t ∷ ts) ≡ moved_bodies by (bodies_from len at (t ∷ ts))
-    go Reserved l rest = bodies_none (by + len) (by + at) t ts l ∙ sym (ap (moved_bodies by) (bodies_none len at t ts l))
-    go (Bytes n) l rest =
+    go None l rest = bodies_none (by + len) (by + at) t ts l ∙ sym (ap (moved_bodies by) (bodies_none len at t ts l))
+    go (Some n) l rest =
         by_order len (at + n)
         (λ out. bodies_out (by + len) (by + at) t ts n l (omega arith) ∙ sym (ap (moved_bodies by) (bodies_out len at t ts n l out)))
         (λ in'.
@@ -198,7 +197,7 @@ judged_longer k len hints h p ts =
 part_behind : (own l : List ℕ) → PartOf (length own) l (own ++ l)
 part_behind own l = record { ends = omega (arith, length-append own l); same = λ i lt. get_or-append-add own l i 0 }
 
-module _ (own l hints : List ℕ) (h : ℕ) (read : varint_at (own ++ l) 0 ≡ Value (length own + h) (record { at = length own; padded = false }))
+module _ (own l hints : List ℕ) (h : ℕ) (read : varint_at (own ++ l) 0 ≡ Some ((length own + h), (record { at = length own; padded = false })))
     (low : 2 ≤ length own + h) (high : length own + h ≤ most_header) where
   -- THE LAW: an attempt on the made_up bytes and what stands behind them finds what the header makes, and so many bytes more
   pub made_up : h ≤ length l → attempt_at (own ++ l) hints 0 ≡ longer (length own) (given l hints 0 h)

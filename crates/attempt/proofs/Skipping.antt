@@ -1,5 +1,6 @@
 -- The types of a header with none of them decoded: where reading them ends, and how many there may be.
 -- Assumes nothing.
+use Rattle.std.specs.Prelude.{None, Some}
 use Prim.Native.Nat.{ℕ, zero, suc, ◌+◌, ◌-◌, ◌*◌, ◌≤◌, ◌<◌}
 use mathlib.Core.Path.{◌≡◌, refl, sym, ap, ◌∙◌}
 use mathlib.Core.Bool.{true, false≢true}
@@ -13,8 +14,7 @@ use Rattle.record.proofs.Laws.{varint_lies, varint_reach, varint_ends}
 use Rattle.record.proofs.Numbers.{by_order}
 use Rattle.record.specs.Places.{stop_of}
 use Rattle.record.specs.Varint.{varint_at}
-use Rattle.record.specs.declared.varint.Varint.{Varint}
-use Rattle.record.specs.declared.varint.Varint.TheVariants.{Value, Short}
+use Rattle.record.specs.Varint.{Varint}
 
 -- of whole types, k have been skipped
 pub Skipped : (s : List ℕ) (stop : ℕ) (w : Types) (at k : ℕ) → Type 0
@@ -29,8 +29,8 @@ module _ (s : List ℕ) (stop : ℕ) (inside : stop ≤ length s) where
   reach_step f at lt = go (varint_at s at) refl
     where
       go : (v : Varint) → varint_at s at ≡ v → reach s (types_from (suc f) s at stop) ≡ reach s (types_from f s (stop_of s v) stop)
-      go (Value t c) e = ap (reach s) (types_step f s at stop t c lt e)
-      go Short e = ap (reach s) (types_cut f s at stop lt e) ∙ sym (ap (reach s) (types_end_lem f s (length s) stop inside))
+      go (Some (t, c)) e = ap (reach s) (types_step f s at stop t c lt e)
+      go None e = ap (reach s) (types_cut f s at stop lt e) ∙ sym (ap (reach s) (types_end_lem f s (length s) stop inside))
 
   pub skip_past : (at : ℕ) → at < stop → at < stop_of s (varint_at s at)
   skip_past at lt = (varint_reach s at).past (omega arith)
@@ -76,7 +76,7 @@ module _ (s : List ℕ) (stop : ℕ) (inside : stop ≤ length s) where
           → ((k : ℕ) → k ≤ stop → stop ≤ k + f → is_whole (types_from f s k stop) ≡ true
           → (stop ≤ k + 9 * length (kinds (types_from f s k stop))) × (length (kinds (types_from f s k stop)) ≤ stop - k))
           → (stop ≤ at + 9 * length (kinds (types_from (suc f) s at stop))) × (length (kinds (types_from (suc f) s at stop)) ≤ stop - at)
-      go lt (Value t c) v rest =
+      go lt (Some (t, c)) v rest =
           let z = varint_lies s at t c v in
           let q = types_step f s at stop t c lt v in
           by_order stop c.at
@@ -84,7 +84,7 @@ module _ (s : List ℕ) (stop : ℕ) (inside : stop ≤ length s) where
           (λ before.
           let r = rest c.at before (omega (arith, z.past)) (rw q at e) in
           rw q (omega (arith, z.nine, r.0), omega (arith, z.past, r.1)))
-      go lt Short v rest = absurd (false≢true (rw (types_cut f s at stop lt v) at e))
+      go lt None v rest = absurd (false≢true (rw (types_cut f s at stop lt v) at e))
 
   pub unfitting : (f at n : ℕ) → at ≤ stop → stop ≤ at + f → (n ≤ stop - at → stop - at ≤ 9 * n → ⊥)
       → is_whole (types_from f s at stop) ≡ true → length (kinds (types_from f s at stop)) ≡ n → ⊥
@@ -101,10 +101,10 @@ module _ (s : List ℕ) (stop : ℕ) (inside : stop ≤ length s) where
     skipped_step lt (suc f, h, g) = go (varint_at s at) refl
       where
         go : (v : Varint) → varint_at s at ≡ v → Skipped s stop w (stop_of s v) (k + 1)
-        go (Value t c) e =
+        go (Some (t, c)) e =
             let z = varint_lies s at t c e in
             (f, omega (arith, z.past), λ q. let r = rw (types_step f s at stop t c lt e) at (g q) in (r.0, omega (arith, r.1)))
-        go Short e = (f, omega arith, λ q. let r = rw (types_cut f s at stop lt e) at (g q) in absurd (false≢true r.0))
+        go None e = (f, omega arith, λ q. let r = rw (types_cut f s at stop lt e) at (g q) in absurd (false≢true r.0))
 
     -- too few, and too many
     pub skipped_few : (n : ℕ) → stop ≤ at → k < n → Skipped s stop w at k → is_whole w ≡ true → length (kinds w) ≡ n → ⊥
@@ -117,5 +117,5 @@ module _ (s : List ℕ) (stop : ℕ) (inside : stop ≤ length s) where
     skipped_more lt (suc f, h, g) e c = go (varint_at s at) refl
       where
         go : (v : Varint) → varint_at s at ≡ v → ⊥
-        go (Value t d) v = let r = rw (types_step f s at stop t d lt v) at (g e) in omega (arith, r.1)
-        go Short v = let r = rw (types_cut f s at stop lt v) at (g e) in absurd (false≢true r.0)
+        go (Some (t, d)) v = let r = rw (types_step f s at stop t d lt v) at (g e) in omega (arith, r.1)
+        go None v = let r = rw (types_cut f s at stop lt v) at (g e) in absurd (false≢true r.0)

@@ -1,5 +1,6 @@
 -- The types of a header: how reading goes on, what matching and the totals come to, and where reading stops.
 -- Assumes nothing.
+use Rattle.std.specs.Prelude.{None, Some}
 use Prim.Native.Nat.{ℕ, zero, suc, ◌+◌, ◌≤◌, ◌<◌, min}
 use mathlib.Core.Path.{◌≡◌, refl, sym, ap, ◌∙◌}
 use mathlib.Core.Bool.{Bool, true, ◌||◌}
@@ -14,20 +15,18 @@ use Rattle.record.proofs.Types.{places_step, places_cut, places_none, places_end
 use Rattle.record.specs.Places.{stop_of, varint_places, type_places, types_padded}
 use Rattle.record.specs.Varint.{varint_at}
 use Rattle.record.specs.declared.varint.Cursor.{Cursor}
-use Rattle.record.specs.declared.varint.Varint.{Varint}
-use Rattle.record.specs.declared.varint.Varint.TheVariants.{Value, Short}
+use Rattle.record.specs.Varint.{Varint}
 use Rattle.attempt.specs.Attempt.{Types, ended, cut, kind, kinds, is_whole, types_from}
 use Rattle.attempt.specs.Hints.{suited}
 use Rattle.attempt.specs.Inner.{suits_at, too_long, body_size, total_from, reach, Walked, WholeIs}
-use Rattle.attempt.specs.declared.inner.Walk.TheVariants.{Whole, Cut}
 
 -- ---- reading on
 module _ (f : ℕ) (s : List ℕ) (at stop : ℕ) where
-  pub types_step : (t : ℕ) (c : Cursor) → at < stop → varint_at s at ≡ Value t c → types_from (suc f) s at stop ≡ kind t (types_from f s c.at stop)
+  pub types_step : (t : ℕ) (c : Cursor) → at < stop → varint_at s at ≡ Some (t, c) → types_from (suc f) s at stop ≡ kind t (types_from f s c.at stop)
   unfolding types_from
   types_step t c h e = simp (lt-ltb at stop h, e)
 
-  pub types_cut : at < stop → varint_at s at ≡ Short → types_from (suc f) s at stop ≡ cut
+  pub types_cut : at < stop → varint_at s at ≡ None → types_from (suc f) s at stop ≡ cut
   unfolding types_from
   types_cut h e = simp (lt-ltb at stop h, e)
 
@@ -89,7 +88,7 @@ left_start f s hints at stop p mark h m = (
 
 module _ (s hints : List ℕ) (w : Types) (at stop count matched total : ℕ) where
   -- one type more was read,
-  pub along_step : (f t : ℕ) (c : Cursor) → at < stop → varint_at s at ≡ Value t c → Along s hints w (types_from (suc f) s at stop) count matched total
+  pub along_step : (f t : ℕ) (c : Cursor) → at < stop → varint_at s at ≡ Some (t, c) → Along s hints w (types_from (suc f) s at stop) count matched total
       → Along s hints w (types_from f s c.at stop) (count + 1) (matched + suits_at hints count t) (min too_long (total + body_size t))
   unfolding total_from
   along_step f t c h e a =
@@ -116,7 +115,7 @@ module _ (s hints : List ℕ) (w : Types) (p : Bool) (at stop count matched tota
         marks = m;
       }
 
-  pub left_step : (t : ℕ) (c : Cursor) → at < stop → at < c.at → varint_at s at ≡ Value t c → Left s hints w p at stop count matched total mark
+  pub left_step : (t : ℕ) (c : Cursor) → at < stop → at < c.at → varint_at s at ≡ Some (t, c) → Left s hints w p at stop count matched total mark
       → Left s hints w p c.at stop (count + 1) (matched + suits_at hints count t) (min too_long (total + body_size t)) (mark || c.padded)
   unfolding Left
   left_step t c h q e (zero, k, a, m) = absurd (omega arith)
@@ -127,12 +126,12 @@ module _ (s hints : List ℕ) (w : Types) (p : Bool) (at stop count matched tota
     marked_step f s at stop t c p mark h e m,
   )
 
-  pub left_cut : at < stop → varint_at s at ≡ Short → Left s hints w p at stop count matched total mark → Walked s hints w p Cut
+  pub left_cut : at < stop → varint_at s at ≡ None → Left s hints w p at stop count matched total mark → Walked s hints w p None
   unfolding Left
   left_cut h e (zero, k, a, m) = absurd (omega arith)
   left_cut h e (suc f, k, a, m) = let b = rw (types_cut f s at stop h e) at a in b.whole_is
 
-  pub left_end : stop ≤ at → Left s hints w p at stop count matched total mark → Walked s hints w p (Whole count matched total at mark)
+  pub left_end : stop ≤ at → Left s hints w p at stop count matched total mark → Walked s hints w p (Some (record { count = count; matched = matched; total = total; end = at; padded = mark }))
   unfolding Left
   left_end h (f, k, a, m) = along_end (rw (types_end_lem f s at stop h) at a) (marked_end f s at stop p mark (padded_end f s at stop h) m)
 
@@ -162,7 +161,7 @@ module _ (s : List ℕ) (stop : ℕ) where
     where
       go : at < stop → (v : Varint) → varint_at s at ≡ v → ((c : ℕ) → c ≤ length s → Stops s c stop (types_from f s c stop) (type_places f s c stop))
           → Stops s at stop (types_from (suc f) s at stop) (type_places (suc f) s at stop)
-      go lt (Value t c) e rest =
+      go lt (Some (t, c)) e rest =
           let z = varint_reach s at in
           let y : stop_of s (varint_at s at) ≡ c.at = ap (stop_of s) e in
           let p = z.whole t c e in
@@ -175,7 +174,7 @@ module _ (s : List ℕ) (stop : ℕ) where
             inside = r.inside;
             near = λ _. by_order stop c.at (λ past. omega (arith, last (omega arith), z.near)) (λ before. r.near before);
           })
-      go lt Short e rest =
+      go lt None e rest =
           let z = varint_reach s at in
           let y : stop_of s (varint_at s at) ≡ length s = ap (stop_of s) e in
           let n = length-append (varint_places s at) [] in
@@ -194,8 +193,8 @@ module _ (s : List ℕ) (stop : ℕ) where
           → ((c k : ℕ) → c ≤ length s → is_whole (types_from f s c stop) ≡ true → reach s (types_from f s c stop) < stop → reach s (types_from f s c stop) ≤ c + k
           → ToEnd f c k)
           → ToEnd (suc f) at g
-      go more Short e rest = let q = rw (types_cut f s at stop more e) at w in let z : ◌≡◌ {A = ℕ} 0 1 = cc in absurd (omega arith)
-      go more (Value t c) e rest = fuelled g h
+      go more None e rest = let q = rw (types_cut f s at stop more e) at w in let z : ◌≡◌ {A = ℕ} 0 1 = cc in absurd (omega arith)
+      go more (Some (t, c)) e rest = fuelled g h
         where
           same : types_from (suc f) s at stop ≡ kind t (types_from f s c.at stop)
           same = types_step f s at stop t c more e

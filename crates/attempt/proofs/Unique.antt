@@ -2,15 +2,7 @@
 -- Assumes nothing.
 use mathlib.Core.Path.{sym, ◌∙◌}
 use Rattle.record.proofs.Unique.{Fixes}
-use Rattle.attempt.proofs.schema_sig.Compatible.number.Reads as number
-use Rattle.attempt.proofs.schema_sig.Compatible.word.Reads as word
 use Rattle.attempt.proofs.schema_sig.is_compatible.Reads as is-compatible
 
 pub is_compatible_fixed : Fixes is-compatible.Post
 is_compatible_fixed k a x y s t p q = p.0 ∙ sym q.0
-
-pub number_fixed : Fixes number.Post
-number_fixed k a x y s t p q = p ∙ sym q
-
-pub word_fixed : Fixes word.Post
-word_fixed k a x y s t p q = p ∙ sym q

@@ -1,5 +1,6 @@
 -- The columns of a row, written one after the other: what is written, with what is left to write, comes to the whole.
 -- Assumes nothing.
+use Rattle.std.specs.Prelude.{None, Some}
 use Prim.Native.Nat.{ℕ, zero, suc, ◌+◌, ◌*◌, ◌≤◌, ◌<◌}
 use mathlib.Core.Path.{◌≡◌, refl, ◌∙◌}
 use mathlib.Core.List.{List}
@@ -8,7 +9,6 @@ use lib.ListN.{length}
 use lib.Seq.{sets}
 use Rattle.record.specs.Varint.{varint_at}
 use Rattle.record.specs.declared.varint.Cursor.{Cursor}
-use Rattle.record.specs.declared.varint.Varint.TheVariants.{Value, Short}
 use Rattle.attempt.specs.Attempt.{kinds, types_from}
 use Rattle.attempt.specs.Inner.{body_size, sizes, columns_at}
 use Rattle.sheet.specs.Sheet.{columns_words}
@@ -39,7 +39,7 @@ module _ (s ts : List ℕ) (stop start₀ : ℕ) (cols₀ : List ℕ) (k at star
   unfolding Writing
   writing_long (f, q, w) = w.long
 
-  module _ (t : ℕ) (c : Cursor) (h : at < stop) (e : varint_at s at ≡ Value t c) where
+  module _ (t : ℕ) (c : Cursor) (h : at < stop) (e : varint_at s at ≡ Some (t, c)) where
     -- there is room for the next column, and its body ends no later than the last
     pub writing_room : Writing s ts stop start₀ cols₀ k at start cols to
         → (to + words_per_entry ≤ k + words_per_entry * length ts) × (start + body_size t ≤ start₀ + sizes ts)
@@ -66,7 +66,7 @@ module _ (s ts : List ℕ) (stop start₀ : ℕ) (cols₀ : List ℕ) (k at star
           },
         )
 
-  pub writing_cut : at < stop → varint_at s at ≡ Short → Writing s ts stop start₀ cols₀ k at start cols to → cols ≡ sets cols₀ k (columns_words (columns_at start₀ ts))
+  pub writing_cut : at < stop → varint_at s at ≡ None → Writing s ts stop start₀ cols₀ k at start cols to → cols ≡ sets cols₀ k (columns_words (columns_at start₀ ts))
   unfolding Writing
   writing_cut h e (zero, q, w) = absurd (omega arith)
   writing_cut h e (suc f, q, w) = (rw (types_cut f s at stop h e) at w).lists

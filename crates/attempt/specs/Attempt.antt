@@ -1,13 +1,11 @@
 -- One attempt at an offset (rules 4.2 to 4.6).
 -- Assumes nothing.
-use Rattle.std.specs.Prelude.{ℕ, zero, suc, ◌+◌, ◌-◌, Bool, true, false, cond, ◌&&◌, List, [], ◌∷◌, length, ltb, leb, eqb}
+use Rattle.std.specs.Prelude.{ℕ, zero, suc, ◌+◌, ◌-◌, Bool, true, false, cond, ◌&&◌, List, [], ◌∷◌, length, ltb, leb, eqb, None, Some}
 use Rattle.record.specs.Places.{header_padded}
 use Rattle.record.specs.Value.{body_length}
 use Rattle.record.specs.Varint.{varint_at}
-use Rattle.record.specs.declared.record.Length.{Length}
-use Rattle.record.specs.declared.record.Length.TheVariants.{Bytes, Reserved}
-use Rattle.record.specs.declared.varint.Varint.{Varint}
-use Rattle.record.specs.declared.varint.Varint.TheVariants.{Value, Short}
+use Rattle.record.specs.Value.{Length}
+use Rattle.record.specs.Varint.{Varint}
 use Rattle.attempt.specs.Hints.{suited}
 use Rattle.sheet.specs.declared.columns.Column.{Column}
 use Rattle.sheet.specs.declared.columns.Column.TheVariants.{Body}
@@ -31,8 +29,8 @@ pub data Types : Type 0 where
 
 -- Rule 4.3: the types from `at` on, until the position reaches stop; the last may run past it. The first argument bounds their number.
 abbrev pub type_on : Varint → (ℕ → Types) → Types
-type_on (Value t c) rest = kind t (rest c.at)
-type_on Short rest = cut
+type_on (Some (t, c)) rest = kind t (rest c.at)
+type_on None rest = cut
 
 unfoldable pub types_from : ℕ → List ℕ → ℕ → ℕ → Types
 types_from zero s at stop = ended at
@@ -58,8 +56,8 @@ before c unfit = unfit
 before c (laid cs end) = laid (c ∷ cs) end
 
 abbrev pub body_on : ℕ → ℕ → ℕ → (ℕ → Bodies) → Length → Bodies
-body_on len at t rest (Bytes n) = cond (leb (at + n) len) (before (Body t at n) (rest (at + n))) unfit
-body_on len at t rest Reserved = unfit
+body_on len at t rest (Some n) = cond (leb (at + n) len) (before (Body t at n) (rest (at + n))) unfit
+body_on len at t rest None = unfit
 
 unfoldable pub bodies_from : ℕ → ℕ → List ℕ → Bodies
 bodies_from len at [] = laid [] at
@@ -93,9 +91,9 @@ abbrev pub judged_whole : ℕ → List ℕ → ℕ → ℕ → Bool → Types �
 judged_whole len hints o h p ts = cond (is_whole ts) (judged len hints o h p (kinds ts)) miss
 
 abbrev pub attempt_with : List ℕ → List ℕ → ℕ → Varint → Tried
-attempt_with s hints o (Value h c) =
+attempt_with s hints o (Some (h, c)) =
     cond (header_fits (length s) o h) (judged_whole (length s) hints o h (header_padded h s c (o + h)) (types_from h s c.at (o + h))) miss
-attempt_with s hints o Short = miss
+attempt_with s hints o None = miss
 
 unfoldable pub attempt_at : List ℕ → List ℕ → ℕ → Tried
 attempt_at s hints o = attempt_with s hints o (varint_at s o)

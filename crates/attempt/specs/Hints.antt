@@ -1,10 +1,9 @@
 -- Which serial types suit a hint (rule 4.1).
 -- Assumes nothing.
-use Rattle.std.specs.Prelude.{ℕ, ◌+◌, ◌%◌, Bool, cond, ◌&&◌, ◌||◌, List, [], ◌∷◌, ltb, leb, eqb}
-use Rattle.attempt.specs.declared.schema_sig.Compatible.{Compatible}
-use Rattle.attempt.specs.declared.schema_sig.Compatible.TheVariants.{Suits, Differs, Refused}
+use Rattle.std.specs.Prelude.{ℕ, ◌+◌, ◌%◌, Bool, cond, ◌&&◌, ◌||◌, List, [], ◌∷◌, ltb, leb, eqb, Result, Ok, Err}
 use Rattle.sheet.specs.Limits.{integer_hint, real_hint, text_hint, blob_hint, null_hint, any_hint, highest_hint}
 use Rattle.sheet.specs.Refusal.{refusal_number}
+use Rattle.sheet.specs.declared.refusal.Refusal.{Refusal}
 use Rattle.sheet.specs.declared.refusal.Refusal.TheVariants.{Malformed}
 
 -- integers, which a NULL may stand for, as for any hint
@@ -37,19 +36,17 @@ suited [] (t ∷ ts) = 0
 suited (h ∷ hs) (t ∷ ts) = cond (suits h t) 1 0 + suited hs ts
 
 -- a code above 5 is no hint: refusal 2
-unfoldable pub compatible : ℕ → ℕ → Compatible
-compatible hint t = cond (ltb highest_hint hint) (Refused Malformed) (cond (suits hint t) Suits Differs)
+unfoldable pub compatible : ℕ → ℕ → Result Bool Refusal
+compatible hint t = cond (ltb highest_hint hint) (Err Malformed) (Ok (suits hint t))
 
 -- the paper's number of such an answer, and whether the type suits: 1 or 0
-abbrev pub compatible_number_of : Compatible → ℕ
-compatible_number_of Suits = 0
-compatible_number_of Differs = 0
-compatible_number_of (Refused r) = refusal_number r
+abbrev pub compatible_number_of : Result Bool Refusal → ℕ
+compatible_number_of (Ok suits) = 0
+compatible_number_of (Err r) = refusal_number r
 
-abbrev pub compatible_word_of : Compatible → ℕ
-compatible_word_of Suits = 1
-compatible_word_of Differs = 0
-compatible_word_of (Refused r) = 0
+abbrev pub compatible_word_of : Result Bool Refusal → ℕ
+compatible_word_of (Ok suits) = cond suits 1 0
+compatible_word_of (Err r) = 0
 
 -- and both by the rules, with no answer between
 unfoldable pub compatible_number : ℕ → ℕ

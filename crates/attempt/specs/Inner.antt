@@ -1,19 +1,16 @@
 -- What the code carries between its own functions; nothing that a caller has to believe.
 -- Assumes nothing.
-use Rattle.std.specs.Prelude.{ℕ, ◌+◌, ◌-◌, ◌≤◌, min, ◌≡◌, Bool, true, false, List, [], ◌∷◌, ◌++◌, length, drop}
+use Rattle.std.specs.Prelude.{ℕ, ◌+◌, ◌-◌, ◌≤◌, min, ◌≡◌, Bool, true, false, List, [], ◌∷◌, ◌++◌, length, drop, Option, None, Some, Result}
+use Rattle.std.specs.Prelude.{Ok, Err}
 use Rattle.attempt.specs.Attempt.{Types, ended, cut, kind, kinds, is_whole, types_from, Found, Tried, miss, hit}
 use Rattle.attempt.specs.Attempt.{judged_whole}
 use Rattle.attempt.specs.Hints.{suited}
 use Rattle.attempt.specs.Places.{most_places}
 use Rattle.attempt.specs.declared.inner.Find.{Find}
-use Rattle.attempt.specs.declared.inner.Verdict.{Verdict}
-use Rattle.attempt.specs.declared.inner.Verdict.TheVariants.{Hit, Miss}
+use Rattle.attempt.specs.declared.inner.Miss.{Miss}
 use Rattle.attempt.specs.declared.inner.Walk.{Walk}
-use Rattle.attempt.specs.declared.inner.Walk.TheVariants.{Whole, Cut}
 use Rattle.record.specs.Places.{places_from, type_places}
-use Rattle.record.specs.Value.{body_length}
-use Rattle.record.specs.declared.record.Length.{Length}
-use Rattle.record.specs.declared.record.Length.TheVariants.{Bytes, Reserved}
+use Rattle.record.specs.Value.{Length, body_length}
 use Rattle.sheet.specs.declared.columns.Column.{Column}
 use Rattle.sheet.specs.declared.columns.Column.TheVariants.{Body}
 use Rattle.sheet.specs.Limits.{most_header}
@@ -27,8 +24,8 @@ abbrev pub too_long : ℕ
 too_long = 65537
 
 abbrev pub size_or : Length → ℕ
-size_or (Bytes n) = n
-size_or Reserved = too_long
+size_or (Some n) = n
+size_or None = too_long
 
 unfoldable pub body_size : ℕ → ℕ
 body_size t = size_or (body_length t)
@@ -86,9 +83,9 @@ pub record WholeIs (s hints : List ℕ) (ts : Types) (p : Bool) (count matched t
   pub ends : reach s ts ≡ end
   pub marks : p ≡ padded
 
-abbrev pub Walked : List ℕ → List ℕ → Types → Bool → Walk → Type 0
-Walked s hints ts p (Whole count matched total end padded) = WholeIs s hints ts p count matched total end padded
-Walked s hints ts p Cut = is_whole ts ≡ false
+abbrev pub Walked : List ℕ → List ℕ → Types → Bool → Option Walk → Type 0
+Walked s hints ts p (Some w) = WholeIs s hints ts p w.count w.matched w.total w.end w.padded
+Walked s hints ts p None = is_whole ts ≡ false
 
 -- the types of a row that was found, and the row
 abbrev pub find_types : List ℕ → ℕ → Find → Types
@@ -118,15 +115,15 @@ pub record HitIs (s hints : List ℕ) (o : ℕ) (t : Tried) (p : List ℕ) (x : 
   pub inside : o + x.consumed ≤ length s
   pub headed : Headed s o x.head x.from
 
-abbrev pub Tells : List ℕ → List ℕ → ℕ → Tried → List ℕ → Verdict → Type 0
-Tells s hints o t p (Miss read) = MissIs t p read
-Tells s hints o t p (Hit x) = HitIs s hints o t p x
+abbrev pub Tells : List ℕ → List ℕ → ℕ → Tried → List ℕ → Result Find Miss → Type 0
+Tells s hints o t p (Err x) = MissIs t p x.read
+Tells s hints o t p (Ok x) = HitIs s hints o t p x
 
 -- what a header makes whose types stand behind `from` and whose mark is p
 abbrev pub judged_header : List ℕ → List ℕ → ℕ → ℕ → ℕ → Bool → Tried
 judged_header s hints o h from p = judged_whole (length s) hints o h p (header_types s o h from)
 
 -- its places are those of its own number and of the types
-abbrev pub Judged : List ℕ → List ℕ → ℕ → ℕ → ℕ → Bool → Verdict → Type 0
+abbrev pub Judged : List ℕ → List ℕ → ℕ → ℕ → ℕ → Bool → Result Find Miss → Type 0
 Judged s hints o h from p v =
     Tells s hints o (judged_header s hints o h from p) (places_from o (from - o) ++ type_places h s from (o + h)) v

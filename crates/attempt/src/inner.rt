@@ -13,8 +13,8 @@ ghost use Rattle.sheet.specs.Limits.{words_per_entry, largest_region};
 ghost use Rattle.sheet.specs.Sheet.{columns_words};
 
 use crate::inner::header::{miscounted, types_end};
-use record::record::{Length, body_length};
-use record::varint::{Cursor, Varint};
+use record::record::body_length;
+use record::varint::Cursor;
 use sheet::columns::Column;
 use sheet::hint::{ANY, BLOB, INTEGER, NULL, REAL, TEXT};
 use sheet::inner::put_column;
@@ -22,22 +22,18 @@ use sheet::{MOST_HEADER, WORDS_PER_ENTRY};
 
 // What the types of a header come to: how many there are, how many suit, the length of all bodies, where reading stopped, and whether a
 // number of the header is padded.
-#[derive(Clone, Copy)]
-enum Walk {
-    Whole {
-        count: usize,
-        matched: u16,
-        total: usize,
-        end: usize,
-        padded: bool,
-    },
-    // A type runs off the slice.
-    Cut,
+#[derive(Clone, Copy, Debug)]
+pub struct Walk {
+    pub count: usize,
+    pub matched: u16,
+    pub total: usize,
+    pub end: usize,
+    pub padded: bool,
 }
 
 // A row that an attempt found: its header's length, where its types start, the bytes that it takes, how many of its types suit, the
 // header bytes that were read, and whether a number of its header is padded.
-#[derive(Clone, Copy)]
+#[derive(Clone, Copy, Debug)]
 pub struct Find {
     pub head: usize,
     pub from: usize,
@@ -47,11 +43,10 @@ pub struct Find {
     pub padded: bool,
 }
 
-#[derive(Clone, Copy)]
-pub enum Verdict {
-    Hit(Find),
-    // The header bytes that were read.
-    Miss(usize),
+// No row, and the header bytes that were read to see it.
+#[derive(Clone, Copy, Debug)]
+pub struct Miss {
+    pub read: usize,
 }
 
 // A row takes at most so many bytes.
@@ -63,49 +58,47 @@ const TOO_LONG: usize = MOST_BYTES + 1;
 // A reserved type's body is as long.
 const NEVER_FITS: usize = TOO_LONG;
 
+#[tactic(auto, unfolding(crate::specs::Hints::is_integer))]
 fn is_integer(kind: u64) -> bool
     ensures { result ≡ is_integer kind }
 {
-    kind <= 6 || (kind == 8 || kind == 9)
+    matches!(kind, 0..=6 | 8 | 9)
 }
 
+#[tactic(auto, unfolding(crate::specs::Hints::is_real))]
 fn is_real(kind: u64) -> bool
     ensures { result ≡ is_real kind }
 {
-    kind == 0 || kind == 7
+    matches!(kind, 0 | 7)
 }
 
+#[tactic(auto, unfolding(crate::specs::Hints::is_text))]
 fn is_text(kind: u64) -> bool
     ensures { result ≡ is_text kind }
 {
     kind == 0 || (13 <= kind && kind % 2 == 1)
 }
 
+#[tactic(auto, unfolding(crate::specs::Hints::is_blob))]
 fn is_blob(kind: u64) -> bool
     ensures { result ≡ is_blob kind }
 {
     kind == 0 || (12 <= kind && kind % 2 == 0)
 }
 
+#[tactic(auto, unfolding(crate::specs::Hints::suits))]
 pub fn suits(hint: u8, kind: u64) -> bool
     ensures { result ≡ suits_hint hint kind }
 {
-    if hint == INTEGER {
-        return is_integer(kind);
+    match hint {
+        INTEGER => is_integer(kind),
+        REAL => is_real(kind),
+        TEXT => is_text(kind),
+        BLOB => is_blob(kind),
+        NULL => kind == 0,
+        ANY => true,
+        _ => false,
     }
-    if hint == REAL {
-        return is_real(kind);
-    }
-    if hint == TEXT {
-        return is_text(kind);
-    }
-    if hint == BLOB {
-        return is_blob(kind);
-    }
-    if hint == NULL {
-        return kind == 0;
-    }
-    hint == ANY
 }
 
 // 1 where the type suits the hint at k; types behind the last hint suit none.
@@ -113,21 +106,14 @@ pub fn suits_at(hints: &[u8], k: usize, kind: u64) -> u16
     ensures value { result ≡ suits_at hints.now k kind }
     ensures small { result ≤ 1 }
 {
-    if k < hints.len() {
-        if suits(hints[k], kind) {
-            return 1;
-        }
-    }
-    0
+    u16::from(k < hints.len() && suits(hints[k], kind))
 }
 
+#[tactic(auto, unfolding(crate::specs::Inner::body_size))]
 fn body_size(kind: u64) -> usize
     ensures { result ≡ body_size kind }
 {
-    let Length::Bytes(n) = body_length(kind) else {
-        return NEVER_FITS;
-    };
-    n
+    body_length(kind).unwrap_or(NEVER_FITS)
 }
 
 // The total with one more body, up to what is too long in any case.
@@ -135,15 +121,19 @@ pub fn add_body(total: usize, kind: u64) -> usize
     requires { total ≤ too_long }
     ensures { result ≡ min too_long (total + body_size kind) }
 {
-    let n = body_size(kind);
-    if n > TOO_LONG - total {
-        return TOO_LONG;
-    }
-    total + n
+    total.saturating_add(body_size(kind)).min(TOO_LONG)
 }
 
-// Reads the types that stand behind `from` in the header of `head` bytes at o, whose own number is padded or not.
-fn walk_types(bytes: &[u8], hints: &[u8], o: usize, head: usize, from: usize, own: bool) -> Walk
+// Reads the types that stand behind `from` in the header of `head` bytes at o, whose own number is padded or not; none if one of them runs
+// off the slice.
+fn walk_types(
+    bytes: &[u8],
+    hints: &[u8],
+    o: usize,
+    head: usize,
+    from: usize,
+    own: bool,
+) -> Option<Walk>
     requires { Headed bytes.now o head from }
     ensures { Walked bytes.now hints.now (header_types bytes.now o head from)
         (own || types_padded head bytes.now from (o + head)) result }
@@ -155,26 +145,23 @@ fn walk_types(bytes: &[u8], hints: &[u8], o: usize, head: usize, from: usize, ow
     let mut matched: u16 = 0;
     let mut total: usize = 0;
     while at < stop {
-        let c = Cursor { at, padded: false };
-        let Varint::Value(kind, next) = c.serial_type(bytes) else {
-            return Walk::Cut;
-        };
-        matched = matched + suits_at(hints, count, kind);
+        let (kind, next) = Cursor::new(at).serial_type(bytes)?;
+        matched += suits_at(hints, count, kind);
         total = add_body(total, kind);
-        count = count + 1;
+        count += 1;
         at = next.at;
         // A branch, since a type of one byte is known not to be padded and so costs nothing.
         if next.padded {
             padded = true;
         }
     }
-    Walk::Whole {
+    Some(Walk {
         count,
         matched,
         total,
         end: at,
         padded,
-    }
+    })
 }
 
 // Whether as many types as hints make a row: those of the header of `head` bytes at o that stand behind `from`, and came to so much.
@@ -184,34 +171,25 @@ pub fn judge(
     o: usize,
     head: usize,
     from: usize,
-    matched: u16,
-    total: usize,
-    end: usize,
-    padded: bool,
-) -> Verdict
+    walk: Walk,
+) -> Result<Find, Miss>
     requires headed { Headed bytes.now o head from }
-    requires whole_is { WholeIs bytes.now hints.now (header_types bytes.now o head from) padded
-        (length hints.now) matched total end padded }
-    ensures { Judged bytes.now hints.now o head from padded result }
+    requires whole_is { WholeIs bytes.now hints.now (header_types bytes.now o head from) walk.padded
+        (length hints.now) walk.matched walk.total walk.end walk.padded }
+    ensures { Judged bytes.now hints.now o head from walk.padded result }
 {
-    let read = end - o;
-    if matched == 0 {
-        return Verdict::Miss(read);
+    let read = walk.end - o;
+    let consumed = head + walk.total;
+    if walk.matched == 0 || consumed > bytes.len() - o || consumed > MOST_BYTES {
+        return Err(Miss { read });
     }
-    let consumed = head + total;
-    if consumed > bytes.len() - o {
-        return Verdict::Miss(read);
-    }
-    if consumed > MOST_BYTES {
-        return Verdict::Miss(read);
-    }
-    Verdict::Hit(Find {
+    Ok(Find {
         head,
         from,
         consumed,
-        matched,
+        matched: walk.matched,
         read,
-        padded,
+        padded: walk.padded,
     })
 }
 
@@ -224,56 +202,50 @@ pub fn given_header(
     head: usize,
     from: usize,
     own: bool,
-) -> Verdict
+) -> Result<Find, Miss>
     requires { Headed bytes.now o head from }
     ensures { Judged bytes.now hints.now o head from
         (own || types_padded head bytes.now from (o + head)) result }
 {
     // Most headers that fail have too few types or too many, which is seen before one is decoded.
     if miscounted(hints.len(), bytes, o, head, from) {
-        return Verdict::Miss(types_end(bytes, o, head, from) - o);
+        let read = types_end(bytes, o, head, from) - o;
+        return Err(Miss { read });
     }
-    let Walk::Whole {
-        count,
-        matched,
-        total,
-        end,
-        padded,
-    } = walk_types(bytes, hints, o, head, from, own)
-    else {
-        return Verdict::Miss(bytes.len() - o);
+    let Some(walk) = walk_types(bytes, hints, o, head, from, own) else {
+        return Err(Miss {
+            read: bytes.len() - o,
+        });
     };
-    if count != hints.len() {
-        return Verdict::Miss(end - o);
+    if walk.count != hints.len() {
+        return Err(Miss { read: walk.end - o });
     }
-    judge(bytes, hints, o, head, from, matched, total, end, padded)
+    judge(bytes, hints, o, head, from, walk)
 }
 
+#[tactic(auto, unfolding(crate::specs::Attempt::header_fits))]
 fn header_fits(len: usize, o: usize, h: u64) -> bool
     requires { o ≤ len }
     ensures { result ≡ header_fits len o h }
 {
-    2 <= h && (h <= MOST_HEADER && h <= (len - o) as u64)
+    2 <= h && h <= MOST_HEADER && h <= (len - o) as u64
 }
 
-pub fn attempt(bytes: &[u8], hints: &[u8], o: usize) -> Verdict
+pub fn attempt(bytes: &[u8], hints: &[u8], o: usize) -> Result<Find, Miss>
     requires { (o ≤ length bytes.now) × (length bytes.now ≤ largest_region) }
     ensures { Tells bytes.now hints.now o (attempt_at bytes.now hints.now o)
         (attempt_places bytes.now o) result }
 {
-    let c = Cursor {
-        at: o,
-        padded: false,
-    };
-    let Varint::Value(h, next) = c.header_length(bytes) else {
-        return Verdict::Miss(bytes.len() - o);
+    let Some((h, next)) = Cursor::new(o).header_length(bytes) else {
+        return Err(Miss {
+            read: bytes.len() - o,
+        });
     };
     let from = next.at;
-    if header_fits(bytes.len(), o, h) {
-        return given_header(bytes, hints, o, h as usize, from, next.padded);
+    if !header_fits(bytes.len(), o, h) {
+        return Err(Miss { read: from - o });
     }
-    let read = from - o;
-    Verdict::Miss(read)
+    given_header(bytes, hints, o, h as usize, from, next.padded)
 }
 
 // Writes the columns whose types stand behind `from` in the header of `head` bytes at o; the bodies start at its end. The bytes lie `by`
@@ -299,8 +271,7 @@ pub fn put_columns(
     let mut start = by + stop;
     let mut to = k;
     while at < stop {
-        let c = Cursor { at, padded: false };
-        let Varint::Value(kind, next) = c.serial_type(bytes) else {
+        let Some((kind, next)) = Cursor::new(at).serial_type(bytes) else {
             return;
         };
         let len = body_size(kind);
@@ -313,8 +284,8 @@ pub fn put_columns(
                 len: len as u64,
             },
         );
-        start = start + len;
-        to = to + WORDS_PER_ENTRY;
+        start += len;
+        to += WORDS_PER_ENTRY;
         at = next.at;
     }
 }

@@ -4,48 +4,16 @@ ghost use Rattle.attempt.specs.Hints.{compatible, compatible_number_of, compatib
 
 use crate::inner::suits;
 use sheet::HIGHEST_HINT;
-use sheet::refusal::{Refusal, number};
+use sheet::refusal::Refusal;
 
-#[derive(Clone, Copy)]
-pub enum Compatible {
-    Suits,
-    Differs,
-    Refused(Refusal),
-}
-
-impl Compatible {
-    pub fn number(self) -> u64
-        ensures { result ≡ compatible_number_of self }
-    {
-        match self {
-            Compatible::Suits => 0,
-            Compatible::Differs => 0,
-            Compatible::Refused(refusal) => number(refusal),
-        }
-    }
-
-    // Whether the type suits, as a word.
-    pub fn word(self) -> u64
-        ensures { result ≡ compatible_word_of self }
-    {
-        match self {
-            Compatible::Suits => 1,
-            Compatible::Differs => 0,
-            Compatible::Refused(_) => 0,
-        }
-    }
-}
-
-pub fn is_compatible(hint: u8, kind: u64) -> Compatible
+#[tactic(auto, unfolding(crate::specs::Hints::compatible, crate::specs::Hints::compatible_number, crate::specs::Hints::compatible_word))]
+pub fn is_compatible(hint: u8, kind: u64) -> Result<bool, Refusal>
     ensures answer { result ≡ compatible hint kind }
     ensures number { compatible_number_of result ≡ compatible_number hint }
     ensures word { compatible_word_of result ≡ compatible_word hint kind }
 {
     if hint > HIGHEST_HINT {
-        return Compatible::Refused(Refusal::Malformed);
+        return Err(Refusal::Malformed);
     }
-    if suits(hint, kind) {
-        return Compatible::Suits;
-    }
-    Compatible::Differs
+    Ok(suits(hint, kind))
 }

@@ -1,10 +1,8 @@
 -- What the code of `column` carries besides the definitions.
 -- Assumes nothing.
-use Rattle.std.specs.Prelude.{ℕ, List, [], ◌∷◌}
-use Rattle.column.specs.declared.piece.Given.{Given}
-use Rattle.column.specs.declared.piece.Given.TheVariants.{Hint, Nothing}
+use Rattle.std.specs.Prelude.{ℕ, List, [], ◌∷◌, Option, Some, None}
 
 -- what a piece gives, as the list of its hints
-abbrev pub given_hints : Given → List ℕ
-given_hints (Hint h) = h ∷ []
-given_hints Nothing = []
+abbrev pub given_hints : Option ℕ → List ℕ
+given_hints (Some h) = h ∷ []
+given_hints None = []

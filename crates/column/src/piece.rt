@@ -11,7 +11,10 @@ use words::inner::keywords::{begins, holds_word, is_word};
 use words::runs::{Run, before_first, leading};
 use words::words::{trimmed, word_behind};
 
-#[derive(Clone, Copy)]
+// What a constraint of a table begins with.
+const CONSTRAINTS: [&[u8]; 5] = [b"PRIMARY", b"UNIQUE", b"CHECK", b"FOREIGN", b"CONSTRAINT"];
+
+#[derive(Clone, Copy, Debug, PartialEq, Eq)]
 pub enum Reading {
     // As the Rust reads it, for comparing with the Rust.
     AsRust,
@@ -19,64 +22,47 @@ pub enum Reading {
     ByFormat,
 }
 
-// What a piece gives.
-#[derive(Clone, Copy)]
-pub enum Given {
-    Hint(u8),
-    Nothing,
-}
-
+#[tactic(auto, unfolding(crate::specs::Column::is_row_id))]
 fn is_row_id(piece: &[u8]) -> bool
     ensures { result ≡ is_row_id piece.now }
 {
-    if !holds_word(piece, b"KEY") {
-        return false;
-    }
-    if !holds_word(piece, b"PRIMARY") {
-        return false;
-    }
-    holds_word(piece, b"INTEGER")
+    holds_word(piece, b"KEY") && holds_word(piece, b"PRIMARY") && holds_word(piece, b"INTEGER")
 }
 
 fn begins_as_constraint(piece: &[u8]) -> bool
     ensures { result ≡ begins_as_constraint piece.now }
 {
-    begins(piece, b"PRIMARY")
-        | begins(piece, b"UNIQUE")
-        | begins(piece, b"CHECK")
-        | begins(piece, b"FOREIGN")
-        | begins(piece, b"CONSTRAINT")
+    CONSTRAINTS.iter().any(|word| begins(piece, word))
 }
 
 // A round bracket ends it as a blank does.
+#[tactic(auto, using(words::proofs::Laws::take_run), unfolding(crate::specs::Column::name_of))]
 fn name(piece: &[u8]) -> &[u8]
     ensures { result.now ≡ name_of piece.now }
 {
-    let n = leading(piece, Run::Word);
-    before_first(before_first(&piece[..n], b'('), b')')
+    let word = &piece[..leading(piece, Run::Word)];
+    before_first(before_first(word, b'('), b')')
 }
 
 fn is_constraint(name: &[u8]) -> bool
     ensures { result ≡ is_constraint name.now }
 {
-    is_word(name, b"PRIMARY")
-        | is_word(name, b"UNIQUE")
-        | is_word(name, b"CHECK")
-        | is_word(name, b"FOREIGN")
-        | is_word(name, b"CONSTRAINT")
+    CONSTRAINTS.iter().any(|word| is_word(name, word))
 }
 
+#[tactic(auto, using(crate::proofs::Laws::no_constraint), unfolding(crate::specs::Column::is_dropped))]
 fn is_dropped(reading: Reading, piece: &[u8]) -> bool
     ensures { result ≡ is_dropped reading piece.now }
 {
     // Most pieces are told by their first letter.
     let begins = begins_as_constraint(piece);
     match reading {
-        Reading::AsRust => is_row_id(piece) | begins,
+        Reading::AsRust => begins || is_row_id(piece),
         Reading::ByFormat => begins && is_constraint(name(piece)),
     }
 }
 
+#[tactic(auto, unfolding(crate::specs::Column::is_keyed))]
 fn is_keyed(column: &[u8]) -> bool
     ensures { result ≡ is_keyed column.now }
 {
@@ -87,34 +73,31 @@ fn key_hint(column: &[u8]) -> u8
     ensures { result ≡ key_hint column.now }
 {
     if is_word(word_behind(column, 4), b"DESC") {
-        return INTEGER;
+        INTEGER
+    } else {
+        NULL
     }
-    NULL
 }
 
+#[tactic(auto, using(words::proofs::Laws::second_behind), unfolding(crate::specs::Column::column_hint))]
 fn column_hint(reading: Reading, column: &[u8]) -> u8
     ensures { result ≡ column_hint reading column.now }
 {
     let kind = word_behind(column, 1);
-    let hint = sql_type_to_hint(kind);
-    let Reading::ByFormat = reading else {
-        return hint;
-    };
-    if is_word(kind, b"INTEGER") && is_keyed(column) {
-        return key_hint(column);
+    match reading {
+        Reading::ByFormat if is_word(kind, b"INTEGER") && is_keyed(column) => key_hint(column),
+        _ => sql_type_to_hint(kind),
     }
-    hint
 }
 
-pub fn piece_hint(reading: Reading, piece: &[u8]) -> Given
+#[tactic(auto, unfolding(crate::specs::Column::piece_hints))]
+pub fn piece_hint(reading: Reading, piece: &[u8]) -> Option<u8>
     ensures { given_hints result ≡ piece_hints reading (trim piece.now) }
 {
     let column = trimmed(piece);
-    if column.len() == 0 {
-        return Given::Nothing;
+    if column.is_empty() || is_dropped(reading, column) {
+        None
+    } else {
+        Some(column_hint(reading, column))
     }
-    if is_dropped(reading, column) {
-        return Given::Nothing;
-    }
-    Given::Hint(column_hint(reading, column))
 }

@@ -1,97 +1,97 @@
-// Callers show by proof that there is room. Each writer answers the place behind what it wrote.
+// Text that is written to the front of a lent buffer, one piece behind the other. Callers show by proof that there is room.
 ghost use Rattle.std.specs.Prelude.{◌≡◌, ◌+◌, ◌≤◌, ◌++◌, length};
 ghost use Rattle.digits.specs.Digits.{most_digits, hex_digits, decimal, field, hex_digit, hex8};
-ghost use Rattle.digits.specs.Inner.{Put, most_field};
+ghost use Rattle.digits.specs.Inner.{Room, Puts, Starts, most_field};
+
+use io::decimal;
 
 // The digits of the largest word.
 pub const MOST_DIGITS: usize = 20;
 // The digits of a confidence.
 pub const HEX_DIGITS: usize = 8;
 
-pub fn put_bytes(out: &mut [u8], at: usize, bytes: &[u8]) -> usize
-    requires { at + length bytes.now ≤ length out.old }
-    ensures { Put out.old at bytes.now out.new result }
-{
-    let mut i = 0;
-    while i < bytes.len() {
-        out[at + i] = bytes[i];
-        i = i + 1;
+#[derive(Drop)]
+pub struct Text<'a> {
+    pub bytes: &'a mut [u8],
+    // How many of them are written.
+    pub len: usize,
+}
+
+impl<'a> Text<'a> {
+    // Nothing is written yet.
+    pub fn new(bytes: &'a mut [u8]) -> Text<'a>
+        ensures same_buffer { result.bytes.ghost_name ≡ bytes.entry.ghost_name }
+        ensures starts { Starts bytes.old result }
+    {
+        Text { bytes, len: 0 }
     }
-    at + i
-}
 
-// How many digits n has.
-fn decimal_len(n: u64) -> usize
-    ensures { result ≡ length (decimal n) }
-{
-    let mut rest = n;
-    let mut len = 1;
-    while rest >= 10 {
-        rest = rest / 10;
-        len = len + 1;
+    pub fn put_bytes(&mut self, bytes: &[u8])
+        requires { Room self.old (length bytes.now) }
+        ensures { Puts self.old bytes.now self.new }
+    {
+        let end = self.len + bytes.len();
+        self.bytes[self.len..end].copy_from_slice(bytes);
+        self.len = end;
     }
-    len
-}
 
-// The last digit is written first.
-pub fn put_decimal(out: &mut [u8], at: usize, n: u64) -> usize
-    requires { at + most_digits ≤ length out.old }
-    ensures put { Put out.old at (decimal n) out.new result }
-    ensures near { result ≤ at + most_digits }
-{
-    let end = at + decimal_len(n);
-    let mut to = end;
-    let mut rest = n;
-    while to > at {
-        to = to - 1;
-        out[to] = 48 + (rest % 10) as u8;
-        rest = rest / 10;
+    pub fn put_decimal(&mut self, n: u64)
+        requires { Room self.old most_digits }
+        ensures put { Puts self.old (decimal n) self.new }
+        ensures near { self.new.len ≤ self.old.len + most_digits }
+    {
+        let mut digits = [0; MOST_DIGITS];
+        let len = decimal(n, &mut digits);
+        self.put_bytes(&digits[..len]);
     }
-    end
+
+    // A number behind the bytes that lead to it.
+    pub fn put_number_after(&mut self, front: &[u8], n: u64)
+        requires { Room self.old (length front.now + most_digits) }
+        ensures put { Puts self.old (front.now ++ decimal n) self.new }
+        ensures near { self.new.len ≤ self.old.len + length front.now + most_digits }
+    {
+        self.put_bytes(front);
+        self.put_decimal(n);
+    }
+
+    // A number, and the blank that ends its field.
+    pub fn put_field(&mut self, n: u64)
+        requires { Room self.old most_field }
+        ensures put { Puts self.old (field n) self.new }
+        ensures near { self.new.len ≤ self.old.len + most_field }
+    {
+        self.put_decimal(n);
+        self.put_bytes(b" ");
+    }
+
+    // The last eight hexadecimal digits.
+    pub fn put_hex(&mut self, n: u64)
+        requires { Room self.old hex_digits }
+        ensures put { Puts self.old (hex8 n) self.new }
+        ensures near { self.new.len ≡ self.old.len + hex_digits }
+    {
+        self.put_bytes(&[
+            hex_digit(n / 0x1000_0000),
+            hex_digit(n / 0x100_0000),
+            hex_digit(n / 0x10_0000),
+            hex_digit(n / 0x1_0000),
+            hex_digit(n / 0x1000),
+            hex_digit(n / 0x100),
+            hex_digit(n / 0x10),
+            hex_digit(n),
+        ]);
+    }
 }
 
-// A number behind the bytes that lead to it.
-pub fn put_number_after(out: &mut [u8], at: usize, front: &[u8], n: u64) -> usize
-    requires { at + length front.now + most_digits ≤ length out.old }
-    ensures put { Put out.old at (front.now ++ decimal n) out.new result }
-    ensures near { result ≤ at + length front.now + most_digits }
-{
-    let next = put_bytes(out, at, front);
-    put_decimal(out, next, n)
-}
-
-// A number, and the blank that ends its field.
-pub fn put_field(out: &mut [u8], at: usize, n: u64) -> usize
-    requires { at + most_field ≤ length out.old }
-    ensures put { Put out.old at (field n) out.new result }
-    ensures near { result ≤ at + most_field }
-{
-    let end = put_decimal(out, at, n);
-    put_bytes(out, end, b" ")
-}
-
+#[tactic(auto, unfolding(crate::specs::Digits::hex_digit))]
 fn hex_digit(n: u64) -> u8
     ensures { result ≡ hex_digit n }
 {
-    let d = (n % 16) as u8;
-    if d < 10 { 48 + d } else { 55 + d }
-}
-
-// The last eight hexadecimal digits.
-pub fn put_hex(out: &mut [u8], at: usize, n: u64) -> usize
-    requires { at + hex_digits ≤ length out.old }
-    ensures put { Put out.old at (hex8 n) out.new result }
-    ensures near { result ≡ at + hex_digits }
-{
-    let digits = [
-        hex_digit(n / 0x1000_0000),
-        hex_digit(n / 0x100_0000),
-        hex_digit(n / 0x10_0000),
-        hex_digit(n / 0x1_0000),
-        hex_digit(n / 0x1000),
-        hex_digit(n / 0x100),
-        hex_digit(n / 0x10),
-        hex_digit(n),
-    ];
-    put_bytes(out, at, &digits)
+    let digit = (n % 16) as u8;
+    if digit < 10 {
+        b'0' + digit
+    } else {
+        b'A' - 10 + digit
+    }
 }

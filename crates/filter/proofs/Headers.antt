@@ -1,28 +1,33 @@
 -- What the first byte at an offset tells of the attempt there.
 -- Assumes nothing.
+use Rattle.std.specs.Prelude.{Option, None, Some}
 use Prim.Native.Nat.{ℕ, zero, suc, ◌+◌, ◌-◌, ◌*◌, ◌≤◌, ◌<◌}
 use mathlib.Core.Path.{◌≡◌, refl, sym, ap, ◌∙◌}
-use mathlib.Core.Bool.{true, false}
+use mathlib.Core.Bool.{Bool, true, false, false≢true}
 use mathlib.Core.List.{List}
 use native.Mathlib.Omega.{arith}
-use lib.ListN.{length, get_or}
+use borrow.Author.Tests.{ltb-true}
+use lib.Dec.{ltb}
+use lib.ListN.{length, get_or, take, drop, length-take, length-drop}
+use lib.Seq.{get_or-take, get_or-drop}
+use Rattle.std.proofs.lemmas.List.Folds.{list_all_at}
+use Rattle.std.specs.List.{list_all}
 use Rattle.attempt.proofs.Judging.{fits, fits_not, attempt_short, attempt_bad, attempt_is, places_is, headed, read_all, judge_never}
 use Rattle.attempt.specs.Attempt.{kinds, is_whole, header_fits}
 use Rattle.attempt.specs.Inner.{reach, header_types, Headed, Ends}
-use Rattle.filter.specs.Inner.{MissAt, Holds, AllLow, SoonEnds, MayHave}
+use Rattle.filter.specs.Inner.{MissAt, Dismissed, Holds, AllLow, SoonEnds, MayHave}
 use Rattle.filter.specs.declared.inner.high.High.{High}
 use Rattle.attempt.proofs.Skipping.{Skipped, skipped_start, skipped_step, skipped_more, skip_past, ends_start, ends_pass, ends_step, ends_end, unfitting}
 use Rattle.record.proofs.Laws.{varint_low, varint_large, varint_through}
-use Rattle.record.proofs.Numbers.{by_order}
+use Rattle.record.proofs.Numbers.{by_order, by_test}
 use Rattle.record.specs.Places.{stop_of}
 use Rattle.record.specs.Varint.{varint_at}
-use Rattle.record.specs.declared.varint.Varint.{Varint}
-use Rattle.record.specs.declared.varint.Varint.TheVariants.{Value, Short}
+use Rattle.record.specs.Varint.{Varint}
 
 module _ (s hints : List ℕ) (o h : ℕ) (inside : o < length s) (is : h ≡ get_or s o 0) where
   -- below 128 it is the header's length,
   module _ (low : h < 128) where
-    number : varint_at s o ≡ Value h (record { at = o + 1; padded = false })
+    number : varint_at s o ≡ Some (h, (record { at = o + 1; padded = false }))
     number = varint_low s o inside (rw is at low) ∙ rw is
 
     pub one_not : header_fits (length s) o h ≡ false → MissAt s hints o 1
@@ -48,18 +53,19 @@ module _ (s hints : List ℕ) (o h : ℕ) (inside : o < length s) (is : h ≡ ge
             rw (attempt_is s hints o h (record { at = o + 1; padded = false }) number f, places_is s o h (record { at = o + 1; padded = false }) number f)
             (judge_never s hints o h (o + 1) one_headed _ none)
 
-        pub one_soon : (r : ℕ) → SoonEnds s o h r → 0 < r → MissAt s hints o r
-        one_soon r ends some = let d : reach s (header_types s o h (o + 1)) - o ≡ r = omega (arith, ends some) in rw d at one_never
+        pub one_soon : (r : Option ℕ) → SoonEnds s o h r → Dismissed s hints o r
+        one_soon None ends = tt
+        one_soon (Some r) ends = let d : reach s (header_types s o h (o + 1)) - o ≡ r = omega (arith, ends) in rw d at one_never
 
   -- and from 133 up it begins a number above 512
   pub large_not : 133 ≤ h → h < 256 → MissAt s hints o (stop_of s (varint_at s o) - o)
   large_not big byte = go (varint_at s o) refl
     where
       go : (v : Varint) → varint_at s o ≡ v → MissAt s hints o (stop_of s v - o)
-      go (Value n c) e =
+      go (Some (n, c)) e =
           attempt_bad s hints o n c e
           (fits_not (length s) o n (λ p q r. omega (arith, varint_large s o (rw is at big) (rw is at byte) n c e)))
-      go Short e = attempt_short s hints o e (omega arith)
+      go None e = attempt_short s hints o e (omega arith)
 
   -- of k + 1 bytes, if the next below 128 is so far
   pub large_short : 133 ≤ h → h < 256 → (k : ℕ) → 0 < k → k < 8 → o + k < length s → ((q : ℕ) → o ≤ q → q < o + k → 128 ≤ get_or s q 0) → get_or s (o + k) 0 < 128 → MissAt s hints o (k + 1)
@@ -78,14 +84,14 @@ module _ (s : List ℕ) (o h : ℕ) (in' : o + h ≤ length s) where
       (λ here. let e : p ≡ o = omega arith in rw e (ends_start s (o + h) in' h (o + 1) (omega arith)))
 
   -- to the header's end, if its last byte is one,
-  pub ends_last : 2 ≤ h → get_or s (o + h - 1) 0 < 128 → SoonEnds s o h h
-  ends_last two low some =
+  pub ends_last : 2 ≤ h → get_or s (o + h - 1) 0 < 128 → SoonEnds s o h (Some h)
+  ends_last two low =
       let e : o + h - 1 + 1 ≡ o + h = omega arith in
       sym (ends_end s (o + h) in' (header_types s o h (o + 1)) (o + h) (omega arith) (rw e at (comes_to (o + h - 1) (omega arith) (omega arith) low)))
 
   -- to the end of the varint there, if the byte before is,
-  pub ends_next : 2 ≤ h → get_or s (o + h - 2) 0 < 128 → (r : ℕ) → o + r ≡ stop_of s (varint_at s (o + h - 1)) → SoonEnds s o h r
-  ends_next two low r is some =
+  pub ends_next : 2 ≤ h → get_or s (o + h - 2) 0 < 128 → (r : ℕ) → o + r ≡ stop_of s (varint_at s (o + h - 1)) → SoonEnds s o h (Some r)
+  ends_next two low r is =
       let ts = header_types s o h (o + 1) in
       let e : o + h - 2 + 1 ≡ o + h - 1 = omega arith in
       let past = skip_past s (o + h) in' (o + h - 1) (omega arith) in
@@ -120,3 +126,17 @@ module _ (s : List ℕ) (o h n : ℕ) (room : n < h) (in' : o + h ≤ length s) 
   -- as many as hints, and one more behind them
   pub all_and_more : o + 1 + n < o + h → MayHave (header_types s o h (o + 1)) n false
   all_and_more lt w e = skipped_more s (o + h) in' (header_types s o h (o + 1)) (o + 1 + n) n lt (skipped_low n (omega arith)) w e
+
+-- bytes between two places that the library's test of all finds low
+each_low : (xs : List ℕ) (i : ℕ) → i < length xs → list_all (λ b. ltb b 128) xs ≡ true → get_or xs i 0 < 128
+each_low xs i lt all =
+    by_test (ltb (get_or xs i 0) 128) (λ t. ltb-true _ _ t) (λ f. absurd (false≢true (sym (list_all_at (λ b. ltb b 128) xs i 0 lt f) ∙ all)))
+
+pub low_between : (s : List ℕ) (from to : ℕ) (r : Bool) → to ≤ length s → r ≡ list_all (λ b. ltb b 128) (take (to - from) (drop from s)) → AllLow s from to r
+low_between s from to false in' e = tt
+low_between s from to true in' e =
+    λ q lo hi.
+    let n : q - from < to - from = omega arith in
+    let at : from + (q - from) ≡ q = omega arith in
+    let long : q - from < length (take (to - from) (drop from s)) = simp (length-take, length-drop) (omega arith) in
+    rw (get_or-take (to - from) (drop from s) (q - from) 0 n, get_or-drop, at) at (each_low (take (to - from) (drop from s)) (q - from) long (sym e))

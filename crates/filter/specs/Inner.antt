@@ -1,16 +1,15 @@
 -- What the code carries between its own functions, and what its callers get; nothing that a reader of a call's contract has to believe.
 -- Assumes nothing.
-use Rattle.std.specs.Prelude.{ℕ, zero, suc, ◌+◌, ◌-◌, ◌*◌, ◌≤◌, ◌<◌, ◌≡◌, Bool, true, false, List, length, get_or}
+use Rattle.std.specs.Prelude.{ℕ, zero, suc, ◌+◌, ◌-◌, ◌*◌, ◌≤◌, ◌<◌, ◌≡◌, Bool, true, false, List, length, get_or, Option, Some, None}
+use Rattle.std.specs.Prelude.{Result, Ok, Err}
 use Rattle.attempt.specs.Attempt.{Types, kinds, is_whole, attempt_at}
 use Rattle.attempt.specs.Inner.{reach, header_types, MissIs, HitIs}
 use Rattle.attempt.specs.Places.{most_places, attempt_places}
 use Rattle.attempt.specs.declared.inner.Find.{Find}
 use Rattle.filter.specs.declared.inner.high.High.{High}
 use Rattle.filter.specs.declared.inner.Next.{Next}
-use Rattle.filter.specs.declared.inner.Next.TheVariants.{Row, Through}
-use Rattle.filter.specs.declared.inner.PassedWithRun.{PassedWithRun}
-use Rattle.filter.specs.declared.inner.Step.{Step}
-use Rattle.filter.specs.declared.inner.Step.TheVariants.{Row as Stands, On}
+use Rattle.filter.specs.declared.inner.Row.{Row}
+use Rattle.filter.specs.declared.inner.PassedOver.{PassedOver}
 
 -- ---- runs of bytes from 128 up
 
@@ -63,18 +62,20 @@ abbrev pub MayHave : Types → ℕ → Bool → Type 0
 MayHave ts n true = Unit
 MayHave ts n false = is_whole ts ≡ true → length (kinds ts) ≡ n → ⊥
 
--- a number says how far from o reading the types of the header of h bytes there goes; 0 says nothing
-abbrev pub SoonEnds : List ℕ → ℕ → ℕ → ℕ → Type 0
-SoonEnds s o h r = 0 < r → reach s (header_types s o h (o + 1)) ≡ o + r
+-- a number says how far from o reading the types of the header of h bytes there goes
+abbrev pub SoonEnds : List ℕ → ℕ → ℕ → Option ℕ → Type 0
+SoonEnds s o h (Some r) = reach s (header_types s o h (o + 1)) ≡ o + r
+SoonEnds s o h None = Unit
 
 -- ---- offsets
 
 abbrev pub MissAt : List ℕ → List ℕ → ℕ → ℕ → Type 0
 MissAt s hints o read = MissIs (attempt_at s hints o) (attempt_places s o) read
 
--- a number of header bytes says that the attempt fails and reads so many; 0 says nothing
-abbrev pub Dismissed : List ℕ → List ℕ → ℕ → ℕ → Type 0
-Dismissed s hints o read = 0 < read → MissAt s hints o read
+-- a number of header bytes says that the attempt fails and reads so many
+abbrev pub Dismissed : List ℕ → List ℕ → ℕ → Option ℕ → Type 0
+Dismissed s hints o (Some read) = MissAt s hints o read
+Dismissed s hints o None = Unit
 
 -- the attempts at k offsets from o on fail, and read so many header bytes in all
 abbrev pub MissFrom : List ℕ → List ℕ → ℕ → ℕ → ℕ → Type 0
@@ -95,9 +96,9 @@ pub record PassedOverIs (s hints : List ℕ) (start last to read : ℕ) : Type 0
   pub early : last ≤ start → (to ≡ start) × (read ≡ 0)
 
 -- and the run that was met last is one
-pub record PassedWithRunIs (s hints : List ℕ) (start last : ℕ) (r : PassedWithRun) : Type 0 where
+pub record PassedWithRunIs (s hints : List ℕ) (start last : ℕ) (r : PassedOver) (run : High) : Type 0 where
   pub passed : PassedOverIs s hints start last r.to r.read
-  pub run_is : IsHigh s r.run
+  pub run_is : IsHigh s run
 
 -- ---- the next row, behind offsets that are passed over
 pub record RowIs (s hints : List ℕ) (start last at : ℕ) (x : Find) (read : ℕ) (run : High) : Type 0 where
@@ -113,14 +114,17 @@ pub record ThroughIs (s hints : List ℕ) (start last read : ℕ) : Type 0 where
   pub there : last ≤ to
 
 -- or one step on
-pub record OnIs (s hints : List ℕ) (o last : ℕ) (x : PassedWithRun) : Type 0 where
-  pub step : PassedWithRunIs s hints o last x
+pub record OnIs (s hints : List ℕ) (o last : ℕ) (x : PassedOver) (run : High) : Type 0 where
+  pub step : PassedWithRunIs s hints o last x run
   pub further : o < last → o < x.to
 
-abbrev pub StepSays : List ℕ → List ℕ → ℕ → ℕ → Step → Type 0
-StepSays s hints o last (Stands x run) = (o < last) × HitIs s hints o (attempt_at s hints o) (attempt_places s o) x × IsHigh s run
-StepSays s hints o last (On x) = OnIs s hints o last x
+abbrev pub StepSays : List ℕ → List ℕ → ℕ → ℕ → Result Find PassedOver → High → Type 0
+StepSays s hints o last (Ok x) run = (o < last) × HitIs s hints o (attempt_at s hints o) (attempt_places s o) x × IsHigh s run
+StepSays s hints o last (Err x) run = OnIs s hints o last x run
+
+abbrev pub RowOr : List ℕ → List ℕ → ℕ → ℕ → ℕ → Option Row → Type 0
+RowOr s hints start last read (Some row) = RowIs s hints start last row.at row.find read row.run
+RowOr s hints start last read None = ThroughIs s hints start last read
 
 abbrev pub NextSays : List ℕ → List ℕ → ℕ → ℕ → Next → Type 0
-NextSays s hints start last (Row at x read run) = RowIs s hints start last at x read run
-NextSays s hints start last (Through read) = ThroughIs s hints start last read
+NextSays s hints start last next = RowOr s hints start last next.read next.row

@@ -18,7 +18,7 @@ use Rattle.sheet.specs.Limits.{words_per_entry}
 use Rattle.sheet.specs.Sheet.{entry_in, entries_in}
 use Rattle.groups.specs.Judging.{judged_row, judged_rows}
 use Rattle.groups.specs.Rows.{rows_in, row_count, rows_of, is_used, columns_of, longest, is_refused, any_bad, gapped, bad_row, bad_rows}
-use Rattle.groups.specs.declared.inner.Judged.TheVariants.{Columns, Bad}
+use Rattle.std.specs.Prelude.{Some, None}
 use Rattle.sheet.proofs.Laws.{neither}
 
 -- ---- rows among the words
@@ -104,23 +104,23 @@ module _ (s : List ℕ) where
   good_next r rs e = neither (bad_row s r) (bad_rows s rs) e
 
 -- ---- what judging came to
-came_good : (b : Bool) (n k : ℕ) → Columns n ≡ cond b Bad (Columns k) → (b ≡ false) × (n ≡ k)
+came_good : (b : Bool) (n k : ℕ) → Some n ≡ cond b None (Some k) → (b ≡ false) × (n ≡ k)
 came_good true n k e = let z : ◌≡◌ {A = ℕ} 0 1 = cc in absurd (omega arith)
 came_good false n k e = (refl, cc)
 
-came_bad : (b : Bool) (k : ℕ) → Bad ≡ cond b Bad (Columns k) → b ≡ true
+came_bad : (b : Bool) (k : ℕ) → None ≡ cond b None (Some k) → b ≡ true
 came_bad true k e = refl
 came_bad false k e = let z : ◌≡◌ {A = ℕ} 0 1 = cc in absurd (omega arith)
 
 module _ (s : List ℕ) where
-  pub row_good : (es : List Entry) {n : ℕ} → Columns n ≡ judged_row s es → (bad_row s es ≡ false) × (n ≡ columns_of es)
+  pub row_good : (es : List Entry) {n : ℕ} → Some n ≡ judged_row s es → (bad_row s es ≡ false) × (n ≡ columns_of es)
   row_good es e = came_good (bad_row s es) _ (columns_of es) e
 
-  pub row_bad : (es : List Entry) → Bad ≡ judged_row s es → bad_row s es ≡ true
+  pub row_bad : (es : List Entry) → None ≡ judged_row s es → bad_row s es ≡ true
   row_bad es e = came_bad (bad_row s es) (columns_of es) e
 
-  pub rows_good : (rows : List (List Entry)) {n : ℕ} → Columns n ≡ judged_rows s rows → (bad_rows s rows ≡ false) × (n ≡ longest rows)
+  pub rows_good : (rows : List (List Entry)) {n : ℕ} → Some n ≡ judged_rows s rows → (bad_rows s rows ≡ false) × (n ≡ longest rows)
   rows_good rows e = came_good (bad_rows s rows) _ (longest rows) e
 
-  pub rows_bad : (rows : List (List Entry)) → Bad ≡ judged_rows s rows → bad_rows s rows ≡ true
+  pub rows_bad : (rows : List (List Entry)) → None ≡ judged_rows s rows → bad_rows s rows ≡ true
   rows_bad rows e = came_bad (bad_rows s rows) (longest rows) e

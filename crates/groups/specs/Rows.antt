@@ -1,10 +1,10 @@
 -- Rows that are lent as groups of column entries over one slice: which entries a row has, how many are used, and whether it is bad.
 -- Assumes nothing.
 use Rattle.std.specs.Prelude.{ℕ, zero, suc, ◌+◌, ◌*◌, ◌/◌, max, Bool, true, false, cond, not, ◌&&◌, ◌||◌, List, [], ◌∷◌, ltb, length, drop}
+use Rattle.std.specs.Prelude.{None, Some}
 use Rattle.record.specs.Entry.{unused_state, read_entry}
 use Rattle.record.specs.declared.entry.Entry.{Entry}
-use Rattle.record.specs.declared.entry.EntryRead.{EntryRead}
-use Rattle.record.specs.declared.entry.EntryRead.TheVariants.{Of, Refused as Bad}
+use Rattle.record.specs.Entry.{EntryRead}
 use Rattle.sheet.specs.Limits.{words_per_entry}
 use Rattle.sheet.specs.Sheet.{entries_in}
 
@@ -42,8 +42,8 @@ longest (r ∷ rs) = max (columns_of r) (longest rs)
 
 -- Rule 3.3: an entry of the row is bad, so reading it over the slice s is refused
 abbrev pub is_refused : EntryRead → Bool
-is_refused (Of v) = false
-is_refused Bad = true
+is_refused (Some v) = false
+is_refused None = true
 
 unfoldable pub any_bad : List ℕ → List Entry → Bool
 any_bad s [] = false

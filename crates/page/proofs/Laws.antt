@@ -1,5 +1,6 @@
 -- What other crates rest on: they cite these laws and unfold no definition of this one.
 -- Assumes nothing.
+use Rattle.std.specs.Prelude.{Err, Ok}
 use Prim.Native.Nat.{ℕ, zero, suc, ◌+◌, ◌*◌, ◌/◌, ◌≤◌, ◌<◌}
 use mathlib.Core.Path.{◌≡◌, refl, sym, ap}
 use mathlib.Core.Bool.{Bool, true, false, cond, ◌||◌, and-eq-true_iff}
@@ -11,12 +12,11 @@ use borrow.Author.Tests.{le-leb, lt-leb, leb-true, eqb-true, ltb-false, not-fals
 use lib.Dec.{leb, eqb}
 use lib.ListN.{length, get_or, length-take, length-drop}
 use Rattle.record.specs.Value.{big_endian}
-use Rattle.page.specs.declared.btree.Paged.TheVariants.{At, Refused}
+use Rattle.page.specs.declared.btree.Page.{Page}
 use Rattle.sheet.proofs.Laws.{none_holds}
 use Rattle.sheet.specs.Limits.{largest_region}
 use Rattle.sheet.specs.Refusal.{first_held, after}
-use Rattle.sheet.specs.declared.refusal.Checked.{Checked}
-use Rattle.sheet.specs.declared.refusal.Checked.TheVariants.{Passed, Refused as Held}
+use Rattle.sheet.specs.Refusal.{Checked}
 use Rattle.sheet.specs.declared.refusal.Refusal.{Refusal}
 use Rattle.page.specs.Page.{among, page_sizes, size_fits, has_page, start_of, page_of, head_of, page_checks, page_answer}
 
@@ -78,38 +78,41 @@ head_low p = low (eqb p 1)
     low false = omega arith
 
 -- ---- a page that was asked for
-module _ (len size p : ℕ) where
-  never : {C : Type 0} {a b c : ℕ} {r : Refusal} → At a b c ≡ Refused r → C
-  never e = absurd (let z : ◌≡◌ {A = ℕ} 0 1 = cc in omega arith)
 
-  pub paged_refused : (r : Refusal) → page_answer len size p ≡ Refused r → first_held (page_checks len size p) ≡ Held r
+-- where it lies
+abbrev page_at : ℕ → ℕ → Page
+page_at size p = record { start = start_of size p; len = size; head = head_of p }
+
+module _ (len size p : ℕ) where
+  pub paged_refused : (r : Refusal) → page_answer len size p ≡ Err r → first_held (page_checks len size p) ≡ Err r
   unfolding page_answer
   paged_refused r e = go (first_held (page_checks len size p)) e
     where
-      go : (c : Checked) → after Refused c (At (start_of size p) size (head_of p)) ≡ Refused r → c ≡ Held r
-      go Passed d = never d
-      go (Held x) d = let z : x ≡ r = cc in ap Held z
+      go : (c : Checked) → after Err c (Ok (page_at size p)) ≡ Err r → c ≡ Err r
+      go (Ok tt) d = cc
+      go (Err x) d = cc
 
   -- it passed the checks, and lies where it should
   pub record PagedAt (start length head : ℕ) : Type 0 where
-    pub passed : first_held (page_checks len size p) ≡ Passed
+    pub passed : first_held (page_checks len size p) ≡ (Ok tt)
     pub starts : start ≡ start_of size p
     pub long : length ≡ size
     pub heads : head ≡ head_of p
     pub inside : start + length ≤ len
     pub small : len ≤ largest_region
 
-  pub paged_at : (start length head : ℕ) → page_answer len size p ≡ At start length head → PagedAt start length head
+  pub paged_at : (page : Page) → page_answer len size p ≡ Ok page → PagedAt page.start page.len page.head
   unfolding page_answer
-  paged_at start length head e = go (first_held (page_checks len size p)) refl e
+  paged_at page e = go (first_held (page_checks len size p)) refl e
     where
-      go : (c : Checked) → first_held (page_checks len size p) ≡ c → after Refused c (At (start_of size p) size (head_of p)) ≡ At start length head → PagedAt start length head
-      go Passed f d =
+      go : (c : Checked) → first_held (page_checks len size p) ≡ c → after Err c (Ok (page_at size p)) ≡ Ok page → PagedAt page.start page.len page.head
+      go (Ok tt) f d =
           let n = none_holds (page_checks len size p) f in
           let t = there_page len size p (not-false _ n.1.1.0) in
-          let s : start ≡ start_of size p = cc in
-          let l : length ≡ size = cc in
-          let h : head ≡ head_of p = cc in
+          let same : page ≡ page_at size p = cc in
+          let s : page.start ≡ start_of size p = ap (λ (q : Page). q.start) same in
+          let l : page.len ≡ size = ap (λ (q : Page). q.len) same in
+          let h : page.head ≡ head_of p = ap (λ (q : Page). q.head) same in
           let range = size_range size (not-false _ n.1.0) in
           record {
             passed = f;
@@ -119,4 +122,4 @@ module _ (len size p : ℕ) where
             inside = rw (s, l) (page_inside len size p (omega (arith, range.0)) t.0 t.1);
             small = ltb-false largest_region len n.0;
           }
-      go (Held x) f d = never (sym d)
+      go (Err x) f d = cc

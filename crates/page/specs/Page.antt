@@ -1,11 +1,12 @@
 -- A page of a database, and the numbers that stand on it (format, sections 1.3.2 and 1.6; rules 9.1 to 9.4).
 -- Assumes nothing.
 use Rattle.std.specs.Prelude.{ℕ, ◌+◌, ◌-◌, ◌*◌, ◌/◌, Bool, false, cond, not, ◌&&◌, ◌||◌, List, [], ◌∷◌, ltb, leb, eqb, get_or, take, drop}
-use Rattle.page.specs.declared.btree.Paged.{Paged}
-use Rattle.page.specs.declared.btree.Paged.TheVariants.{At, Refused}
+use Rattle.std.specs.Prelude.{Result, Ok, Err}
+use Rattle.page.specs.declared.btree.Page.{Page}
 use Rattle.record.specs.Value.{big_endian}
 use Rattle.sheet.specs.Limits.{largest_region}
 use Rattle.sheet.specs.Refusal.{Check, first_held, refusal_number, after}
+use Rattle.sheet.specs.declared.refusal.Refusal.{Refusal}
 use Rattle.sheet.specs.declared.refusal.Refusal.TheVariants.{TooLarge, PageSize, NoSuchPage}
 
 -- ---- where a page lies
@@ -82,13 +83,14 @@ page_checks len size p =
     ∷ record { refusal = NoSuchPage; holds = not (has_page len size p) }
     ∷ []
 
-unfoldable pub page_answer : ℕ → ℕ → ℕ → Paged
-page_answer len size p = after Refused (first_held (page_checks len size p)) (At (start_of size p) size (head_of p))
+unfoldable pub page_answer : ℕ → ℕ → ℕ → Result Page Refusal
+page_answer len size p =
+    after Err (first_held (page_checks len size p)) (Ok (record { start = start_of size p; len = size; head = head_of p }))
 
 -- the paper's number of an answer, 0 where nothing is refused
-abbrev pub paged_number : Paged → ℕ
-paged_number (At start len head) = 0
-paged_number (Refused r) = refusal_number r
+abbrev pub paged_number : Result Page Refusal → ℕ
+paged_number (Ok page) = 0
+paged_number (Err r) = refusal_number r
 
 unfoldable pub page_refusal : ℕ → ℕ → ℕ → ℕ
 page_refusal len size p = after refusal_number (first_held (page_checks len size p)) 0

@@ -3,53 +3,34 @@ ghost use Rattle.std.specs.Prelude.{◌≡◌, length};
 ghost use Rattle.page.specs.Page.{page_answer, paged_number, page_refusal};
 
 use crate::inner::{head_of, size_fits};
+use sheet::LARGEST_REGION;
 use sheet::refusal::Refusal;
-use sheet::{LARGEST_REGION, refusal};
 
-#[derive(Clone, Copy)]
-pub enum Paged {
-    // Where the page lies in the database, and where its b-tree header stands in it.
-    At {
-        start: usize,
-        len: usize,
-        head: usize,
-    },
-    Refused(Refusal),
+// Where a page lies in the database, and where its b-tree header stands in it.
+#[derive(Clone, Copy, Debug, PartialEq, Eq)]
+pub struct Page {
+    pub start: usize,
+    pub len: usize,
+    pub head: usize,
 }
 
-impl Paged {
-    // The refusal's number, 0 for none.
-    pub fn number(self) -> u64
-        ensures { result ≡ paged_number self }
-    {
-        match self {
-            Paged::At { .. } => 0,
-            Paged::Refused(refusal) => refusal::number(refusal),
-        }
-    }
-}
-
-pub fn get_page_data(db: &[u8], size: u64, page: u64) -> Paged
+pub fn get_page_data(db: &[u8], size: u64, page: u64) -> Result<Page, Refusal>
     ensures value { result ≡ page_answer (length db.now) size page }
     ensures number { paged_number result ≡ page_refusal (length db.now) size page }
 {
     if db.len() > LARGEST_REGION {
-        return Paged::Refused(Refusal::TooLarge);
+        return Err(Refusal::TooLarge);
     }
     if !size_fits(size) {
-        return Paged::Refused(Refusal::PageSize);
-    }
-    if page == 0 {
-        return Paged::Refused(Refusal::NoSuchPage);
+        return Err(Refusal::PageSize);
     }
     let len = size as usize;
-    if page > (db.len() / len) as u64 {
-        return Paged::Refused(Refusal::NoSuchPage);
+    if page == 0 || page > (db.len() / len) as u64 {
+        return Err(Refusal::NoSuchPage);
     }
-    let start = (page as usize - 1) * len;
-    Paged::At {
-        start,
+    Ok(Page {
+        start: (page as usize - 1) * len,
         len,
         head: head_of(page),
-    }
+    })
 }

@@ -11,10 +11,10 @@ use record::inner::{big_endian, wide};
 pub fn size_fits(size: u64) -> bool
     ensures { result ≡ size_fits size }
 {
-    match size {
-        512 | 1024 | 2048 | 4096 | 8192 | 16_384 | 32_768 | 65_536 => true,
-        _ => false,
-    }
+    matches!(
+        size,
+        512 | 1024 | 2048 | 4096 | 8192 | 16_384 | 32_768 | 65_536
+    )
 }
 
 // On page 1 the database header stands before the b-tree header.
@@ -30,10 +30,7 @@ fn byte(page: &[u8], at: usize) -> u64
     ensures value { result ≡ get_or page.now at 0 }
     ensures small { result < 256 }
 {
-    if page.len() <= at {
-        return 0;
-    }
-    wide(page[at])
+    page.get(at).map_or(0, |b| wide(*b))
 }
 
 fn half(page: &[u8], at: usize) -> usize

@@ -1,5 +1,6 @@
 -- Laws of the search: what a match says of each byte, why a shift passes no place, and what the places seen so far make of the answer.
 -- Assumes nothing.
+use Rattle.std.specs.Prelude.{Ok}
 use Prim.Native.Nat.{ℕ, zero, suc, ◌+◌, ◌-◌, ◌≤◌, ◌<◌}
 use mathlib.Core.Path.{◌≡◌, refl, sym, ap, ◌∙◌}
 use mathlib.Core.Bool.{Bool, true, false, cond, ◌&&◌, and-eq-true_iff, not-eq-not}
@@ -87,14 +88,6 @@ module _ (haystack pattern : List ℕ) (o : ℕ) where
   pub place_none : stands_at haystack pattern o ≡ false → place_at haystack pattern o ≡ []
   unfolding place_at
   place_none h = simp h
-
-  at_most_one : length (place_at haystack pattern o) ≤ 1
-  unfolding place_at
-  at_most_one = one (stands_at haystack pattern o)
-    where
-      one : (b : Bool) → length (cond b (o ∷ []) []) ≤ 1
-      one true = omega arith
-      one false = omega arith
 
 -- ---- the shift table
 
@@ -266,11 +259,6 @@ slides {haystack} {pattern} (some, (fits, small)) byte t (e, stored) = record {
 
 -- ---- the places seen so far
 
--- behind its end a list takes nothing
-sets_out : (l : List ℕ) (i : ℕ) (vs : List ℕ) → length l ≤ i → sets l i vs ≡ l
-sets_out l i [] h = refl
-sets_out l i (v ∷ vs) h = rw (set_out l i v h) (sets_out l (suc i) vs (omega arith))
-
 -- what the offsets below `at` have made of the old list, and how many are places
 pub record Seen (haystack pattern old : List ℕ) (at : ℕ) (places : List ℕ) (n : ℕ) : Type 0 where
   pub count : n ≡ length (places_below haystack pattern at)
@@ -297,41 +285,44 @@ module _ {haystack pattern old places : List ℕ} {at n : ℕ} (s : Seen haystac
       let fits : length found ≤ length old = omega arith in
       rw e (rw s.count (sym (simp (le-leb _ _ fits))), rw (take_all (length old) found fits) s.list)
 
-  -- the count and the list that a visit at `at` leaves
-  module _ {count : ℕ} {list : List ℕ} (counted : count ≡ n + length (place_at haystack pattern at)) (written : list ≡ sets places n (place_at haystack pattern at)) where
-    -- there was room, and the offsets up to the next are passed over
-    pub seen_more : (next : ℕ) → count ≤ length old → places_below haystack pattern next ≡ places_below haystack pattern (at + 1) →
-        Seen haystack pattern old next list count
-    unfolding places_below
-    seen_more next fits e =
-        record {
-          count = rw (e, add-one, length-append) (omega arith);
-          room = fits;
-          list =
-              written
-              ∙ rw (s.list, s.count, e, add-one)
-              (overlay_more (places_below haystack pattern at) (place_at haystack pattern at) old (omega arith));
-        }
+  -- `at` is no place,
+  pub seen_past : stands_at haystack pattern at ≡ false → Seen haystack pattern old (at + 1) places n
+  unfolding places_below
+  seen_past h =
+      let e = place_none haystack pattern at h in
+      record { count = rw (add-one, e, append-nil) s.count; room = s.room; list = rw (add-one, e, append-nil) s.list }
 
-    -- there was one place too many
-    pub seen_full : 0 < length pattern → at < length haystack → length old < count →
-        (Full (length list) ≡ filled_by (length (places_of haystack pattern)) (length old)) × (list ≡ laid (places_of haystack pattern) old)
-    seen_full some inside over =
-        let found = places_below haystack pattern at in
-        let here = place_at haystack pattern at in
-        let (more, e) = grown haystack pattern at (length haystack) inside in
-        let one = at_most_one haystack pattern at in
-        let size = seen_length in
-        let kept : length list ≡ length old = rw (written, length-sets) size in
-        let longer : length old < length (found ++ (here ++ more)) = simp length-append (omega arith) in
-        rw (all_places_lem haystack pattern some, e) (
-          simp (lt-leb _ _ longer, kept),
-          rw (take_at found (here ++ more) (length old) (omega arith)) (written ∙ sets_out places n here (omega arith) ∙ s.list),
-        )
+  -- or it is one that has room,
+  pub seen_put : stands_at haystack pattern at ≡ true → n < length places → Seen haystack pattern old (at + 1) (set places n at) (n + 1)
+  unfolding places_below
+  seen_put h fits =
+      let e = place_here haystack pattern at h in
+      let found = places_below haystack pattern at in
+      let size = seen_length in
+      let next : places_below haystack pattern (at + 1) ≡ found ++ at ∷ [] = rw (add-one, e) refl in
+      record {
+        count = rw (next, length-append) (omega (arith, s.count));
+        room = omega arith;
+        list = rw (next, s.list, s.count) (overlay_more found (at ∷ []) old (omega (arith, s.count)));
+      }
+
+  -- or one too many
+  pub seen_full : stands_at haystack pattern at ≡ true → 0 < length pattern → at < length haystack → n ≡ length places →
+      (Full n ≡ filled_by (length (places_of haystack pattern)) (length old)) × (places ≡ laid (places_of haystack pattern) old)
+  seen_full h some inside full =
+      let found = places_below haystack pattern at in
+      let (more, e) = grown haystack pattern at (length haystack) inside in
+      let here = place_here haystack pattern at h in
+      let size : n ≡ length old = full ∙ seen_length in
+      let longer : length old < length (found ++ (at ∷ [] ++ more)) = simp length-append (omega (arith, s.count)) in
+      rw (all_places_lem haystack pattern some, e, here) (
+        rw size (sym (simp (lt-leb _ _ longer))),
+        rw (take_at found (at ∷ [] ++ more) (length old) (omega (arith, s.count))) s.list,
+      )
 
 -- ---- the answer
 -- THE LAW: behind the check it is what the search came to
 pub searched : (haystack pattern old : List ℕ) {r : Filled} {list : List ℕ} → length haystack ≤ largest_region →
     (r ≡ filled_by (length (places_of haystack pattern)) (length old)) × (list ≡ laid (places_of haystack pattern) old) →
-    FillsList (search_filling haystack pattern old) (list_outcome r list)
-searched haystack pattern old fits (e, l) = list_filled _ _ (simp (le-ltb largest_region (length haystack) fits)) e l
+    FillsList (search_filling haystack pattern old) (list_outcome (Ok r) list)
+searched haystack pattern old fits (e, l) = list_filled _ _ (simp (le-ltb largest_region (length haystack) fits)) (ap Ok e) l

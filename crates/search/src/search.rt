@@ -1,14 +1,14 @@
 // All places of a pattern in a region, found by a window that goes on by the shift of its last byte (Boyer and Moore's search).
 ghost use Rattle.std.specs.Prelude.{◌≡◌, ◌+◌, ◌-◌, ◌≤◌, ◌<◌, length, get_or, set};
-ghost use Rattle.std.proofs.lemmas.List.Edits.{sets};
 ghost use Rattle.search.specs.Inner.{SameFrom, Tells, Entered, AtMost, Windows, Skips, Ends};
 ghost use Rattle.sheet.specs.Filled.{filled_by, laid, list_outcome, FillsList};
 ghost use Rattle.sheet.specs.Limits.{largest_region};
-ghost use Rattle.search.specs.Search.{stands_at, place_at, places_of, search_filling};
+ghost use Rattle.search.specs.Search.{stands_at, places_of, search_filling};
 
 use sheet::LARGEST_REGION;
 use sheet::filled::Filled;
 use sheet::refusal::Refusal;
+use std::mem::replace;
 
 // For each byte that a window may end with: how far on the pattern holds it there, too.
 fn shifts(pattern: &[u8]) -> [usize; 256]
@@ -17,11 +17,9 @@ fn shifts(pattern: &[u8]) -> [usize; 256]
 {
     let last = pattern.len() - 1;
     let mut table = [pattern.len(); 256];
-    let mut i = 0;
     // The last byte is left out, since its shift would be 0.
-    while i < last {
-        table[pattern[i] as usize] = last - i;
-        i = i + 1;
+    for (i, byte) in pattern[..last].iter().enumerate() {
+        table[*byte as usize] = last - i;
     }
     table
 }
@@ -33,10 +31,8 @@ fn all_same(haystack: &[u8], pattern: &[u8], at: usize, from: usize) -> bool
     ensures { Tells haystack.now pattern.now at from (from + 16) result }
 {
     let mut same = true;
-    let mut k = 0;
-    while k < 16 {
-        same = same & (haystack[at + (from + k)] == pattern[from + k]);
-        k = k + 1;
+    for k in from..from + 16 {
+        same &= haystack[at + k] == pattern[k];
     }
     same
 }
@@ -48,9 +44,7 @@ fn same_before(haystack: &[u8], pattern: &[u8], at: usize, before: usize) -> boo
     requires same_from { SameFrom haystack.now pattern.now at before }
     ensures { result ≡ stands_at haystack.now pattern.now at }
 {
-    let mut j = before;
-    while j > 0 {
-        j = j - 1;
+    for j in (0..before).rev() {
         if haystack[at + j] != pattern[j] {
             return false;
         }
@@ -64,40 +58,12 @@ fn stands(haystack: &[u8], pattern: &[u8], at: usize) -> bool
 {
     let mut j = pattern.len();
     while j >= 16 {
-        j = j - 16;
+        j -= 16;
         if !all_same(haystack, pattern, at, j) {
             return false;
         }
     }
     same_before(haystack, pattern, at, j)
-}
-
-// Writes the offset behind n places, if it is one; the answer is how many there are then.
-fn visit(haystack: &[u8], pattern: &[u8], at: usize, places: &mut [u64], n: usize) -> usize
-    requires pattern_in_bounds { at + length pattern.now ≤ length haystack.now }
-    requires n_in_bounds { n ≤ length places.old }
-    ensures value { result ≡ n + length (place_at haystack.now pattern.now at) }
-    ensures places_after { places.new ≡ sets places.old n (place_at haystack.now pattern.now at) }
-{
-    if !stands(haystack, pattern, at) {
-        return n;
-    }
-    // A place too many is only counted, which tells the caller.
-    if n >= places.len() {
-        return n + 1;
-    }
-    places[n] = at as u64;
-    n + 1
-}
-
-// Keeps a window that ends with this byte where it is; the answer is how far it went on.
-fn stop_at(table: &mut [usize; 256], byte: u8) -> usize
-    ensures value { result ≡ get_or table.old byte 0 }
-    ensures table_after { table.new ≡ set table.old byte 0 }
-{
-    let shift = table[byte as usize];
-    table[byte as usize] = 0;
-    shift
 }
 
 fn shifted(haystack: &[u8], table: &[usize; 256], i: usize) -> usize
@@ -154,33 +120,39 @@ fn slide(haystack: &[u8], pattern: &[u8], places: &mut [u64]) -> Filled
 {
     let last = pattern.len() - 1;
     let mut table = shifts(pattern);
-    let on = stop_at(&mut table, pattern[last]);
+    // A window that ends with the last byte stays where it is, to be looked at, and then goes on so far.
+    let on = replace(&mut table[pattern[last] as usize], 0);
     let mut n = 0;
     // Where the window ends.
     let mut i = next_end(haystack, pattern, &table, last);
     while i < haystack.len() {
-        n = visit(haystack, pattern, i - last, places, n);
-        if n > places.len() {
-            return Filled::Full(places.len());
+        let at = i - last;
+        if stands(haystack, pattern, at) {
+            if n == places.len() {
+                return Filled::Full(n);
+            }
+            places[n] = at as u64;
+            n += 1;
         }
         i = next_end(haystack, pattern, &table, i + on);
     }
     Filled::Done(n)
 }
 
-pub fn boyer_moore_search(haystack: &[u8], pattern: &[u8], places: &mut [u64]) -> Filled
+pub fn boyer_moore_search(
+    haystack: &[u8],
+    pattern: &[u8],
+    places: &mut [u64],
+) -> Result<Filled, Refusal>
     ensures { FillsList (search_filling haystack.now pattern.now places.old)
         (list_outcome result places.new) }
 {
     if haystack.len() > LARGEST_REGION {
-        return Filled::Refused(Refusal::TooLarge);
+        return Err(Refusal::TooLarge);
     }
-    if pattern.len() == 0 {
-        return Filled::Done(0);
+    // An empty pattern has no place; a pattern that is longer than the haystack would cost a table and find nothing.
+    if pattern.is_empty() || pattern.len() > haystack.len() {
+        return Ok(Filled::Done(0));
     }
-    // A long pattern would cost a table and find nothing.
-    if haystack.len() < pattern.len() {
-        return Filled::Done(0);
-    }
-    slide(haystack, pattern, places)
+    Ok(slide(haystack, pattern, places))
 }

@@ -10,25 +10,18 @@ pub fn miscounted(columns: usize, bytes: &[u8], o: usize, head: usize, from: usi
     requires { Headed bytes.now o head from }
     ensures { Miscounted (header_types bytes.now o head from) columns result }
 {
-    if columns < head {
-        if from - o == head - columns {
-            return false;
-        }
+    if columns < head && from - o == head - columns {
+        return false;
     }
     let stop = o + head;
     let mut at = from;
-    let mut k: usize = 0;
-    while k < columns {
+    for _ in 0..columns {
         if at >= stop {
             return true;
         }
         at = skip_varint(bytes, at);
-        k = k + 1;
     }
-    if at < stop {
-        return true;
-    }
-    false
+    at < stop
 }
 
 // A byte below 128 ends a type, so reading comes to where the last of these ends.
@@ -37,14 +30,12 @@ fn last_end(bytes: &[u8], o: usize, head: usize, from: usize) -> usize
     requires from_bound { from ≤ o + head }
     ensures { Ends bytes.now (header_types bytes.now o head from) result (o + head) }
 {
-    let mut at = o + head;
-    while from < at {
-        if bytes[at - 1] < 128 {
-            return at;
+    for last in (from..o + head).rev() {
+        if bytes[last] < 128 {
+            return last + 1;
         }
-        at = at - 1;
     }
-    at
+    from
 }
 
 pub fn types_end(bytes: &[u8], o: usize, head: usize, from: usize) -> usize

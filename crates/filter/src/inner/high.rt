@@ -3,38 +3,35 @@ ghost use Rattle.std.specs.Prelude.{◌≡◌, ◌+◌, ◌≤◌, ◌<◌, min,
 ghost use Rattle.filter.specs.Inner.{Begins, Stops, IsHigh, Holds};
 
 // From one place up to another; nothing where these are the same.
-#[derive(Clone, Copy)]
+#[derive(Clone, Copy, Debug)]
 pub struct High {
     pub from: usize,
     pub to: usize,
 }
 
+#[tactic(auto, using(crate::proofs::Runs::begins_behind, crate::proofs::Runs::one_lower))]
 fn run_start(bytes: &[u8], p: usize) -> usize
     requires { (p < length bytes.now) × (128 ≤ get_or bytes.now p 0) }
     ensures { Begins bytes.now p result }
 {
-    let mut at = p;
-    while at > 0 {
-        if bytes[at - 1] < 128 {
-            return at;
+    for before in (0..p).rev() {
+        if bytes[before] < 128 {
+            return before + 1;
         }
-        at = at - 1;
     }
-    at
+    0
 }
 
 fn run_end(bytes: &[u8], p: usize) -> usize
     requires { (p < length bytes.now) × (128 ≤ get_or bytes.now p 0) }
     ensures { Stops bytes.now p result }
 {
-    let mut at = p + 1;
-    while at < bytes.len() {
+    for at in p + 1..bytes.len() {
         if bytes[at] < 128 {
             return at;
         }
-        at = at + 1;
     }
-    at
+    bytes.len()
 }
 
 // The run that a byte is in; most often it is the one that was known.
@@ -43,10 +40,8 @@ pub fn run_around(bytes: &[u8], p: usize, known: High) -> High
     requires high { IsHigh bytes.now known }
     ensures { Holds bytes.now p result }
 {
-    if known.from <= p {
-        if p < known.to {
-            return known;
-        }
+    if known.from <= p && p < known.to {
+        return known;
     }
     High {
         from: run_start(bytes, p),
@@ -60,16 +55,10 @@ pub fn varint_end(len: usize, to: usize, at: usize) -> usize
     ensures { result ≡ min (min (at + 9) (to + 1)) len }
 {
     if to - at > 8 {
-        return at + 9;
+        at + 9
+    } else if to < len {
+        to + 1
+    } else {
+        len
     }
-    if to < len {
-        return to + 1;
-    }
-    len
-}
-
-pub fn lesser(x: usize, y: usize) -> usize
-    ensures { result ≡ min x y }
-{
-    if x < y { x } else { y }
 }

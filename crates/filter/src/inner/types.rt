@@ -12,24 +12,14 @@ pub fn too_long(columns: usize, head: usize) -> bool
     requires { (columns ≤ most_columns) × (1 ≤ head) }
     ensures { TooLong columns head result }
 {
-    if head - 1 > 9 * columns {
-        return true;
-    }
-    false
+    head - 1 > 9 * columns
 }
 
 fn all_low(bytes: &[u8], from: usize, to: usize) -> bool
-    requires { to ≤ length bytes.now }
+    requires { (from ≤ to) × (to ≤ length bytes.now) }
     ensures { AllLow bytes.now from to result }
 {
-    let mut at = from;
-    while at < to {
-        if bytes[at] > 127 {
-            return false;
-        }
-        at = at + 1;
-    }
-    true
+    bytes[from..to].iter().all(|byte| *byte < 128)
 }
 
 // Whether a header that is not too long may have just so many types: it has room for them, and where its first bytes are as many of one
@@ -42,12 +32,7 @@ pub fn may_have(columns: usize, bytes: &[u8], o: usize, head: usize) -> bool
         return false;
     }
     let all = o + 1 + columns;
-    if all_low(bytes, o + 1, all) {
-        if all < o + head {
-            return false;
-        }
-    }
-    true
+    !(all_low(bytes, o + 1, all) && all < o + head)
 }
 
 // The same of any header.
@@ -55,25 +40,22 @@ pub fn may_stand(columns: usize, bytes: &[u8], o: usize, head: usize) -> bool
     requires { (columns ≤ most_columns) × (2 ≤ head) × (o + head ≤ length bytes.now) }
     ensures { MayHave (header_types bytes.now o head (o + 1)) columns result }
 {
-    if too_long(columns, head) {
-        return false;
-    }
-    may_have(columns, bytes, o, head)
+    !too_long(columns, head) && may_have(columns, bytes, o, head)
 }
 
-// How far from o the types of a header there are read, if one of its last two bytes tells by being below 128; else 0.
-pub fn soon_ends(bytes: &[u8], o: usize, head: usize) -> usize
+// How far from o the types of a header there are read, if one of its last two bytes tells by being below 128.
+pub fn soon_ends(bytes: &[u8], o: usize, head: usize) -> Option<usize>
     requires { (2 ≤ head) × (o + head ≤ length bytes.now) × (get_or bytes.now o 0 < 128) }
     ensures { SoonEnds bytes.now o head result }
 {
     let stop = o + head;
     if bytes[stop - 1] < 128 {
-        return head;
+        return Some(head);
     }
     if bytes[stop - 2] < 128 {
-        return skip_varint(bytes, stop - 1) - o;
+        return Some(skip_varint(bytes, stop - 1) - o);
     }
-    0
+    None
 }
 
 // Where reading the types ends if the header's last byte is in a run: it comes to the run's start, and there a varint follows on another.

@@ -9,10 +9,10 @@ use Rattle.attempt.specs.Inner.{header_types, WholeIs}
 use Rattle.attempt.proofs.Bodies.{miss_count}
 use Rattle.attempt.proofs.Judging.{read_all, end_past, judge_cut, judge_never, judge_miss}
 use Rattle.attempt.proofs.inner.given_header.Goals as goal
-use Rattle.attempt.proofs.inner.given_header.Goals.{In-Whole}
+use Rattle.attempt.proofs.inner.given_header.Goals.{In-Some}
 
-pub overflow_sub-result : goal.overflow_sub-result
-overflow_sub-result c =
+pub overflow_sub-read : goal.overflow_sub-read
+overflow_sub-read c =
     rw c.types_end.ensures (omega (arith, (read_all c.args.bytes.now c.args.hints.now _ _ _ c.requires).0))
 
 pub returns-then-miscounted : goal.returns-then-miscounted
@@ -24,28 +24,20 @@ returns-in_default c =
     judge_cut _ _ _ _ _ c.requires _ (rw c.in_default.is at c.walk_types.ensures)
 
 -- what the walk found
-walked : (c : In-Whole) →
+walked : (c : In-Some) →
     WholeIs c.args.bytes.now c.args.hints.now (header_types c.args.bytes.now c.args.o c.args.head c.args.from) (c.args.own || types_padded c.args.head c.args.bytes.now c.args.from (c.args.o + c.args.head))
-    c.in-Whole.count c.in-Whole.matched c.in-Whole.total c.in-Whole.end c.in-Whole.padded
-walked c = rw c.in-Whole.is at c.walk_types.ensures
+    c.in-Some.walk.count c.in-Some.walk.matched c.in-Some.walk.total c.in-Some.walk.end c.in-Some.walk.padded
+walked c = rw c.in-Some.is at c.walk_types.ensures
 
 -- and what that says of its numbers
-bounds : (c : In-Whole) →
-    (c.args.o ≤ c.in-Whole.end) × (c.in-Whole.total ≤ 65537)
+bounds : (c : In-Some) →
+    (c.args.o ≤ c.in-Some.walk.end) × (c.in-Some.walk.total ≤ 65537)
 bounds c = end_past _ _ _ _ _ c.requires _ _ _ _ _ _ (walked c)
 
-pub overflow_sub-result-then-count-hints : goal.overflow_sub-result-then-count-hints
-overflow_sub-result-then-count-hints c = omega (arith, bounds (goal.at.overflow_sub-result-then-count-hints c).In-Whole)
+pub overflow_sub-result-then-walk-hints : goal.overflow_sub-result-then-walk-hints
+overflow_sub-result-then-walk-hints c = omega (arith, bounds (goal.at.overflow_sub-result-then-walk-hints c).In-Some)
 
-pub returns-then-count-hints : goal.returns-then-count-hints
-returns-then-count-hints c =
-    let w = walked (goal.at.returns-then-count-hints c).In-Whole in
-    judge_miss _ _ _ _ _ c.requires _ _ _ _ _ _ w (miss_count _ _ _ _ _ _ c.requires.inside (λ e. c.if-count-hints.true (sym w.counts ∙ e)))
-
-pub judge-requires : goal.judge-requires
-judge-requires c =
-    let w = walked (goal.at.judge-requires c).In-Whole in
-    record { headed = c.requires; whole_is = rw (c.if-count-hints.false, w.marks) at w }
-
-pub returns : goal.returns
-returns c = rw (walked (goal.at.returns c).In-Whole).marks c.judge.ensures
+pub returns-then-walk-hints : goal.returns-then-walk-hints
+returns-then-walk-hints c =
+    let w = walked (goal.at.returns-then-walk-hints c).In-Some in
+    judge_miss _ _ _ _ _ c.requires _ _ _ _ _ _ w (miss_count _ _ _ _ _ _ c.requires.inside (λ e. c.if-walk-hints.true (sym w.counts ∙ e)))

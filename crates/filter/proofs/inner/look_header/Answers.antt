@@ -5,14 +5,11 @@ use Rattle.filter.proofs.Headers.{too_far, one_soon, unfit}
 use Rattle.filter.proofs.inner.look_header.Goals as goal
 
 pub returns-then-o-head : goal.returns-then-o-head
-returns-then-o-head c = λ _. too_far _ _ _ _ c.requires.o_in_bounds.0 c.requires.o_in_bounds.1 c.requires.o_in_bounds.3 (omega (arith, c.if-o-head.true))
+returns-then-o-head c = too_far _ _ _ _ c.requires.o_in_bounds.0 c.requires.o_in_bounds.1 c.requires.o_in_bounds.3 (omega (arith, c.if-o-head.true))
 
 pub returns-then-too_long : goal.returns-then-too_long
 returns-then-too_long c =
     one_soon _ _ _ _ c.requires.o_in_bounds.0 c.requires.o_in_bounds.1 c.requires.o_in_bounds.3 c.requires.o_in_bounds.2 (omega (arith, c.if-o-head.false)) (unfit _ _ _ _ c.requires.o_in_bounds.2 c.if-o-head.false (λ lt le. let far = rw c.if-too_long.true at c.too_long.ensures in omega arith)) _ c.soon_ends.ensures
-
-pub returns-then-may_have : goal.returns-then-may_have
-returns-then-may_have c = λ z. absurd (omega arith)
 
 pub returns : goal.returns
 returns c =

@@ -1,11 +1,11 @@
--- `filter::inner::next_row` meets its contract: the offsets before `at` are passed over (`PassedOverIs`), and the step there is known.
+-- `filter::inner::next_row` meets its contract: the offsets before `at` are passed over (`PassedOverIs`), and what was met last is a run.
 -- Assumes nothing.
 use Prim.Native.Nat.{◌-◌}
-use Rattle.filter.specs.Inner.{PassedOverIs, StepSays}
+use Rattle.filter.specs.Inner.{PassedOverIs, IsHigh}
 use Rattle.filter.proofs.inner.next_row.Given as goal
 
-abbrev pub invariant-loop-step : goal.invariant-loop-step
-invariant-loop-step l = PassedOverIs l.bytes l.hints l.start l.last l.at l.read × StepSays l.bytes l.hints l.at l.last l.step
+abbrev pub invariant-loop-find : goal.invariant-loop-find
+invariant-loop-find l = PassedOverIs l.bytes l.hints l.start l.last l.at l.read × IsHigh l.bytes l.met
 
-abbrev pub decreases-loop-step : goal.decreases-loop-step
-decreases-loop-step l = l.last - l.at
+abbrev pub decreases-loop-find : goal.decreases-loop-find
+decreases-loop-find l = l.last - l.at

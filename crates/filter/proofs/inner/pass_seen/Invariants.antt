@@ -1,11 +1,7 @@
 -- `filter::inner::pass_seen` meets its contract: the offsets before o are passed over (`PassedOverIs`).
 -- Assumes nothing.
-use Prim.Native.Nat.{◌-◌}
 use Rattle.filter.specs.Inner.{PassedOverIs}
 use Rattle.filter.proofs.inner.pass_seen.Given as goal
 
 abbrev pub invariant-loop-o : goal.invariant-loop-o
 invariant-loop-o l = PassedOverIs l.bytes l.hints l.start l.last l.o l.read
-
-abbrev pub decreases-loop-o : goal.decreases-loop-o
-decreases-loop-o l = l.last - l.o

@@ -3,7 +3,7 @@
 use mathlib.Core.Path.{◌≡◌, sym, ◌∙◌}
 use mathlib.Core.Bool.{false}
 use native.Mathlib.Omega.{arith}
-use borrow.Author.Tests.{lt-ltb, le-ltb, eq-eqb, ne_eqb}
+use borrow.Author.Tests.{lt-ltb, le-ltb, eq-eqb}
 use Rattle.record.specs.Entry.{read_entry}
 use Rattle.groups.specs.Rows.{is_refused}
 use Rattle.groups.proofs.Laws.{refused_bad}
@@ -22,8 +22,4 @@ returns-then-e-ge-UNUSED c = simp (good (goal.at.returns-then-e-ge-UNUSED c).Els
 
 pub returns-then-n-i : goal.returns-then-n-i
 returns-then-n-i c =
-    simp (good (goal.at.returns-then-n-i c).Else-is_bad, lt-ltb _ _ c.if-e-ge-UNUSED.false, ne_eqb c.args.n c.args.i (λ z. omega arith))
-
-pub returns : goal.returns
-returns c =
-    simp (good (goal.at.returns c).Else-is_bad, lt-ltb _ _ c.if-e-ge-UNUSED.false, eq-eqb c.args.n c.args.i (omega arith))
+    simp (good (goal.at.returns-then-n-i c).Else-is_bad, lt-ltb _ _ c.if-e-ge-UNUSED.false, eq-eqb c.args.n c.args.i c.if-n-i.true)

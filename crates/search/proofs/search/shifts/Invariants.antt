@@ -1,11 +1,7 @@
 -- `search::search::shifts` meets its contract. The loop's invariant: the first i bytes are entered.
 -- Assumes nothing.
-use Prim.Native.Nat.{◌-◌, ◌≤◌}
 use Rattle.search.specs.Inner.{Entered}
 use Rattle.search.proofs.search.shifts.Given as goal
 
 abbrev pub invariant-loop-i : goal.invariant-loop-i
-invariant-loop-i l = (l.i ≤ l.last) × Entered l.pattern l.i l.table
-
-abbrev pub decreases-loop-i : goal.decreases-loop-i
-decreases-loop-i l = l.last - l.i
+invariant-loop-i l = Entered l.pattern l.i l.table

@@ -1,16 +1,13 @@
--- `filter::inner::types::all_low` meets its contract: the bytes before `at` are below 128.
+-- `filter::inner::types::all_low` meets its contract: the library tests each byte of the part.
 -- Assumes nothing.
-use mathlib.Core.Path.{◌≡◌}
-use native.Mathlib.Omega.{arith}
-use Rattle.record.proofs.Numbers.{by_order}
+use borrow.Author.Rules.{rules}
+use lib.Dec.{ltb}
+use Rattle.std.proofs.lemmas.Iterator.{YieldsList-from_slice}
+use Rattle.std.proofs.lemmas.Iterator.Search.{all_from_yields_List}
+use Rattle.filter.proofs.Headers.{low_between}
 use Rattle.filter.proofs.inner.types.all_low.Goals as goal
 
-pub loop-at-init : goal.loop-at-init
-loop-at-init c = λ q lo hi. absurd (omega arith)
-
-pub loop-at-preserved : goal.loop-at-preserved
-loop-at-preserved c =
-    λ q lo hi. by_order q c.loop-at.at (λ lt. c.loop-at.invariant q lo lt) (λ ge. let e : q ≡ c.loop-at.at = omega arith in rw e (omega (arith, c.if-bytes-at-gt127.false)))
-
 pub returns : goal.returns
-returns c = λ q lo hi. c.loop-at.invariant q lo (omega (arith, c.loop-at-test.false))
+returns c =
+    low_between _ _ _ _ c.requires.1
+    (all_from_yields_List (λ b. ltb b 128) _ _ _ c.all.ensures.ran (YieldsList-from_slice _ c.iter.ensures.rest) (λ x b q k. search rules))

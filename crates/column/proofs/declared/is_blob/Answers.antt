@@ -1,7 +1,0 @@
--- `column::declared::is_blob` meets its contract: each test is a keyword of the definition.
--- Assumes nothing.
-use Rattle.column.proofs.declared.is_blob.Goals as goal
-
-pub returns : goal.returns
-returns c =
-    rw (c.begins.ensures, c.is_word.ensures, c.is_word-2.ensures)

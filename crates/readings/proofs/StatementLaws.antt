@@ -1,41 +1,77 @@
 -- The hints that are written so far, and the answer from what the code found.
 -- Assumes nothing.
-use Prim.Native.Nat.{ℕ, ◌+◌, ◌-◌, ◌≤◌, ◌<◌}
+use Prim.Native.Nat.{ℕ, min, ◌+◌, ◌-◌, ◌≤◌, ◌<◌}
 use mathlib.Core.Path.{◌≡◌, refl, sym, ap, ◌∙◌}
-use mathlib.Core.Bool.{true, false, cond, not, and-eq-true_iff}
-use mathlib.Core.List.{List, [], ◌∷◌, ◌++◌, append-nil, append_assoc}
+use mathlib.Core.Bool.{true, false, cond, not, ◌||◌, and-eq-true_iff}
+use mathlib.Core.List.{List, [], ◌∷◌, ◌++◌, map, append-nil, append_assoc}
 use native.Mathlib.Omega.{arith}
 use borrow.Author.Tests.{lt-ltb, le-ltb, le-leb, lt-leb, leb-true, leb-false}
-use lib.Dec.{leb}
+use lib.Dec.{leb, eqb}
 use lib.ListN.{length, take, drop, length-append}
+use Rattle.std.proofs.lemmas.List.{take-take, take_min, length-take}
 use lib.Seq.{sets, set_out, take_all, take-nil, take-append_seam, take-append-le, length-take-le}
-use Rattle.readings.specs.Statement.{between, all_hints, hints_of, statement_checks, statement_filling}
-use Rattle.column.specs.Column.{piece_hints}
+use Rattle.readings.specs.Statement.{between, unlisted, all_hints, hints_of, statement_checks, statement_filling}
+use Rattle.std.specs.Prelude.{Option, Some, None, Result, Ok, Err}
+use Rattle.std.specs.List.{slice_split, onto_first, filter_map, cons_option}
+use Rattle.column.specs.Inner.{given_hints}
+use Rattle.column.specs.Column.{is_dropped, piece_hints}
 use Rattle.column.specs.declared.piece.Reading.{Reading}
 use Rattle.words.specs.Inner.{Kept, PieceEnds, pieces_from}
 use Rattle.words.specs.Runs.{is_not, has, behind_first, before_last}
-use Rattle.words.specs.Words.{opening, closing, trim, pieces}
+use Rattle.words.specs.Words.{comma, opening, closing, trim, into_first, pieces}
 use Rattle.words.proofs.Laws.{behind_has, kept_has, kept_before, pieces_none}
 use Rattle.sheet.specs.Filled.{laid, list_outcome, FillsList}
 use Rattle.sheet.specs.Limits.{most_columns, largest_statement, count_fits}
 use Rattle.sheet.specs.Refusal.{first_held}
 use Rattle.sheet.specs.declared.filled.Filled.{Filled}
-use Rattle.sheet.specs.declared.filled.Filled.TheVariants.{Done, Full, Refused}
-use Rattle.sheet.specs.declared.refusal.Checked.TheVariants.{Passed, Refused as Stopped}
+use Rattle.sheet.specs.declared.filled.Filled.TheVariants.{Done, Full}
+use Rattle.sheet.specs.declared.refusal.Refusal.{Refusal}
 use Rattle.sheet.specs.declared.refusal.Refusal.TheVariants.{ColumnCount, TooLarge, NoColumnList}
 use Rattle.record.proofs.Numbers.{by_test}
 use Rattle.sheet.proofs.Laws.{overlay_length, overlay_more}
 use Rattle.sheet.proofs.Filling.{list_refused, list_filled}
 
--- ---- the hints of the pieces from a place on
-pub hints_next : (reading : Reading) {s : List ℕ} {at e : ℕ} → PieceEnds s at e →
-    all_hints reading (pieces_from s at) ≡ piece_hints reading (trim (take (e - at) (drop at s))) ++ all_hints reading (pieces_from s (e + 1))
-unfolding all_hints
-hints_next reading p = rw p.next
+-- ---- the pieces that std's `split` gives, and the hints that it leaves of them
+onto_into : (b : ℕ) (ps : List (List ℕ)) → onto_first b ps ≡ into_first b ps
+onto_into b [] = refl
+onto_into b (p ∷ ps) = refl
 
-pub hints_none : (reading : Reading) (s : List ℕ) (at : ℕ) → length s < at → all_hints reading (pieces_from s at) ≡ []
-unfolding all_hints
-hints_none reading s at h = rw (pieces_none s at h)
+pieces_split : (s : List ℕ) → slice_split (λ b. eqb b comma) s ≡ pieces s
+unfolding pieces
+pieces_split [] = refl
+pieces_split (b ∷ s) = rw (pieces_split s, onto_into)
+
+-- the hint of a piece that gives one
+pub first_hint : List ℕ → Option ℕ
+first_hint [] = None
+first_hint (h ∷ hs) = Some h
+
+pub given_first : (r : Option ℕ) {hs : List ℕ} → given_hints r ≡ hs → r ≡ first_hint hs
+unfolding first_hint
+given_first None e = rw (← e)
+given_first (Some h) e = rw (← e)
+
+module _ (reading : Reading) where
+  abbrev pub piece_first : List ℕ → Option ℕ
+  piece_first p = first_hint (piece_hints reading (trim p))
+
+  one_piece : (p : List ℕ) (hs : List ℕ) → cons_option (piece_first p) hs ≡ piece_hints reading (trim p) ++ hs
+  unfolding first_hint piece_hints
+  one_piece p hs =
+      by_test (eqb (length (trim p)) 0 || is_dropped reading (trim p)) (λ t. rw t) (λ f. rw f)
+
+  filtered : (ps : List (List ℕ)) → filter_map piece_first ps ≡ all_hints reading ps
+  unfolding all_hints
+  filtered [] = refl
+  filtered (p ∷ ps) = one_piece p (filter_map piece_first ps) ∙ rw (filtered ps)
+
+  -- THE LAW: they are those of the definition
+  pub split_hints : (s : List ℕ) → filter_map piece_first (slice_split (λ b. eqb b comma) s) ≡ all_hints reading (pieces s)
+  split_hints s = rw (pieces_split s) (filtered (pieces s))
+
+pub map_same : (s : List ℕ) → map (λ x. x) s ≡ s
+map_same [] = refl
+map_same (b ∷ s) = ap (λ t. b ∷ t) (map_same s)
 
 -- ---- writing
 -- one hint more, or none, where there is room for it
@@ -55,78 +91,60 @@ laid_more (v ∷ []) first old one =
     (set_out (laid first old) (length first) v (omega (arith, overlay_length (take room first) old (omega arith)))))
 laid_more (v ∷ w ∷ vs) first old one = absurd (omega arith)
 
--- n of all the hints lie over what the list held, as many as fit, and the rest is to come
-pub record Written (all rest old hints : List ℕ) (n : ℕ) : Type 0 where
-  pub first : List ℕ
-  pub whole : all ≡ first ++ rest
-  pub count : length first ≡ n
-  pub lies : hints ≡ laid first old
-
-pub written_none : (all old : List ℕ) → Written all all old old 0
-written_none all old = record { first = []; whole = refl; count = refl; lies = rw take-nil }
-
-module _ {all rest old hints : List ℕ} {n : ℕ} where
-  pub written_more : (vs : List ℕ) {new : List ℕ} {m : ℕ} → length vs ≤ 1 → m ≡ n + length vs → new ≡ sets hints n vs →
-      Written all (vs ++ rest) old hints n → Written all rest old new m
-  written_more vs h e put w =
-      let l = w.count in
-      record {
-        first = w.first ++ vs;
-        whole = w.whole ∙ sym (append_assoc w.first vs rest);
-        count = length-append w.first vs ∙ rw (l, e);
-        lies = rw (put, w.lies, ← l) (laid_more vs w.first old h);
-      }
-
-  -- THE LAW: where the list is full, the first hints lie in it,
-  pub written_full : length old ≤ n → Written all rest old hints n → hints ≡ laid all old
-  written_full h w =
-      let l = w.count in
-      rw (w.whole, take-append-le (length old) w.first rest (omega arith)) w.lies
-
-  -- and where no more are to come, all of them do
-  pub written_all : rest ≡ [] → Written all rest old hints n → (n ≡ length all) × (hints ≡ laid all old)
-  written_all r w =
-      let whole : all ≡ w.first = w.whole ∙ rw r (append-nil w.first) in
-      rw whole (sym w.count, w.lies)
+-- so the hints that came lie over what the list held, and one more does, if there is room for it
+pub one_more : (v : ℕ) (first old : List ℕ) {hints new : List ℕ} {n : ℕ} → hints ≡ laid first old → n ≡ length first → new ≡ sets hints n (v ∷ []) →
+    new ≡ laid (first ++ (v ∷ [])) old
+one_more v first old lies count put = rw (put, lies, count) (laid_more (v ∷ []) first old (omega arith))
 
 -- where there is room for all, the first cells hold them
 pub taken : (all old : List ℕ) {found : List ℕ} {n : ℕ} → found ≡ laid all old → n ≡ length all → n ≤ length old → take n found ≡ all
 taken all old put e h = rw (put, e, take_all (length old) all (omega arith)) (take-append_seam all (drop (length all) old))
+
+-- and as many as there are cells for are copied
+pub copied : (all old found : List ℕ) {count n : ℕ} → take count found ≡ all → count ≡ length all → n ≡ min count (length old) →
+    take n found ++ drop n old ≡ laid all old
+copied all old found {count} {n} first e h =
+    let fewest : n ≡ min (length old) (length all) = omega arith in
+    let part : take n found ≡ take (length old) all = sym (take-take n count found (omega arith)) ∙ rw (first, fewest) (take_min (length old) all) in
+    let long : length (take (length old) all) ≡ n = length-take (length old) all ∙ sym fewest in
+    rw (part, long)
 
 -- ---- the answer
 pub fits_most : (n : ℕ) → count_fits n ≡ true → n ≤ most_columns
 unfolding count_fits
 fits_most n h = leb-true n most_columns ((and-eq-true_iff (leb 1 n) (leb n most_columns)).0 h).1
 
-abbrev Answers : Reading → List ℕ → List ℕ → Filled → List ℕ → Type 0
+abbrev Answers : Reading → List ℕ → List ℕ → Result Filled Refusal → List ℕ → Type 0
 Answers reading s old r hints = FillsList (statement_filling reading s old) (list_outcome r hints)
 
 -- THE LAW: the first check that holds refuses, and leaves the list as it was
-pub too_large_lem : (reading : Reading) (s old : List ℕ) → largest_statement < length s → Answers reading s old (Refused TooLarge) old
+pub too_large_lem : (reading : Reading) (s old : List ℕ) → largest_statement < length s → Answers reading s old (Err TooLarge) old
 unfolding statement_checks
 too_large_lem reading s old h = list_refused _ _ (simp (lt-ltb largest_statement (length s) h))
 
-pub no_list : (reading : Reading) (s old rest : List ℕ) (e : ℕ) → length s ≤ largest_statement → rest ≡ behind_first opening s → Kept (is_not closing) rest e → e ≡ 0 →
-    Answers reading s old (Refused NoColumnList) old
+pub no_list : (reading : Reading) (s old : List ℕ) → length s ≤ largest_statement → unlisted s ≡ true → Answers reading s old (Err NoColumnList) old
 unfolding statement_checks
-no_list reading s old rest e small behind k z =
+no_list reading s old small none = list_refused _ _ (simp (le-ltb largest_statement (length s) small, none))
+
+-- a bracket is missing where none closes behind the first that opens,
+pub no_brackets : (s rest : List ℕ) (e : ℕ) → rest ≡ behind_first opening s → Kept (is_not closing) rest e → e ≡ 0 → unlisted s ≡ true
+no_brackets s rest e behind k z =
     let none : has closing (behind_first opening s) ≡ false = rw (← behind) (kept_has closing rest e k ∙ rw z) in
-    list_refused _ _ (simp (le-ltb largest_statement (length s) small, behind_has opening closing s ∙ ap not none))
+    behind_has opening closing s ∙ ap not none
+
+-- and else the columns stand before the last that closes
+pub brackets : (s rest : List ℕ) (e : ℕ) → rest ≡ behind_first opening s → Kept (is_not closing) rest e → 0 < e →
+    (unlisted s ≡ false) × (take (e - 1) rest ≡ between s)
+unfolding between
+brackets s rest e behind k h =
+    let some : has closing (behind_first opening s) ≡ true = rw (← behind) (kept_has closing rest e k ∙ lt-ltb 0 e h) in
+    (behind_has opening closing s ∙ ap not some, kept_before closing rest e k h ∙ ap (before_last closing) behind)
 
 -- a statement of few enough bytes, and the columns that it lists
 pub record Lists (s columns : List ℕ) : Type 0 where
   pub small : length s ≤ largest_statement
-  pub listed : has closing (behind_first opening s) ≡ true
+  pub listed : unlisted s ≡ false
   pub are : columns ≡ between s
-
-pub lists_at : (s rest : List ℕ) (e : ℕ) → length s ≤ largest_statement → rest ≡ behind_first opening s → Kept (is_not closing) rest e → 0 < e →
-    Lists s (take (e - 1) rest)
-unfolding between
-lists_at s rest e small behind k h = record {
-  small = small;
-  listed = rw (← behind) (kept_has closing rest e k ∙ lt-ltb 0 e h);
-  are = kept_before closing rest e k h ∙ ap (before_last closing) behind;
-}
 
 -- and n, which counts their hints
 pub record Counts (reading : Reading) (s columns : List ℕ) (n : ℕ) : Type 0 where
@@ -138,25 +156,25 @@ module _ {reading : Reading} {s columns : List ℕ} {n : ℕ} (k : Counts readin
   unfolding hints_of
   counted = rw (← k.lists.are) (sym k.number)
 
-  last_check : first_held (statement_checks reading s) ≡ cond (not (count_fits n)) (Stopped ColumnCount) Passed
+  last_check : first_held (statement_checks reading s) ≡ cond (not (count_fits n)) (Err ColumnCount) (Ok tt)
   unfolding statement_checks
   last_check =
-      simp (le-ltb largest_statement (length s) k.lists.small, behind_has opening closing s ∙ ap not k.lists.listed, counted)
+      simp (le-ltb largest_statement (length s) k.lists.small, k.lists.listed, counted)
 
-  pub bad_count : (old : List ℕ) → count_fits n ≡ false → Answers reading s old (Refused ColumnCount) old
+  pub bad_count : (old : List ℕ) → count_fits n ≡ false → Answers reading s old (Err ColumnCount) old
   bad_count old h = list_refused _ _ (last_check ∙ rw h)
 
   -- THE LAW: past the checks the first hints are written, and the room decides
   module _ (old hints : List ℕ) (fits : count_fits n ≡ true) (put : hints ≡ laid (all_hints reading (pieces columns)) old) where
-    passed : first_held (statement_checks reading s) ≡ Passed
+    passed : first_held (statement_checks reading s) ≡ Ok tt
     passed = last_check ∙ rw fits
 
     written : hints ≡ laid (hints_of reading s) old
     unfolding hints_of
     written = rw (← k.lists.are) put
 
-    pub full : length old < n → Answers reading s old (Full (length old)) hints
-    full h = list_filled _ _ passed (simp (counted, lt-leb n (length old) h)) written
+    pub full : {m : ℕ} → m ≡ length old → m < n → Answers reading s old (Ok (Full m)) hints
+    full {m} e h = rw e (list_filled _ _ passed (simp (counted, lt-leb n (length old) (rw e at h))) written)
 
-    pub done : n ≤ length old → Answers reading s old (Done n) hints
+    pub done : n ≤ length old → Answers reading s old (Ok (Done n)) hints
     done h = list_filled _ _ passed (simp (counted, le-leb n (length old) h)) written

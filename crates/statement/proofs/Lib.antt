@@ -1,3 +1,3 @@
+pub mod AsRust
 mod Cases
-mod StatementLaws
 pub mod Unique

@@ -1,3 +1,4 @@
+// Statements read as the Rust reads them.
 #![tactic(auto)]
 
 pub mod statement;

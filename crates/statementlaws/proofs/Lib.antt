@@ -1,3 +1,2 @@
-pub mod AsRust
 mod Cases
 pub mod Readings

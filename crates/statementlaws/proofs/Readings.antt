@@ -13,6 +13,8 @@ use Rattle.column.specs.Column.{is_row_id, begins_as_constraint, is_dropped, is_
 use Rattle.column.specs.declared.piece.Reading.TheVariants.{AsRust, ByFormat}
 use Rattle.column.proofs.Laws.{no_constraint}
 use Rattle.readings.specs.Statement.{between, all_hints, hints_of, statement_checks, statement_filling}
+use Rattle.statement.specs.Statement as statement
+use Rattle.statement.proofs.AsRust.{rust_filling}
 use Rattle.statementlaws.specs.Plain.{is_plain, are_plain, plain_statement, LeftOf, none, kept, out}
 
 -- ---- pieces
@@ -63,6 +65,10 @@ same_hints s h = same_all (pieces (between s)) h
 pub same_answer : (s old : List ℕ) → plain_statement s ≡ true → statement_filling AsRust s old ≡ statement_filling ByFormat s old
 unfolding statement_checks
 same_answer s old h = rw (same_hints s h)
+
+-- so they answer alike, and leave the same in their lists: the Rust's call is asked for its own filling
+pub same_call : (s old : List ℕ) → plain_statement s ≡ true → statement.statement_filling s old ≡ statement_filling ByFormat s old
+same_call s old h = sym (rust_filling s old) ∙ same_answer s old h
 
 -- ---- the format's reading only adds
 all_kept : (first : List ℕ) {hs all : List ℕ} → LeftOf hs all → LeftOf (first ++ hs) (first ++ all)

@@ -30,7 +30,10 @@ pub rust_hints : (s : List ℕ) → readings.hints_of AsRust s ≡ statement.hin
 unfolding readings.hints_of statement.hints_of
 rust_hints s = rw (rust_between s) (rust_all (pieces (statement.between s)))
 
+pub rust_checks : (s : List ℕ) → readings.statement_checks AsRust s ≡ statement.statement_checks s
+unfolding readings.statement_checks statement.statement_checks
+rust_checks s = rw (rust_hints s)
+
 -- THE LAW: the two are asked for the same
 pub rust_filling : (s old : List ℕ) → readings.statement_filling AsRust s old ≡ statement.statement_filling s old
-unfolding readings.statement_checks statement.statement_checks
-rust_filling s old = rw (rust_hints s)
+rust_filling s old = rw (rust_checks s, rust_hints s)

@@ -1,7 +1,0 @@
--- `statement::statement::is_real` meets its contract: each test is a keyword of the definition.
--- Assumes nothing.
-use Rattle.statement.proofs.statement.is_real.Goals as goal
-
-pub returns : goal.returns
-returns c =
-    rw (c.begins.ensures, c.begins-2.ensures, c.begins-3.ensures, c.begins-4.ensures, c.begins-5.ensures)

@@ -14,18 +14,18 @@ use Rattle.attempt.specs.Inner.{find_types, found_at, HitIs}
 use Rattle.attempt.specs.declared.inner.Find.{Find}
 use Rattle.hit.specs.Hit.{row_at, hit_of}
 use Rattle.hit.specs.Inner.{Laid, hit_there, Fitting, Space, Ready}
-use Rattle.hit.specs.declared.inner.Lent.{Lent}
 use Rattle.hit.specs.declared.inner.Origin.{Origin}
 use Rattle.hit.specs.declared.inner.Spot.{Spot}
 use Rattle.sheet.proofs.Laws.{sets_append, columns_words-length, room_rows, room_cols}
 use Rattle.sheet.specs.Columns.{unused_words, room_of}
 use Rattle.sheet.specs.Limits.{words_per_row, words_per_entry}
-use Rattle.sheet.specs.Row.{row_words}
 use Rattle.sheet.specs.Sheet.{rows_words, columns_words}
 use Rattle.sheet.specs.declared.row.Row.{Row}
-use Rattle.sheet.proofs.Carving.{carves_one, told_on}
+use Rattle.sheet.proofs.Carving.{told_on}
+use Rattle.sheet.proofs.Sheets.{adds_one}
 use Rattle.sheet.specs.Hits.{Hit, rows_of, group_words, groups_words}
-use Rattle.sheet.specs.Inner.{on, Told, Carves}
+use Rattle.sheet.specs.Inner.{on, Told, PutsOne, Adds}
+use Rattle.sheet.specs.declared.inner.Sheet.{Sheet}
 
 -- a part that goes on to the end
 pub part_is : (l : List ℕ) (v : ℕ) → take (length l - v) (drop v l) ≡ drop v l
@@ -50,53 +50,53 @@ pub find_laid : (s hints : List ℕ) (o : ℕ) (t : Tried) (p : List ℕ) (x : F
 find_laid s hints o t p x is = record { headed = is.headed; bodies = omega (arith, is.bodies, is.inside); counts = is.columns }
 
 -- and written it is the row that was found, said of the lent slice: its bytes begin at `part` of a page
-module _ (s : List ℕ) (o : ℕ) (x : Find) (part : ℕ) (origin : Origin) (columns : ℕ) (spot : Spot) (lent : Lent) (n : ℕ) (rows cols rows' cols' : List ℕ) where
+module _ (d : List ℕ) (o : ℕ) (x : Find) (part : ℕ) (origin : Origin) (columns : ℕ) (spot : Spot) (s s' : Sheet) where
   abbrev hit : Hit
-  hit = hit_there s o x (spot.start + part) (row_at spot (part + o) origin (found_at s o x))
+  hit = hit_there d o x (spot.start + part) (row_at spot (part + o) origin (found_at d o x))
 
-  pub found_written : Laid s o x columns → columns ≤ lent.width → n < lent.room → rows' ≡ sets rows (n * words_per_row) (row_words hit.row)
-      → cols' ≡ sets cols (n * (words_per_entry * lent.width)) (group_words lent.width hit)
-      → Carves lent.width lent.room n (hit_of spot (part + o) part origin (found_at s o x) ∷ []) false rows cols (on (n + 1)) rows' cols'
-  found_written laid narrow below e f =
-      let few = there_length s o x (spot.start + part) hit.row columns laid in
-      rw (moved_at (spot.start + part) (o + x.head) (kinds (find_types s o x)))
-      (carves_one lent.width lent.room n rows cols hit rows' cols' below (omega arith) e f)
+  pub found_written : Laid d o x columns → columns ≤ s.width → s.n < s.room → PutsOne hit s s'
+      → Adds (hit_of spot (part + o) part origin (found_at d o x) ∷ []) false s (on s'.n) s'
+  found_written laid narrow below puts =
+      let few = there_length d o x (spot.start + part) hit.row columns laid in
+      rw (moved_at (spot.start + part) (o + x.head) (kinds (find_types d o x))) (adds_one s s' hit below (omega arith) puts)
 
 -- ---- room
-pub space_fits : (columns : ℕ) (lent : Lent) (n rows cols : ℕ) → Space columns lent n rows cols → n < lent.room → Fitting columns lent.width n rows cols
-space_fits columns lent n rows cols s h =
-    let below : n < room_of rows cols lent.width = omega (arith, s.room_most) in
+pub space_fits : (columns : ℕ) (s : Sheet) → Space columns s → s.n < s.room → Fitting columns s
+space_fits columns s x h =
+    let rows = length s.rows.now in
+    let cols = length s.cols.now in
+    let below : s.n < room_of rows cols s.width = omega (arith, x.room_most) in
     record {
-      narrow = s.narrow;
-      row = room_rows rows cols lent.width n below;
-      group = room_cols rows cols lent.width n below;
+      narrow = x.narrow;
+      row = room_rows rows cols s.width s.n below;
+      group = room_cols rows cols s.width s.n below;
     }
 
--- THE LAW: rows that are written keep the lists as long as they were,
-module _ (width room n : ℕ) (hs : List Hit) (full : Bool) (rows cols : List ℕ) (r : Told) (rows' cols' : List ℕ) (x : Carves width room n hs full rows cols r rows' cols') where
-  pub carves_long : length rows' ≡ length rows
-  carves_long = ap (λ (l : List ℕ). length l) x.puts.rows_are ∙ length-sets rows (n * words_per_row) (rows_words (rows_of (take (room - n) hs)))
+-- THE LAW: rows that are added keep the lists as long as they were,
+module _ (hs : List Hit) (stopped : Bool) (s : Sheet) (r : Told) (s' : Sheet) (x : Adds hs stopped s r s') where
+  pub adds_long : length s'.rows.now ≡ length s.rows.now
+  adds_long =
+      ap (λ (l : List ℕ). length l) x.carves.puts.rows_are ∙ length-sets s.rows.now (s.n * words_per_row) (rows_words (rows_of (take (s.room - s.n) hs)))
 
-  pub carves_wide : length cols' ≡ length cols
-  carves_wide = ap (λ (l : List ℕ). length l) x.puts.cols_are ∙ length-sets cols (n * (words_per_entry * width)) (groups_words width (take (room - n) hs))
+  pub adds_wide : length s'.cols.now ≡ length s.cols.now
+  adds_wide =
+      ap (λ (l : List ℕ). length l) x.carves.puts.cols_are
+      ∙ length-sets s.cols.now (s.n * (words_per_entry * s.width)) (groups_words s.width (take (s.room - s.n) hs))
 
 -- and where no row is left over there is space behind them
-module _ (columns : ℕ) (lent : Lent) (n : ℕ) (hs : List Hit) (rows cols : List ℕ) (k : ℕ) (rows' cols' : List ℕ)
-    (x : Carves lent.width lent.room n hs false rows cols (on k) rows' cols') where
-  pub space_next : Space columns lent n (length rows) (length cols) → Space columns lent k (length rows') (length cols')
-  space_next s =
-      let t = told_on lent.room n (length hs) k false x.answer in
-      record {
-        narrow = s.narrow;
-        room_most = rw (carves_long lent.width lent.room n hs false rows cols (on k) rows' cols' x, carves_wide lent.width lent.room n hs false rows cols (on k) rows' cols' x) s.room_most;
-        fits = omega (arith, t.0, t.1);
-      }
+pub space_then : (columns : ℕ) (hs : List Hit) (s s' : Sheet) → Space columns s → Adds hs false s (on s'.n) s' → Space columns s'
+space_then columns hs s s' a x =
+    let t = told_on s.room s.n (length hs) s'.n false x.carves.answer in
+    record {
+      narrow = rw x.width a.narrow;
+      room_most = rw (adds_long hs false s (on s'.n) s' x, adds_wide hs false s (on s'.n) s' x, x.width, x.room) a.room_most;
+      fits = omega (arith, t.0, t.1, x.room);
+    }
 
-  pub ready_next : (len : ℕ) (spot : Spot) → Ready len columns spot lent n (length rows) (length cols) → Ready len columns spot lent k (length rows') (length cols')
-  ready_next len spot r = record { inside = r.inside; near = r.near; some = r.some; few = r.few; space = space_next r.space }
+pub ready_then : (len columns : ℕ) (spot : Spot) (hs : List Hit) (s s' : Sheet) → Ready len columns spot s → Adds hs false s (on s'.n) s' → Ready len columns spot s'
+ready_then len columns spot hs s s' a x =
+    record { inside = a.inside; near = a.near; some = a.some; few = a.few; space = space_then columns hs s s' a.space x }
 
 -- a part of a page is ready where the page is
-pub ready_part : (len len' columns : ℕ) (spot : Spot) (lent : Lent) (n rows cols : ℕ) → len' ≤ len → Ready len columns spot lent n rows cols
-    → Ready len' columns spot lent n rows cols
-ready_part len len' columns spot lent n rows cols h r =
-    record { inside = omega (arith, r.inside); near = r.near; some = r.some; few = r.few; space = r.space }
+pub ready_part : (len len' columns : ℕ) (spot : Spot) (s : Sheet) → len' ≤ len → Ready len columns spot s → Ready len' columns spot s
+ready_part len len' columns spot s h a = record { inside = omega (arith, a.inside); near = a.near; some = a.some; few = a.few; space = a.space }

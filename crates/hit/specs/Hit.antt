@@ -8,7 +8,7 @@ use Rattle.hit.specs.declared.inner.Spot.{Spot}
 use Rattle.sheet.specs.Confidence.{percent_of}
 use Rattle.sheet.specs.declared.row.Mode.TheVariants.{Plain}
 use Rattle.sheet.specs.declared.row.Row.{Row}
-use Rattle.sheet.specs.declared.row.RowId.{RowId}
+use Rattle.sheet.specs.Row.{RowId}
 use Rattle.sheet.specs.declared.row.Source.TheVariants.{CarvedIntraPage}
 use Rattle.sheet.specs.Hits.{Hit}
 

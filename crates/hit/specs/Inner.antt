@@ -4,10 +4,10 @@ use Rattle.std.specs.Prelude.{ℕ, ◌+◌, ◌*◌, ◌≤◌, ◌≡◌, List,
 use Rattle.attempt.specs.Attempt.{kinds}
 use Rattle.attempt.specs.Inner.{sizes, columns_at, find_types, Headed}
 use Rattle.attempt.specs.declared.inner.Find.{Find}
-use Rattle.hit.specs.declared.inner.Lent.{Lent}
 use Rattle.hit.specs.declared.inner.Spot.{Spot}
 use Rattle.sheet.specs.Columns.{room_of}
 use Rattle.sheet.specs.Limits.{words_per_row, words_per_entry, most_columns, largest_region, largest_base}
+use Rattle.sheet.specs.declared.inner.Sheet.{Sheet}
 use Rattle.sheet.specs.declared.row.Row.{Row}
 use Rattle.sheet.specs.Hits.{Hit}
 
@@ -21,22 +21,22 @@ pub record Laid (s : List ℕ) (o : ℕ) (x : Find) (columns : ℕ) : Type 0 whe
 abbrev pub hit_there : List ℕ → ℕ → Find → ℕ → Row → Hit
 hit_there s o x by row = record { row = row; columns = columns_at (by + (o + x.head)) (kinds (find_types s o x)) }
 
--- the row n and its group have their words in lists of so many
-pub record Fitting (columns width n rows cols : ℕ) : Type 0 where
-  pub narrow : columns ≤ width
-  pub row : n * words_per_row + words_per_row ≤ rows
-  pub group : n * (words_per_entry * width) + words_per_entry * width ≤ cols
+-- the next row and its group have their words in the lists
+pub record Fitting (columns : ℕ) (s : Sheet) : Type 0 where
+  pub narrow : columns ≤ s.width
+  pub row : s.n * words_per_row + words_per_row ≤ length s.rows.now
+  pub group : s.n * (words_per_entry * s.width) + words_per_entry * s.width ≤ length s.cols.now
 
--- lists of so many words, in which n rows stand; there may be less room than they have, if other lists are filled beside them
-pub record Space (columns : ℕ) (lent : Lent) (n rows cols : ℕ) : Type 0 where
-  pub narrow : columns ≤ lent.width
-  pub room_most : lent.room ≤ room_of rows cols lent.width
-  pub fits : n ≤ lent.room
+-- a sheet for rows of so many columns; there may be less room than its lists have, if other lists are filled beside them
+pub record Space (columns : ℕ) (s : Sheet) : Type 0 where
+  pub narrow : columns ≤ s.width
+  pub room_most : s.room ≤ room_of (length s.rows.now) (length s.cols.now) s.width
+  pub fits : s.n ≤ s.room
 
--- a page of so many bytes is carved into such lists
-pub record Ready (len columns : ℕ) (spot : Spot) (lent : Lent) (n rows cols : ℕ) : Type 0 where
+-- a page of so many bytes is carved into it
+pub record Ready (len columns : ℕ) (spot : Spot) (s : Sheet) : Type 0 where
   pub inside : spot.start + len ≤ largest_region
   pub near : spot.base ≤ largest_base
   pub some : 1 ≤ columns
   pub few : columns ≤ most_columns
-  pub space : Space columns lent n rows cols
+  pub space : Space columns s

@@ -1,5 +1,7 @@
 -- Laws of counting: the commonest type is one alone, seeking it through the list finds it, and the order of the list does not matter.
 -- Assumes nothing.
+use Rattle.std.proofs.lemmas.List.Recursion.{is_sum_by}
+use Rattle.std.specs.Prelude.{count_by}
 use Prim.Native.Nat.{ℕ, ◌+◌, ◌≤◌, ◌<◌}
 use mathlib.Core.Path.{◌≡◌, refl, sym, ◌∙◌}
 use mathlib.Core.Bool.{cond}
@@ -15,6 +17,11 @@ use Rattle.record.proofs.Numbers.{by_order, by_test}
 use Rattle.learn.specs.Inner.{Counts}
 use Rattle.learn.specs.Types.{count_in, IsCommonest, better, best_of, commonest_of}
 use Rattle.learn.specs.declared.learn.Leader.{Leader}
+
+-- as the library counts
+pub count_is : (t : ℕ) (ts : List ℕ) → count_by (λ u. eqb t u) ts ≡ count_in t ts
+unfolding count_in
+count_is t ts = sym (is_sum_by (λ us. count_in t us) (λ u. cond (eqb t u) 1 0) refl (λ _ _. refl) ts)
 
 -- ---- how often a type occurs
 pub count_append : (t : ℕ) (xs ys : List ℕ) → count_in t (xs ++ ys) ≡ count_in t xs + count_in t ys

@@ -1,5 +1,6 @@
 -- Laws of the call: the hints as they are written, and the answer from what the code found.
 -- Assumes nothing.
+use Rattle.std.specs.Prelude.{Err, Ok, Some, None, Option, Result, ok_or}
 use Prim.Native.Nat.{ℕ, zero, suc, ◌+◌, ◌≤◌, ◌<◌, min}
 use mathlib.Core.Path.{◌≡◌, refl, sym, ◌∙◌}
 use mathlib.Core.Bool.{Bool, true, false, cond, or-true}
@@ -13,7 +14,6 @@ use lib.ListN.{length, take, set, length-append}
 use lib.Seq.{take_all, take-append-le}
 use Rattle.groups.specs.Judging.{judged_rows}
 use Rattle.groups.specs.Rows.{row_count, rows_in, rows_of, longest, bad_rows}
-use Rattle.groups.specs.declared.inner.Judged.TheVariants.{Columns, Bad}
 use Rattle.groups.proofs.Laws.{rows_of_lem, longest_most, rows_good, rows_bad}
 use Rattle.record.proofs.Numbers.{by_order}
 use Rattle.record.specs.declared.entry.Entry.{Entry}
@@ -22,8 +22,7 @@ use Rattle.sheet.specs.Limits.{largest_region, most_rows, count_fits}
 use Rattle.sheet.specs.Refusal.{first_held}
 use Rattle.sheet.specs.Sheet.{overlay}
 use Rattle.sheet.specs.declared.filled.Filled.{Filled}
-use Rattle.sheet.specs.declared.filled.Filled.TheVariants.{Refused}
-use Rattle.sheet.specs.declared.refusal.Checked.TheVariants.{Passed, Refused as Stopped}
+use Rattle.sheet.specs.declared.refusal.Refusal.{Refusal}
 use Rattle.sheet.specs.declared.refusal.Refusal.TheVariants.{ColumnCount, Malformed, TooLarge}
 use Rattle.sheet.proofs.Laws.{overlay_length, overlay_more}
 use Rattle.sheet.proofs.Filling.{list_refused, list_filled}
@@ -78,8 +77,17 @@ module _ {s : List ℕ} {rows : List (List Entry)} {columns : ℕ} {old : List �
   pub put_end : columns ≤ c → types ≡ overlay (hints_below s columns rows) old
   put_end h = let e : c ≡ columns = omega (arith, p.inside) in rw e at p.list
 
+-- ---- what judging them came to, where a bad one is refused
+pub was_good : (o : Option ℕ) (e : Refusal) (n : ℕ) → ok_or o e ≡ Ok n → o ≡ Some n
+was_good (Some m) e n h = cc
+was_good None e n h = cc
+
+pub was_bad : (o : Option ℕ) (e r : Refusal) → ok_or o e ≡ Err r → (o ≡ None) × (r ≡ e)
+was_bad (Some m) e r h = cc
+was_bad None e r h = (refl, cc)
+
 -- ---- rows that were judged to be good
-module _ (s : List ℕ) (width : ℕ) (words : List ℕ) {columns : ℕ} (good : Columns columns ≡ judged_rows s (rows_in (row_count width words) width words)) where
+module _ (s : List ℕ) (width : ℕ) (words : List ℕ) {columns : ℕ} (good : Some columns ≡ judged_rows s (rows_in (row_count width words) width words)) where
   judged : (bad_rows s (rows_of width words) ≡ false) × (columns ≡ longest (rows_of width words))
   judged = rw (rows_of_lem width words) (rows_good s (rows_in (row_count width words) width words) good)
 
@@ -89,42 +97,42 @@ module _ (s : List ℕ) (width : ℕ) (words : List ℕ) {columns : ℕ} (good :
 
 -- ---- the answer
 module _ (s : List ℕ) (width : ℕ) (words old : List ℕ) where
-  abbrev Answers : Filled → List ℕ → Type 0
+  abbrev Answers : Result Filled Refusal → List ℕ → Type 0
   Answers r list = FillsList (learn_filling s width words old) (list_outcome r list)
 
   -- THE LAW: the first check that holds refuses, and leaves the list as it was
-  pub bad_width : count_fits width ≡ false → Answers (Refused ColumnCount) old
+  pub bad_width : count_fits width ≡ false → Answers (Err ColumnCount) old
   unfolding learn_checks
   bad_width h = list_refused _ _ (simp h)
 
   -- what judging the rows of a good width came to
   module _ (fits : count_fits width ≡ true) where
-    pub bad_rows_lem : Bad ≡ judged_rows s (rows_in (row_count width words) width words) → Answers (Refused Malformed) old
+    pub bad_rows_lem : None ≡ judged_rows s (rows_in (row_count width words) width words) → Answers (Err Malformed) old
     unfolding learn_checks
     bad_rows_lem h =
         let bad : bad_rows s (rows_of width words) ≡ true = rw (rows_of_lem width words) (rows_bad s (rows_in (row_count width words) width words) h) in
         list_refused _ _ (simp (fits, bad))
 
-    module _ {columns : ℕ} (good : Columns columns ≡ judged_rows s (rows_in (row_count width words) width words)) where
-      last_check : (b : Bool) → too_large s width words ≡ b → first_held (learn_checks s width words) ≡ cond b (Stopped TooLarge) Passed
+    module _ {columns : ℕ} (good : Some columns ≡ judged_rows s (rows_in (row_count width words) width words)) where
+      last_check : (b : Bool) → too_large s width words ≡ b → first_held (learn_checks s width words) ≡ cond b (Err TooLarge) (Ok tt)
       unfolding learn_checks
       last_check b h = simp (fits, (judged s width words good).0, h)
 
-      pub too_long_lem : largest_region < length s → Answers (Refused TooLarge) old
+      pub too_long_lem : largest_region < length s → Answers (Err TooLarge) old
       too_long_lem h = list_refused _ _ (last_check true (simp (lt-ltb largest_region (length s) h)))
 
-      pub too_many_lem : most_rows < row_count width words → Answers (Refused TooLarge) old
+      pub too_many_lem : most_rows < row_count width words → Answers (Err TooLarge) old
       too_many_lem h = list_refused _ _ (last_check true (simp (lt-ltb most_rows (row_count width words) h, or-true)))
 
       -- THE LAW: past the checks the first hints are written, and the room decides
       pub all_good : {r : Filled} {list : List ℕ} → length s ≤ largest_region → row_count width words ≤ most_rows →
           r ≡ filled_by columns (length old) →
           list ≡ laid (hints_below s columns (rows_in (row_count width words) width words)) old →
-          Answers r list
+          Answers (Ok r) list
       unfolding hints_of
       all_good small few e l =
           let rows = rows_of width words in
           let passed = last_check false (simp (le-ltb largest_region (length s) small, le-ltb most_rows (row_count width words) few)) in
           let long : columns ≡ longest rows = (judged s width words good).1 in
           let size : length (hints_below s (longest rows) rows) ≡ columns = hints_length s rows (longest rows) ∙ sym long in
-          list_filled _ _ passed (rw size e) (rw (← long, rows_of_lem width words) l)
+          list_filled _ _ passed (rw (size, e)) (rw (← long, rows_of_lem width words) l)

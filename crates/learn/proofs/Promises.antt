@@ -1,5 +1,6 @@
 -- What the hints are: each is the commonest type of its column, and no value counts as type 5.
 -- Assumes nothing.
+use Rattle.std.specs.Prelude.{None, Some}
 use Prim.Native.Nat.{ℕ, zero, suc, ◌<◌}
 use mathlib.Core.Path.{◌≡◌, refl, ◌∙◌}
 use mathlib.Core.Bool.{Bool, true, false, cond}
@@ -12,8 +13,7 @@ use Rattle.groups.proofs.Laws.{columns_none, longest_none, longest_next, GoodEnt
 use Rattle.record.proofs.Numbers.{by_order}
 use Rattle.record.specs.Entry.{read_entry}
 use Rattle.record.specs.declared.entry.Entry.{Entry}
-use Rattle.record.specs.declared.entry.EntryRead.{EntryRead}
-use Rattle.record.specs.declared.entry.EntryRead.TheVariants.{Of, Refused}
+use Rattle.record.specs.Entry.{EntryRead}
 use Rattle.record.specs.declared.record.Value.{Value}
 use Rattle.record.specs.declared.record.Value.TheVariants.{Null, Int, Real, Text, Blob}
 use Rattle.learn.specs.Learn.{types_of, given, given_at, column_types, hint_of, hints_below, hints_of}
@@ -46,8 +46,8 @@ module _ (s : List ℕ) where
   one_type e used good = rw used (of (read_entry e s) good)
     where
       of : (r : EntryRead) → is_refused r ≡ false → length (types_of r) ≡ 1
-      of (Of v) g = refl
-      of Refused g = let z : ◌≡◌ {A = ℕ} 0 1 = cc in absurd (omega arith)
+      of (Some v) g = refl
+      of None g = let z : ◌≡◌ {A = ℕ} 0 1 = cc in absurd (omega arith)
 
   -- a good row gives one type to each of its columns
   pub gives_one : (es : List Entry) (c : ℕ) → bad_row s es ≡ false → c < columns_of es → length (given_at s c es) ≡ 1

@@ -1,11 +1,10 @@
 -- The hints that rows give, and what the call answers and writes.
 -- Assumes nothing.
-use Rattle.std.specs.Prelude.{ℕ, zero, suc, Bool, cond, not, ◌||◌, List, [], ◌∷◌, ◌++◌, ltb, length}
+use Rattle.std.specs.Prelude.{ℕ, zero, suc, Bool, cond, not, ◌||◌, List, [], ◌∷◌, ◌++◌, ltb, length, None, Some}
 use Rattle.groups.specs.Rows.{row_count, rows_of, is_used, longest, bad_rows}
 use Rattle.record.specs.Entry.{read_entry}
 use Rattle.record.specs.declared.entry.Entry.{Entry}
-use Rattle.record.specs.declared.entry.EntryRead.{EntryRead}
-use Rattle.record.specs.declared.entry.EntryRead.TheVariants.{Of, Refused as Bad}
+use Rattle.record.specs.Entry.{EntryRead}
 use Rattle.sheet.specs.Filled.{ListFilling}
 use Rattle.sheet.specs.Limits.{largest_region, most_rows, count_fits}
 use Rattle.sheet.specs.Refusal.{Check, first_held}
@@ -16,8 +15,8 @@ use Rattle.learn.specs.Types.{value_type, commonest_of}
 
 -- Rule 13.2: the type that what was read gives
 abbrev pub types_of : EntryRead → List ℕ
-types_of (Of v) = value_type v ∷ []
-types_of Bad = []
+types_of (Some v) = value_type v ∷ []
+types_of None = []
 
 -- the type that a used entry gives, over the slice s
 unfoldable pub given : List ℕ → Entry → List ℕ

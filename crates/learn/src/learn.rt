@@ -1,5 +1,5 @@
 // Hints learned from rows that were read: for each column the commonest type of its values.
-ghost use Rattle.std.specs.Prelude.{◌≡◌, cond, [], ◌+◌, ◌≤◌, ◌<◌, min, eqb, pos, length, get_or, set, take};
+ghost use Rattle.std.specs.Prelude.{◌≡◌, ◌==◌, count_by, [], ◌+◌, ◌≤◌, ◌<◌, pos, length, get_or, set, take};
 ghost use Rattle.groups.specs.Rows.{rows_in};
 ghost use Rattle.learn.specs.Inner.{counter_count, Lent, OwnType, PutType, Counts, Tallied};
 ghost use Rattle.learn.specs.Learn.{given, column_types, hint_of, hints_below};
@@ -10,8 +10,8 @@ ghost use Rattle.sheet.specs.Filled.{filled_by, laid, list_outcome, FillsList};
 ghost use Rattle.sheet.specs.Limits.{largest_region, most_rows};
 ghost use Rattle.sheet.specs.Sheet.{overlay};
 
-use groups::inner::{Judged, entry_at, judge_rows};
-use record::entry::{BODY, Entry, EntryRead, UNUSED};
+use groups::inner::{entry_at, judge_rows};
+use record::entry::{BODY, Entry, UNUSED};
 use record::record::Value;
 use sheet::filled::Filled;
 use sheet::hint::hint_count_fits;
@@ -22,26 +22,24 @@ use sheet::{LARGEST_REGION, MOST_ROWS, WORDS_PER_ENTRY};
 const COUNTERS: usize = 8_192;
 
 // A type, and how often it occurs.
-#[derive(Clone, Copy)]
+#[derive(Clone, Copy, Debug)]
 struct Leader {
     kind: u64,
     count: usize,
 }
 
 // The type of n, and of -1 - n, which takes as many bits.
+#[tactic(auto, unfolding(crate::specs::Types::width_type))]
 fn width_type(n: u64) -> u64
     ensures { result ≡ width_type (pos n) }
 {
-    if n < 0x80 {
-        return 1;
+    match n {
+        0..0x80 => 1,
+        0x80..0x8000 => 2,
+        0x8000..0x80_0000 => 3,
+        0x80_0000..0x8000_0000 => 4,
+        _ => 6,
     }
-    if n < 0x8000 {
-        return 2;
-    }
-    if n < 0x80_0000 {
-        return 3;
-    }
-    if n < 0x8000_0000 { 4 } else { 6 }
 }
 
 fn integer_type(v: i64) -> u64
@@ -51,10 +49,7 @@ fn integer_type(v: i64) -> u64
         return width_type((-1 - v) as u64);
     }
     let n = v as u64;
-    if n < 2 {
-        return 8;
-    }
-    width_type(n)
+    if n < 2 { 8 } else { width_type(n) }
 }
 
 fn value_type(value: Value) -> u64
@@ -74,16 +69,7 @@ fn value_type(value: Value) -> u64
 fn is_own_type(e: Entry, bytes: &[u8]) -> bool
     ensures { OwnType bytes.now e result }
 {
-    if e.state != BODY {
-        return false;
-    }
-    if e.kind < 12 {
-        return false;
-    }
-    if e.is_bad(bytes) {
-        return false;
-    }
-    true
+    e.state == BODY && e.kind >= 12 && !e.is_bad(bytes)
 }
 
 // Writes the entry's type behind n others, if it is used; the answer is how many there are then.
@@ -99,7 +85,7 @@ fn put_type(bytes: &[u8], e: Entry, kinds: &mut [u64], n: usize) -> usize
         kinds[n] = e.kind;
         return n + 1;
     }
-    let EntryRead::Of(value) = e.read(bytes) else {
+    let Some(value) = e.read(bytes) else {
         return n;
     };
     kinds[n] = value_type(value);
@@ -121,40 +107,19 @@ fn gather(
     ensures kinds_after { take result kinds.new ≡ column_types bytes.now column (rows_in rows width entries.now) }
     ensures small { result ≤ most_rows }
 {
-    let mut at = 0;
-    let mut left = rows;
     let mut n = 0;
-    while left > 0 {
-        n = put_type(
-            bytes,
-            entry_at(entries, at + WORDS_PER_ENTRY * column),
-            kinds,
-            n,
-        );
-        at = at + WORDS_PER_ENTRY * width;
-        left = left - 1;
+    for i in 0..rows {
+        let at = WORDS_PER_ENTRY * width * i + WORDS_PER_ENTRY * column;
+        n = put_type(bytes, entry_at(entries, at), kinds, n);
     }
     n
 }
 
-// 1 for equal numbers, 0 for others.
-fn same(a: u64, b: u64) -> usize
-    ensures value { result ≡ cond (eqb a b) 1 0 }
-    ensures small { result ≤ 1 }
-{
-    if a == b { 1 } else { 0 }
-}
-
+// How often a type occurs.
 fn count_of(kinds: &[u64], kind: u64) -> usize
-    ensures { result ≡ count_in kind kinds.now }
+    ensures { result ≡ count_by (λ other. kind == other) kinds.now }
 {
-    let mut n = 0;
-    let mut i = 0;
-    while i < kinds.len() {
-        n = n + same(kind, kinds[i]);
-        i = i + 1;
-    }
-    n
+    kinds.iter().filter(|other| kind == **other).count()
 }
 
 // One more of a type, if it has a counter.
@@ -163,7 +128,7 @@ fn count_up(table: &mut [u16], kind: u64)
     ensures { table.new ≡ set table.old kind (get_or table.old kind 0 + 1) }
 {
     if kind < table.len() as u64 {
-        table[kind as usize] = table[kind as usize] + 1;
+        table[kind as usize] += 1;
     }
 }
 
@@ -173,10 +138,8 @@ fn tally(kinds: &[u64], table: &mut [u16])
     requires tallied { Tallied table.old [] }
     ensures { Tallied table.new kinds.now }
 {
-    let mut i = 0;
-    while i < kinds.len() {
-        count_up(table, kinds[i]);
-        i = i + 1;
+    for kind in kinds {
+        count_up(table, *kind);
     }
 }
 
@@ -189,15 +152,14 @@ fn set_back(table: &mut [u16], kind: u64)
     }
 }
 
-// Sets back the counters of the types that were counted: the others are 0 already.
+// Sets back the counters of the types that were counted: the others are 0 already. Not one loop with `tally` over a step that is passed:
+// each step's clause speaks of what the table was, and what holds before the loop of one holds behind that of the other.
 fn clear(kinds: &[u64], table: &mut [u16])
     requires { Tallied table.old kinds.now }
     ensures { Tallied table.new [] }
 {
-    let mut i = 0;
-    while i < kinds.len() {
-        set_back(table, kinds[i]);
-        i = i + 1;
+    for kind in kinds {
+        set_back(table, *kind);
     }
 }
 
@@ -207,9 +169,10 @@ fn look_up(kinds: &[u64], table: &[u16], kind: u64) -> usize
     ensures { result ≡ count_in kind kinds.now }
 {
     if kind < table.len() as u64 {
-        return table[kind as usize] as usize;
+        table[kind as usize] as usize
+    } else {
+        count_of(kinds, kind)
     }
-    count_of(kinds, kind)
 }
 
 // The leader, or the type that comes before it.
@@ -245,10 +208,8 @@ fn seek(kinds: &[u64], table: &[u16]) -> u64
         kind: 0,
         count: look_up(kinds, table, 0),
     };
-    let mut i = 0;
-    while i < kinds.len() {
-        leader = challenge(kinds, table, leader, kinds[i]);
-        i = i + 1;
+    for kind in kinds {
+        leader = challenge(kinds, table, leader, *kind);
     }
     leader.kind
 }
@@ -305,10 +266,8 @@ fn put_hints(
     ensures { types.new ≡ overlay (hints_below bytes.now columns (rows_in rows width entries.now))
         types.old }
 {
-    let mut c = 0;
-    while c < columns {
+    for c in 0..columns {
         types[c] = hint_of(bytes, entries, width, rows, c, kinds, table);
-        c = c + 1;
     }
 }
 
@@ -318,12 +277,6 @@ fn counters() -> [u16; COUNTERS]
     ensures clear { Tallied result [] }
 {
     [0; COUNTERS]
-}
-
-fn smaller(a: usize, b: usize) -> usize
-    ensures { result ≡ min a b }
-{
-    if a < b { a } else { b }
 }
 
 // Writes the hints of as many columns as there is room for.
@@ -342,6 +295,7 @@ fn learn_columns(
         types.old }
 {
     let room = types.len();
+    // No heap: the types of a column fill the first cells of one list, and one table counts each column in turn.
     let mut kinds = [0; MOST_ROWS];
     let mut table = counters();
     put_hints(
@@ -349,33 +303,34 @@ fn learn_columns(
         entries,
         width,
         rows,
-        smaller(columns, room),
+        columns.min(room),
         types,
         &mut kinds,
         &mut table,
     );
     if room < columns {
-        return Filled::Full(room);
+        Filled::Full(room)
+    } else {
+        Filled::Done(columns)
     }
-    Filled::Done(columns)
 }
 
-pub fn learn_signatures(bytes: &[u8], width: usize, entries: &[u64], types: &mut [u64]) -> Filled
+pub fn learn_signatures(
+    bytes: &[u8],
+    width: usize,
+    entries: &[u64],
+    types: &mut [u64],
+) -> Result<Filled, Refusal>
     ensures { FillsList (learn_filling bytes.now width entries.now types.old)
         (list_outcome result types.new) }
 {
     if !hint_count_fits(width) {
-        return Filled::Refused(Refusal::ColumnCount);
+        return Err(Refusal::ColumnCount);
     }
     let rows = entries.len() / (WORDS_PER_ENTRY * width);
-    let Judged::Columns(columns) = judge_rows(bytes, entries, width, rows) else {
-        return Filled::Refused(Refusal::Malformed);
-    };
-    if bytes.len() > LARGEST_REGION {
-        return Filled::Refused(Refusal::TooLarge);
+    let columns = judge_rows(bytes, entries, width, rows).ok_or(Refusal::Malformed)?;
+    if bytes.len() > LARGEST_REGION || rows > MOST_ROWS {
+        return Err(Refusal::TooLarge);
     }
-    if rows > MOST_ROWS {
-        return Filled::Refused(Refusal::TooLarge);
-    }
-    learn_columns(bytes, entries, width, rows, columns, types)
+    Ok(learn_columns(bytes, entries, width, rows, columns, types))
 }

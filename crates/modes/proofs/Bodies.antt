@@ -1,5 +1,6 @@
 -- Bodies one behind the other: each column by its body's length, and where they end.
 -- Assumes nothing.
+use Rattle.std.specs.Prelude.{None, Some}
 use Prim.Native.Nat.{ℕ, ◌+◌, ◌≤◌, ◌<◌}
 use mathlib.Core.Path.{◌≡◌, refl}
 use mathlib.Core.List.{List, [], ◌∷◌, ◌++◌}
@@ -9,31 +10,30 @@ use lib.ListN.{length}
 use Rattle.modes.specs.Found.{column_at, behind, columns_from, end_from}
 use Rattle.record.proofs.Numbers.{by_order}
 use Rattle.record.specs.Value.{body_length}
-use Rattle.record.specs.declared.record.Length.{Length}
-use Rattle.record.specs.declared.record.Length.TheVariants.{Bytes, Reserved}
+use Rattle.record.specs.Value.{Length}
 use Rattle.sheet.specs.declared.columns.Column.{Column}
 use Rattle.sheet.specs.declared.columns.Column.TheVariants.{Body, Unfit}
 
 module _ (len at t : ℕ) where
-  pub column_body : (n : ℕ) → body_length t ≡ Bytes n → at + n ≤ len → column_at len at t ≡ Body t at n
+  pub column_body : (n : ℕ) → body_length t ≡ Some n → at + n ≤ len → column_at len at t ≡ Body t at n
   unfolding column_at
   column_body n l h = simp (l, le-leb (at + n) len h)
 
-  pub column_out : (n : ℕ) → body_length t ≡ Bytes n → len < at + n → column_at len at t ≡ Unfit t
+  pub column_out : (n : ℕ) → body_length t ≡ Some n → len < at + n → column_at len at t ≡ Unfit t
   unfolding column_at
   column_out n l h = simp (l, lt-leb (at + n) len h)
 
-  pub column_none : body_length t ≡ Reserved → column_at len at t ≡ Unfit t
+  pub column_none : body_length t ≡ None → column_at len at t ≡ Unfit t
   unfolding column_at
   column_none l = rw l
 
   -- THE LAW: it is a body that fits, or none that does
-  pub column_cases : (P : Column → Type 0) → ((n : ℕ) → body_length t ≡ Bytes n → at + n ≤ len → P (Body t at n)) → P (Unfit t) → P (column_at len at t)
+  pub column_cases : (P : Column → Type 0) → ((n : ℕ) → body_length t ≡ Some n → at + n ≤ len → P (Body t at n)) → P (Unfit t) → P (column_at len at t)
   column_cases P fits out = go (body_length t) refl
     where
       go : (l : Length) → body_length t ≡ l → P (column_at len at t)
-      go (Bytes n) l = by_order len (at + n) (λ past. rw (column_out n l past) out) (λ in'. rw (column_body n l in') (fits n l in'))
-      go Reserved l = rw (column_none l) out
+      go (Some n) l = by_order len (at + n) (λ past. rw (column_out n l past) out) (λ in'. rw (column_body n l in') (fits n l in'))
+      go None l = rw (column_none l) out
 
   -- the next body starts in the slice, and not before this one
   pub behind_inside : at ≤ len → (at ≤ behind at (column_at len at t)) × (behind at (column_at len at t) ≤ len)

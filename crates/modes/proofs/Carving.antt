@@ -1,58 +1,59 @@
--- Hits written one after the other, whatever finds them: those so far, with those still to come, are all of them.
+-- Hits added one after the other, whatever finds them: those so far, with those still to come, are all of them.
 -- Assumes nothing.
-use Prim.Native.Nat.{ℕ, ◌+◌, ◌*◌, ◌≤◌, ◌<◌}
-use mathlib.Core.Path.{◌≡◌, refl, sym, ◌∙◌}
+use Prim.Native.Nat.{ℕ, ◌-◌, ◌*◌, ◌≤◌}
+use mathlib.Core.Path.{◌≡◌, refl, sym, ap, ◌∙◌}
 use mathlib.Core.Bool.{false}
 use mathlib.Core.List.{List, [], ◌∷◌, ◌++◌, append-nil, append_assoc}
 use native.Mathlib.Omega.{arith}
-use lib.ListN.{length}
-use lib.Seq.{sets}
+use lib.ListN.{length, take}
+use lib.Seq.{length-sets}
+use Rattle.modes.specs.Inner.{Ready}
+use Rattle.sheet.proofs.Carving.{told_on}
+use Rattle.sheet.proofs.Sheets.{adds_none, adds_more, adds_stop}
+use Rattle.sheet.specs.Hits.{Hit, rows_of, groups_words}
+use Rattle.sheet.specs.Inner.{on, over, Adds}
 use Rattle.sheet.specs.Limits.{words_per_row, words_per_entry}
-use Rattle.sheet.specs.Row.{row_words}
-use Rattle.sheet.proofs.Carving.{carves_none, carves_one, carves_over, carves_more, carves_stop}
-use Rattle.sheet.specs.Hits.{Hit, group_words}
-use Rattle.sheet.specs.Inner.{on, over, Carves}
+use Rattle.sheet.specs.Sheet.{rows_words}
+use Rattle.sheet.specs.declared.inner.Sheet.{Sheet}
 
--- n rows were written; of the hits `whole`, `rest` is still to come
-pub record Carving (width room : ℕ) (whole rest : List Hit) (rows₀ cols₀ rows cols : List ℕ) (n : ℕ) : Type 0 where
+-- THE LAW: where rows were added, more may be
+pub ready_then : (len base : ℕ) (hs : List Hit) (s s' : Sheet) → Ready len base s → Adds hs false s (on s'.n) s' → Ready len base s'
+ready_then len base hs s s' r x =
+    let t = told_on s.room s.n (length hs) s'.n false x.carves.answer in
+    let p = x.carves.puts in
+    let rows : length s'.rows.now ≡ length s.rows.now = ap (λ (l : List ℕ). length l) p.rows_are ∙ length-sets s.rows.now (s.n * words_per_row) (rows_words (rows_of (take (s.room - s.n) hs))) in
+    let cols : length s'.cols.now ≡ length s.cols.now = ap (λ (l : List ℕ). length l) p.cols_are ∙ length-sets s.cols.now (s.n * (words_per_entry * s.width)) (groups_words s.width (take (s.room - s.n) hs)) in
+    record {
+      small = r.small;
+      near = r.near;
+      some = rw x.width r.some;
+      few = rw x.width r.few;
+      room_most = rw (x.room, x.width, rows, cols) r.room_most;
+      fits = omega (arith, t.0, t.1, x.room);
+    }
+
+-- of the hits `whole`, those but `rest` were added to the first sheet
+pub record Carving (whole rest : List Hit) (s₀ s : Sheet) : Type 0 where
   pub done : List Hit
-  pub carved : Carves width room 0 done false rows₀ cols₀ (on n) rows cols
+  pub added : Adds done false s₀ (on s.n) s
   pub hits : done ++ rest ≡ whole
-  pub long : length rows ≡ length rows₀
-  pub wide : length cols ≡ length cols₀
-  pub fits : n ≤ room
 
-pub carving_start : (width room : ℕ) (whole : List Hit) (rows cols : List ℕ) → Carving width room whole whole rows cols rows cols 0
-carving_start width room whole rows cols =
-    record { done = []; carved = carves_none width room 0 rows cols (omega arith); hits = refl; long = refl; wide = refl; fits = omega arith }
+pub carving_start : (whole : List Hit) (s : Sheet) → s.n ≤ s.room → Carving whole whole s s
+carving_start whole s h = record { done = []; added = adds_none s h; hits = refl }
 
-module _ (width room : ℕ) (whole rest : List Hit) (rows₀ cols₀ rows cols : List ℕ) (n : ℕ) (w : Carving width room whole rest rows₀ cols₀ rows cols n) where
-  pub carving_as : (other : List Hit) → rest ≡ other → Carving width room whole other rows₀ cols₀ rows cols n
+module _ (whole rest : List Hit) (s₀ s : Sheet) (w : Carving whole rest s₀ s) where
+  pub carving_as : (other : List Hit) → rest ≡ other → Carving whole other s₀ s
   carving_as other e = rw e at w
 
-  pub carving_done : rest ≡ [] → Carves width room 0 whole false rows₀ cols₀ (on n) rows cols
-  carving_done e = rw (sym (append-nil w.done) ∙ rw e at w.hits) at w.carved
+  pub carving_done : rest ≡ [] → Adds whole false s₀ (on s.n) s
+  carving_done e = rw (sym (append-nil w.done) ∙ rw e at w.hits) at w.added
 
-  module _ (h : Hit) (later : List Hit) (next : rest ≡ h ∷ later) where
+  module _ (h : Hit) (later : List Hit) (next : rest ≡ h ∷ later) (s' : Sheet) where
     hits_are : (w.done ++ (h ∷ [])) ++ later ≡ whole
     hits_are = append_assoc w.done (h ∷ []) later ∙ rw next at w.hits
 
-    pub carving_over : room ≤ n → Carves width room 0 whole false rows₀ cols₀ over rows cols
-    carving_over full =
-        let one = carves_more width room 0 w.done (h ∷ []) rows₀ cols₀ rows cols n false over rows cols w.carved (carves_over width room n rows cols h full) in
-        rw hits_are at (carves_stop width room 0 (w.done ++ (h ∷ [])) later rows₀ cols₀ rows cols false false one)
+    pub carving_over : Adds (h ∷ []) false s over s' → Adds whole false s₀ over s'
+    carving_over x = rw hits_are at (adds_stop (w.done ++ (h ∷ [])) later s₀ s' false false (adds_more w.done (h ∷ []) s₀ s s' false over w.added x))
 
-    pub carving_one : (rows' cols' : List ℕ) → n < room → length h.columns ≤ width
-        → rows' ≡ sets rows (n * words_per_row) (row_words h.row) → cols' ≡ sets cols (n * (words_per_entry * width)) (group_words width h)
-        → length rows' ≡ length rows → length cols' ≡ length cols → Carving width room whole later rows₀ cols₀ rows' cols' (n + 1)
-    carving_one rows' cols' lt narrow r c lr lc =
-        record {
-          done = w.done ++ (h ∷ []);
-          carved =
-              carves_more width room 0 w.done (h ∷ []) rows₀ cols₀ rows cols n false (on (n + 1)) rows' cols' w.carved
-              (carves_one width room n rows cols h rows' cols' lt narrow r c);
-          hits = hits_are;
-          long = lr ∙ w.long;
-          wide = lc ∙ w.wide;
-          fits = omega arith;
-        }
+    pub carving_one : Adds (h ∷ []) false s (on s'.n) s' → Carving whole later s₀ s'
+    carving_one x = record { done = w.done ++ (h ∷ []); added = adds_more w.done (h ∷ []) s₀ s s' false (on s'.n) w.added x; hits = hits_are }

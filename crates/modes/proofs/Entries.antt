@@ -1,5 +1,6 @@
 -- Columns read back from the words that say them: each is the value of its type at its place, or NULL.
 -- Assumes nothing.
+use Rattle.std.specs.Prelude.{None, Some}
 use Prim.Native.Nat.{ℕ, zero, suc, ◌+◌, ◌≤◌, ◌<◌}
 use mathlib.Core.Path.{◌≡◌, refl}
 use mathlib.Core.List.{List, [], ◌∷◌}
@@ -12,8 +13,7 @@ use Rattle.modes.proofs.Bodies.{column_body, column_out, column_none, columns_ni
 use Rattle.modes.proofs.Writing.{lost_length}
 use Rattle.record.proofs.Numbers.{by_order}
 use Rattle.record.specs.Value.{body_length, value_of}
-use Rattle.record.specs.declared.record.Length.{Length}
-use Rattle.record.specs.declared.record.Length.TheVariants.{Bytes, Reserved}
+use Rattle.record.specs.Value.{Length}
 use Rattle.record.specs.declared.record.Value.TheVariants.{Null}
 use Rattle.sheet.proofs.ReadBack.{Reads, reads_nil, reads_body, reads_unfit, reads_lost, reads_append, AllFit}
 
@@ -23,15 +23,15 @@ module _ (s : List ℕ) where
   values_nil at = refl
 
   module _ (at t : ℕ) (ts : List ℕ) where
-    values_body : (n : ℕ) → body_length t ≡ Bytes n → at + n ≤ length s → values_from s at (t ∷ ts) ≡ value_of t s at n ∷ values_from s (at + n) ts
+    values_body : (n : ℕ) → body_length t ≡ Some n → at + n ≤ length s → values_from s at (t ∷ ts) ≡ value_of t s at n ∷ values_from s (at + n) ts
     unfolding values_from
     values_body n l h = simp (l, le-leb (at + n) (length s) h)
 
-    values_out : (n : ℕ) → body_length t ≡ Bytes n → length s < at + n → values_from s at (t ∷ ts) ≡ Null ∷ values_from s at ts
+    values_out : (n : ℕ) → body_length t ≡ Some n → length s < at + n → values_from s at (t ∷ ts) ≡ Null ∷ values_from s at ts
     unfolding values_from
     values_out n l h = simp (l, lt-leb (at + n) (length s) h)
 
-    values_none : body_length t ≡ Reserved → values_from s at (t ∷ ts) ≡ Null ∷ values_from s at ts
+    values_none : body_length t ≡ None → values_from s at (t ∷ ts) ≡ Null ∷ values_from s at ts
     unfolding values_from
     values_none l = rw l
 
@@ -42,9 +42,9 @@ module _ (s : List ℕ) where
     where
       go : (l : Length) → body_length t ≡ l → ((next : ℕ) → Reads s (columns_from (length s) next ts) (values_from s next ts))
           → Reads s (columns_from (length s) at (t ∷ ts)) (values_from s at (t ∷ ts))
-      go Reserved l rest =
+      go None l rest =
           rw (columns_cons (length s) at t ts, column_none (length s) at t l, values_none at t ts l) (reads_unfit s t _ _ (rest at))
-      go (Bytes n) l rest =
+      go (Some n) l rest =
           by_order (length s) (at + n)
           (λ out. rw (columns_cons (length s) at t ts, column_out (length s) at t n l out, values_out at t ts n l out) (reads_unfit s t _ _ (rest at)))
           (λ in'. rw (columns_cons (length s) at t ts, column_body (length s) at t n l in', values_body at t ts n l in') (reads_body s t at n _ _ l in' (rest (at + n))))

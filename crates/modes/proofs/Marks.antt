@@ -1,5 +1,6 @@
 -- The mark decides nothing: without it each mode finds what it found when there was none.
 -- Assumes nothing.
+use Rattle.std.specs.Prelude.{None, Some}
 use Prim.Native.Nat.{ℕ, ◌+◌, ◌-◌}
 use mathlib.Core.Path.{◌≡◌, refl}
 use mathlib.Core.Bool.{Bool, cond}
@@ -11,8 +12,7 @@ use Rattle.modes.specs.declared.inner.Style.{Style}
 use Rattle.record.proofs.Numbers.{tested}
 use Rattle.record.specs.Places.{types_padded, header_padded}
 use Rattle.record.specs.Varint.{varint_at}
-use Rattle.record.specs.declared.varint.Varint.{Varint}
-use Rattle.record.specs.declared.varint.Varint.TheVariants.{Value, Short}
+use Rattle.record.specs.Varint.{Varint}
 
 -- what was found, with the mark q
 abbrev pub marked : Bool → Tried → Tried
@@ -34,8 +34,8 @@ module _ (q : Bool) where
 
   -- Normal, where every row has the mark q
   abbrev pub marked_with : List ℕ → ℕ → ℕ → Varint → Tried
-  marked_with s columns o (Value h c) = cond (length_fits (length s) o (c.at - o) h) (headed_row o h q (types_from columns s c.at (o + h))) miss
-  marked_with s columns o Short = miss
+  marked_with s columns o (Some (h, c)) = cond (length_fits (length s) o (c.at - o) h) (headed_row o h q (types_from columns s c.at (o + h))) miss
+  marked_with s columns o None = miss
 
   -- THE LAW: Normal is that one, but for the mark,
   pub normal_marked : (s : List ℕ) (columns o : ℕ) → marked q (normal_at s columns o) ≡ marked_with s columns o (varint_at s o)
@@ -43,8 +43,8 @@ module _ (q : Bool) where
   normal_marked s columns o = by_length (varint_at s o)
     where
       by_length : (v : Varint) → marked q (normal_with s columns o v) ≡ marked_with s columns o v
-      by_length Short = refl
-      by_length (Value h c) =
+      by_length None = refl
+      by_length (Some (h, c)) =
           tested (marked q) (length_fits (length s) o (c.at - o) h) _ miss (headed_marked o h (header_padded columns s c (o + h)) (types_from columns s c.at (o + h))) refl
 
   -- and so are the other two

@@ -1,5 +1,6 @@
 -- Types one after the other: what was read, with what is still to come, is the whole; where reading ends; and reading them again.
 -- Assumes nothing.
+use Rattle.std.specs.Prelude.{None, Some}
 use Prim.Native.Nat.{ℕ, zero, suc, ◌+◌, ◌≤◌, ◌<◌}
 use mathlib.Core.Path.{◌≡◌, refl, sym, ap, ◌∙◌}
 use mathlib.Core.Bool.{Bool, false, ◌||◌}
@@ -15,16 +16,15 @@ use Rattle.record.proofs.Types.{padded_none, padded_end, marked_step, marked_end
 use Rattle.record.specs.Places.{types_padded}
 use Rattle.record.specs.Varint.{varint_at}
 use Rattle.record.specs.declared.varint.Cursor.{Cursor}
-use Rattle.record.specs.declared.varint.Varint.{Varint}
-use Rattle.record.specs.declared.varint.Varint.TheVariants.{Value, Short}
+use Rattle.record.specs.Varint.{Varint}
 
 -- ---- reading on
 module _ (most : ℕ) (s : List ℕ) (at stop : ℕ) where
-  pub types_step : (t : ℕ) (c : Cursor) → at < stop → varint_at s at ≡ Value t c → types_from (suc most) s at stop ≡ type_before t (types_from most s c.at stop)
+  pub types_step : (t : ℕ) (c : Cursor) → at < stop → varint_at s at ≡ Some (t, c) → types_from (suc most) s at stop ≡ type_before t (types_from most s c.at stop)
   unfolding types_from
   types_step t c h e = simp (lt-ltb at stop h, e)
 
-  pub types_cut : at < stop → varint_at s at ≡ Short → types_from (suc most) s at stop ≡ cut
+  pub types_cut : at < stop → varint_at s at ≡ None → types_from (suc most) s at stop ≡ cut
   unfolding types_from
   types_cut h e = simp (lt-ltb at stop h, e)
 
@@ -38,11 +38,11 @@ types_end_lem zero s at stop h = refl
 types_end_lem (suc most) s at stop h = simp (le-ltb at stop h)
 
 module _ (n : ℕ) (s : List ℕ) (at : ℕ) where
-  pub kinds_step : (t : ℕ) (c : Cursor) → varint_at s at ≡ Value t c → kinds_at (suc n) s at ≡ t ∷ kinds_at n s c.at
+  pub kinds_step : (t : ℕ) (c : Cursor) → varint_at s at ≡ Some (t, c) → kinds_at (suc n) s at ≡ t ∷ kinds_at n s c.at
   unfolding kinds_at
   kinds_step t c e = rw e
 
-  pub kinds_cut : varint_at s at ≡ Short → kinds_at (suc n) s at ≡ []
+  pub kinds_cut : varint_at s at ≡ None → kinds_at (suc n) s at ≡ []
   unfolding kinds_at
   kinds_cut e = rw e
 
@@ -100,7 +100,7 @@ module _ (s : List ℕ) (stop : ℕ) (whole : Types) (p : Bool) (most at : ℕ) 
         go zero e = absurd (omega arith)
         go (suc k) e = (k, refl)
 
-    pub so_on : (t : ℕ) (c : Cursor) → varint_at s at ≡ Value t c → SoFar s stop whole p most c.at (padded || c.padded) (done ++ (t ∷ []))
+    pub so_on : (t : ℕ) (c : Cursor) → varint_at s at ≡ Some (t, c) → SoFar s stop whole p most c.at (padded || c.padded) (done ++ (t ∷ []))
     so_on t c e =
         let k = some_left in
         record {
@@ -110,7 +110,7 @@ module _ (s : List ℕ) (stop : ℕ) (whole : Types) (p : Bool) (most at : ℕ) 
           marks = marked_step k.0 s at stop t c p padded below e (rw k.1 at w.marks);
         }
 
-    pub so_cut : varint_at s at ≡ Short → whole ≡ cut
+    pub so_cut : varint_at s at ≡ None → whole ≡ cut
     so_cut e = let k = some_left in rw (k.1, types_cut k.0 s at stop below e) at w.is ∙ before_cut done
 
   -- no place is left, or no type
@@ -143,11 +143,11 @@ module _ (s : List ℕ) (stop : ℕ) (whole : Types) (p : Bool) (most at : ℕ) 
     more : length w.done < most
     more = rw w.counts h
 
-    pub counted_on : (t : ℕ) (c : Cursor) → varint_at s at ≡ Value t c → Counted s stop whole p most c.at (padded || c.padded) (count + 1)
+    pub counted_on : (t : ℕ) (c : Cursor) → varint_at s at ≡ Some (t, c) → Counted s stop whole p most c.at (padded || c.padded) (count + 1)
     counted_on t c e =
         record { done = w.done ++ (t ∷ []); counts = simp length-append (omega (arith, w.counts)); so = so_on s stop whole p most at padded w.done w.so more below t c e }
 
-    pub counted_cut : varint_at s at ≡ Short → whole ≡ cut
+    pub counted_cut : varint_at s at ≡ None → whole ≡ cut
     counted_cut e = so_cut s stop whole p most at padded w.done w.so more below e
 
   ended : (whole ≡ read w.done at) × (p ≡ padded) → WholeIs whole p count at padded
@@ -183,8 +183,8 @@ typed (suc most) s at stop ts end h e =
   where
     go : at < stop → (v : Varint) → varint_at s at ≡ v
         → ((next : ℕ) (us : List ℕ) → next ≤ length s → types_from most s next stop ≡ read us end → Typed s most next us end) → Typed s (suc most) at ts end
-    go lt Short v rest = never (sym (types_cut most s at stop lt v) ∙ e)
-    go lt (Value t c) v rest =
+    go lt None v rest = never (sym (types_cut most s at stop lt v) ∙ e)
+    go lt (Some (t, c)) v rest =
         let z = varint_lies s at t c v in
         let f = first_of t (types_from most s c.at stop) ts end (sym (types_step most s at stop t c lt v) ∙ e) in
         let r = rest c.at f.0 z.inside f.1 in

@@ -1,29 +1,25 @@
 -- The modes one after the other: rows of Normal as long as there are any, and what comes where there are none.
 -- Assumes nothing.
-use Prim.Native.Nat.{ℕ, zero, suc, ◌+◌, ◌*◌, ◌≤◌, ◌<◌}
-use mathlib.Core.Path.{◌≡◌, refl, sym}
+use Rattle.std.specs.Prelude.{Option, Some, None}
+use Prim.Native.Nat.{ℕ, zero, suc, ◌+◌, ◌≤◌, ◌<◌}
+use mathlib.Core.Path.{◌≡◌, refl, sym, ◌∙◌}
 use mathlib.Core.Bool.{false}
 use mathlib.Core.List.{List, [], ◌∷◌, ◌++◌}
 use native.Mathlib.Omega.{arith}
 use borrow.Author.Tests.{le-leb, lt-leb}
 use lib.ListN.{length}
-use lib.Seq.{sets}
 use Rattle.modes.specs.Found.{Found, Tried, miss, hit, end_of, found_hit, found_hits}
-use Rattle.modes.specs.Inner.{found_in, HitIs, TriedIs, TriedFits, tried_hits, Ready}
+use Rattle.modes.specs.Inner.{found_in, HitIs, TriedIs, TriedFits, tried_hits, Ready, Fitting}
 use Rattle.modes.specs.Modes.{columns_only, listed, or_else, headless_in, columns_only_in, first_col_missing_in, normal_at, normal_from, normal_found, headless_found, modes_found}
 use Rattle.modes.specs.declared.inner.Find.{Find}
-use Rattle.modes.specs.declared.inner.Style.{Style}
-use Rattle.modes.specs.declared.inner.Tried.{Tried as Trial}
-use Rattle.modes.specs.declared.inner.Tried.TheVariants.{Hit, Miss}
 use Rattle.modes.proofs.Bodies.{end_inside}
-use Rattle.modes.proofs.Carving.{Carving, carving_start, carving_done, carving_over, carving_one}
+use Rattle.modes.proofs.Carving.{ready_then, Carving, carving_start, carving_done, carving_over, carving_one}
 use Rattle.modes.proofs.Trying.{normal_found_lem}
-use Rattle.modes.proofs.Writing.{few_columns}
-use Rattle.sheet.specs.Limits.{words_per_row, words_per_entry}
-use Rattle.sheet.specs.Row.{row_words}
-use Rattle.sheet.proofs.Carving.{carves_more, carves_stop, told_on, told_over}
-use Rattle.sheet.specs.Hits.{Hit as RowHit, group_words}
-use Rattle.sheet.specs.Inner.{Told, on, over, Carves}
+use Rattle.sheet.proofs.Carving.{told_on, told_over}
+use Rattle.sheet.proofs.Sheets.{adds_more, adds_stop}
+use Rattle.sheet.specs.Hits.{Hit}
+use Rattle.sheet.specs.Inner.{Told, on, over, Adds}
+use Rattle.sheet.specs.declared.inner.Sheet.{Sheet}
 
 -- ---- Normal
 module _ (s : List ℕ) (columns o : ℕ) where
@@ -49,41 +45,42 @@ module _ (s : List ℕ) (columns o : ℕ) where
       (omega (arith, b.0, m.past), b.1)
 
 -- of the rows that stand one behind the other, those from o on are still to come
-pub record Normals (s : List ℕ) (base columns room : ℕ) (rows₀ cols₀ rows cols : List ℕ) (o n : ℕ) : Type 0 where
+pub record Normals (s : List ℕ) (base columns : ℕ) (s₀ : Sheet) (o : ℕ) (s' : Sheet) : Type 0 where
   pub fuel : ℕ
   pub enough : length s ≤ o + fuel
   pub inside : o ≤ length s
-  pub carving : Carving columns room (found_hits (length s) base (normal_found s columns)) (found_hits (length s) base (normal_from fuel s columns o)) rows₀ cols₀ rows cols n
+  pub carving : Carving (found_hits (length s) base (normal_found s columns)) (found_hits (length s) base (normal_from fuel s columns o)) s₀ s'
 
-module _ (s : List ℕ) (base columns room : ℕ) (rows₀ cols₀ : List ℕ) where
-  abbrev all : List RowHit
+module _ (s : List ℕ) (base columns : ℕ) (s₀ : Sheet) where
+  abbrev all : List Hit
   all = found_hits (length s) base (normal_found s columns)
 
-  pub normals_start : Normals s base columns room rows₀ cols₀ rows₀ cols₀ 0 0
+  pub normals_start : s₀.n ≤ s₀.room → Normals s base columns s₀ 0 s₀
   unfolding normal_found
-  normals_start = record { fuel = length s; enough = omega arith; inside = omega arith; carving = carving_start columns room (found_hits (length s) base (normal_found s columns)) rows₀ cols₀ }
+  normals_start h = record { fuel = length s; enough = omega arith; inside = omega arith; carving = carving_start (found_hits (length s) base (normal_found s columns)) s₀ h }
 
-  module _ (rows cols : List ℕ) (o n : ℕ) (w : Normals s base columns room rows₀ cols₀ rows cols o n) where
-    abbrev later : List RowHit
+  module _ (o : ℕ) (s' : Sheet) (w : Normals s base columns s₀ o s') where
+    abbrev later : List Hit
     later = found_hits (length s) base (normal_from w.fuel s columns o)
 
-    pub normals_ready : Ready (length s) base columns room 0 (length rows₀) (length cols₀) → Ready (length s) base columns room n (length rows) (length cols)
-    normals_ready r =
-        rw (w.carving.long, w.carving.wide)
-        (record { small = r.small; near = r.near; some = r.some; few = r.few; room_is = r.room_is; fits = w.carving.fits })
+    pub normals_width : s'.width ≡ s₀.width
+    normals_width = w.carving.added.width
 
-    ends : normal_from w.fuel s columns o ≡ [] → Carves columns room 0 all false rows₀ cols₀ (on n) rows cols
-    ends e = carving_done columns room all later rows₀ cols₀ rows cols n w.carving (rw e)
+    pub normals_fitting : Ready (length s) base s₀ → (x : Find) → HitIs s s₀.width (normal_at s s₀.width o) x → Fitting s x base s'
+    normals_fitting r x f = record { ready = ready_then (length s) base w.carving.done s₀ s' r w.carving.added; fits = rw normals_width f.fits }
 
-    pub normals_end : length s < o + 3 → Carves columns room 0 all false rows₀ cols₀ (on n) rows cols
+    ends : normal_from w.fuel s columns o ≡ [] → Adds all false s₀ (on s'.n) s'
+    ends e = carving_done all later s₀ s' w.carving (rw e)
+
+    pub normals_end : length s < o + 3 → Adds all false s₀ (on s'.n) s'
     normals_end h = ends (normal_end s columns o w.fuel h)
 
     module _ (h : o + 3 ≤ length s) where
-      pub normals_stop : normal_at s columns o ≡ miss → Carves columns room 0 all false rows₀ cols₀ (on n) rows cols
+      pub normals_stop : normal_at s columns o ≡ miss → Adds all false s₀ (on s'.n) s'
       normals_stop e = ends (normal_stop s columns o w.fuel h e)
 
-      module _ (x : Find) (f : HitIs s columns (normal_at s columns o) x) where
-        abbrev one : RowHit
+      module _ (x : Find) (f : HitIs s columns (normal_at s columns o) x) (s'' : Sheet) where
+        abbrev one : Hit
         one = found_hit (length s) base (found_in s x)
 
         next : (g : ℕ) × (w.fuel ≡ suc g) × (found_hits (length s) base (normal_from w.fuel s columns o) ≡ one ∷ found_hits (length s) base (normal_from g s columns (end_of (length s) (found_in s x))))
@@ -94,21 +91,17 @@ module _ (s : List ℕ) (base columns room : ℕ) (rows₀ cols₀ : List ℕ) w
             go zero k = absurd (omega arith)
             go (suc g) k = (g, refl, rw (normal_on s columns o g (found_in s x) h f.is))
 
-        pub normals_over : room ≤ n → Carves columns room 0 all false rows₀ cols₀ over rows cols
-        normals_over full = carving_over columns room all later rows₀ cols₀ rows cols n w.carving one _ next.2 full
+        pub normals_over : Adds (one ∷ []) false s' over s'' → Adds all false s₀ over s''
+        normals_over a = carving_over all later s₀ s' w.carving one _ next.2 s'' a
 
-        pub normals_one : (rows' cols' : List ℕ) → n < room
-            → rows' ≡ sets rows (n * words_per_row) (row_words one.row) → cols' ≡ sets cols (n * (words_per_entry * columns)) (group_words columns one)
-            → length rows' ≡ length rows → length cols' ≡ length cols
-            → Normals s base columns room rows₀ cols₀ rows' cols' (end_of (length s) (found_in s x)) (n + 1)
-        normals_one rows' cols' lt r c lr lc =
+        pub normals_one : Adds (one ∷ []) false s' (on s''.n) s'' → Normals s base columns s₀ (end_of (length s) (found_in s x)) s''
+        normals_one a =
             let m = normal_ends s columns o (found_in s x) f.is in
             record {
               fuel = next.0;
               enough = omega (arith, w.enough, next.1, m.0);
               inside = m.1;
-              carving =
-                  carving_one columns room all later rows₀ cols₀ rows cols n w.carving one _ next.2 rows' cols' lt (few_columns s base columns x f.fits) r c lr lc;
+              carving = carving_one all later s₀ s' w.carving one _ next.2 s'' a;
             }
 
 -- ---- the other two
@@ -117,13 +110,13 @@ hits_append len base [] b = refl
 hits_append len base (x ∷ a) b = rw (hits_append len base a b)
 
 -- what was tried is what a mode finds
-pub tried_fits : (s : List ℕ) (columns : ℕ) (t : Tried) (r : Trial) → TriedIs s columns t r → TriedFits s columns r
-tried_fits s columns t (Hit x) e = e.fits
-tried_fits s columns t Miss e = tt
+pub tried_fits : (s : List ℕ) (columns : ℕ) (t : Tried) (r : Option Find) → TriedIs s columns t r → TriedFits s columns r
+tried_fits s columns t (Some x) e = e.fits
+tried_fits s columns t None e = tt
 
-pub tried_hits_lem : (s : List ℕ) (base columns : ℕ) (t : Tried) (r : Trial) → TriedIs s columns t r → tried_hits s base r ≡ found_hits (length s) base (listed t)
-tried_hits_lem s base columns t (Hit x) e = rw e.is
-tried_hits_lem s base columns t Miss e = rw e
+tried_are : (s : List ℕ) (base columns : ℕ) (t : Tried) (r : Option Find) → TriedIs s columns t r → tried_hits s base r ≡ found_hits (length s) base (listed t)
+tried_are s base columns t (Some x) e = rw e.is
+tried_are s base columns t None e = rw e
 
 headless_is : (s : List ℕ) (base columns : ℕ)
     → found_hits (length s) base (listed (columns_only_in s columns)) ++ found_hits (length s) base (listed (first_col_missing_in s columns)) ≡ found_hits (length s) base (headless_found s columns)
@@ -131,37 +124,32 @@ unfolding headless_found
 headless_is s base columns = sym (hits_append (length s) base (listed (columns_only_in s columns)) (listed (first_col_missing_in s columns)))
 
 -- ColumnsOnly has all columns
-pub whole_is : (s : List ℕ) (columns : ℕ) (style : Style) → style ≡ columns_only → (r : Trial) → TriedIs s (columns + style.lost) (headless_in style s 0 columns) r
-    → TriedIs s columns (columns_only_in s columns) r
-whole_is s columns style e r t = let n : columns + 0 ≡ columns = omega arith in rw (e, n) at t
+pub whole_is : (s : List ℕ) (columns : ℕ) (r : Option Find) → TriedIs s (columns + 0) (headless_in columns_only s 0 columns) r → TriedIs s columns (columns_only_in s columns) r
+whole_is s columns r t = let n : columns + 0 ≡ columns = omega arith in rw n at t
 
-module _ (s : List ℕ) (base columns room n : ℕ) (rows cols rows' cols' : List ℕ) (whole : Trial) (t : TriedIs s columns (columns_only_in s columns) whole) where
-  pub headless_over : Carves columns room n (tried_hits s base whole) false rows cols over rows' cols' → Carves columns room n (found_hits (length s) base (headless_found s columns)) false rows cols over rows' cols'
-  headless_over x =
+module _ (s : List ℕ) (base columns : ℕ) (s₀ s' : Sheet) (whole : Option Find) (t : TriedIs s columns (columns_only_in s columns) whole) where
+  abbrev both : List Hit
+  both = found_hits (length s) base (headless_found s columns)
+
+  abbrev first : List Hit
+  first = found_hits (length s) base (listed (columns_only_in s columns))
+
+  abbrev second : List Hit
+  second = found_hits (length s) base (listed (first_col_missing_in s columns))
+
+  pub headless_over : Adds (tried_hits s base whole) false s₀ over s' → Adds both false s₀ over s'
+  headless_over x = rw (headless_is s base columns) at (adds_stop first second s₀ s' false false (rw (tried_are s base columns (columns_only_in s columns) whole t) at x))
+
+  pub headless_both : (missing : Option Find) (r : Told) (s'' : Sheet) → TriedIs s columns (first_col_missing_in s columns) missing
+      → Adds (tried_hits s base whole) false s₀ (on s'.n) s' → Adds (tried_hits s base missing) false s' r s'' → Adds both false s₀ r s''
+  headless_both missing r s'' u x y =
       rw (headless_is s base columns) at
-      (carves_stop columns room n (found_hits (length s) base (listed (columns_only_in s columns))) (found_hits (length s) base (listed (first_col_missing_in s columns))) rows cols rows' cols' false false
-      (rw (tried_hits_lem s base columns (columns_only_in s columns) whole t) at x))
-
-  pub headless_both : (m : ℕ) (missing : Trial) (r : Told) (rows'' cols'' : List ℕ) → TriedIs s columns (first_col_missing_in s columns) missing
-      → Carves columns room n (tried_hits s base whole) false rows cols (on m) rows' cols' → Carves columns room m (tried_hits s base missing) false rows' cols' r rows'' cols''
-      → Carves columns room n (found_hits (length s) base (headless_found s columns)) false rows cols r rows'' cols''
-  headless_both m missing r rows'' cols'' u x y =
-      rw (headless_is s base columns) at
-      (carves_more columns room n (found_hits (length s) base (listed (columns_only_in s columns))) (found_hits (length s) base (listed (first_col_missing_in s columns))) rows cols rows' cols' m false r rows'' cols''
-      (rw (tried_hits_lem s base columns (columns_only_in s columns) whole t) at x) (rw (tried_hits_lem s base columns (first_col_missing_in s columns) missing u) at y))
-
--- the room that is left behind what was carved
-pub ready_on : (len base columns room n m rows cols rows' cols' : ℕ) → Ready len base columns room n rows cols → rows' ≡ rows → cols' ≡ cols → m ≤ room
-    → Ready len base columns room m rows' cols'
-ready_on len base columns room n m rows cols rows' cols' r er ec h =
-    rw (er, ec) (record { small = r.small; near = r.near; some = r.some; few = r.few; room_is = r.room_is; fits = h })
-
-pub carved_fits : (width room n m : ℕ) (hits : List RowHit) (rows cols rows' cols' : List ℕ) → Carves width room n hits false rows cols (on m) rows' cols' → m ≤ room
-carved_fits width room n m hits rows cols rows' cols' x = let t = told_on room n (length hits) m false x.answer in omega (arith, t.0, t.1)
+      (adds_more first second s₀ s' s'' false r
+      (rw (tried_are s base columns (columns_only_in s columns) whole t) at x) (rw (tried_are s base columns (first_col_missing_in s columns) missing u) at y))
 
 -- ---- all of them
 module _ (s : List ℕ) (base columns : ℕ) where
-  abbrev found : List RowHit
+  abbrev found : List Hit
   found = found_hits (length s) base (normal_found s columns)
 
   found_some : 0 < length found → found ≡ found_hits (length s) base (modes_found s columns)
@@ -181,16 +169,18 @@ module _ (s : List ℕ) (base columns : ℕ) where
       go [] z = refl
       go (x ∷ xs) z = absurd (omega arith)
 
-  module _ (room : ℕ) (rows cols rows' cols' : List ℕ) where
-    pub modes_over : Carves columns room 0 found false rows cols over rows' cols' → Carves columns room 0 (found_hits (length s) base (modes_found s columns)) false rows cols over rows' cols'
-    modes_over x = rw (found_some (omega (arith, told_over room 0 (length found) false x.answer))) at x
+  module _ (s₀ s' : Sheet) (r : Ready (length s) base s₀) (empty : s₀.n ≡ 0) where
+    pub modes_over : Adds found false s₀ over s' → Adds (found_hits (length s) base (modes_found s columns)) false s₀ over s'
+    modes_over x = rw (found_some (omega (arith, told_over s₀.room s₀.n (length found) false x.carves.answer, r.fits, empty))) at x
 
-    module _ (n : ℕ) (x : Carves columns room 0 found false rows cols (on n) rows' cols') where
-      pub modes_some : 0 < n → Carves columns room 0 (found_hits (length s) base (modes_found s columns)) false rows cols (on n) rows' cols'
-      modes_some h = rw (found_some (omega (arith, (told_on room 0 (length found) n false x.answer).1))) at x
+    module _ (x : Adds found false s₀ (on s'.n) s') where
+      pub modes_some : 0 < s'.n → Adds (found_hits (length s) base (modes_found s columns)) false s₀ (on s'.n) s'
+      modes_some h = rw (found_some (omega (arith, (told_on s₀.room s₀.n (length found) s'.n false x.carves.answer).1, empty))) at x
 
-      pub modes_none : (r : Told) (rows'' cols'' : List ℕ) → n ≡ 0 → Carves columns room n (found_hits (length s) base (headless_found s columns)) false rows' cols' r rows'' cols''
-          → Carves columns room 0 (found_hits (length s) base (modes_found s columns)) false rows cols r rows'' cols''
-      modes_none r rows'' cols'' z y =
-          let none = found_none (omega (arith, (told_on room 0 (length found) n false x.answer).1)) in
-          rw none at (carves_more columns room 0 found (found_hits (length s) base (headless_found s columns)) rows cols rows' cols' n false r rows'' cols'' x y)
+      pub modes_none : (t : Told) (s'' : Sheet) → s₀.width ≡ columns → s'.n ≡ 0 → Adds (found_hits (length s) base (headless_found s s'.width)) false s' t s''
+          → Adds (found_hits (length s) base (modes_found s columns)) false s₀ t s''
+      modes_none t s'' w z y =
+          let none = found_none (omega (arith, (told_on s₀.room s₀.n (length found) s'.n false x.carves.answer).1)) in
+          let wide : s'.width ≡ columns = x.width ∙ w in
+          let same : found_hits (length s) base (headless_found s s'.width) ≡ found_hits (length s) base (headless_found s columns) = rw wide in
+          rw none at (adds_more found (found_hits (length s) base (headless_found s columns)) s₀ s' s'' false t x (rw same at y))

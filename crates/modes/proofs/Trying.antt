@@ -1,5 +1,6 @@
 -- What each mode finds, from the types that were read.
 -- Assumes nothing.
+use Rattle.std.specs.Prelude.{Option, None, Some}
 use Prim.Native.Nat.{ℕ, ◌+◌, ◌-◌, ◌≤◌, ◌<◌}
 use mathlib.Core.Path.{◌≡◌, refl, sym, ap, ◌∙◌}
 use mathlib.Core.Bool.{Bool, ◌||◌}
@@ -12,15 +13,13 @@ use Rattle.modes.specs.Inner.{WholeIs, kinds_at, FindFits, HitIs, TriedIs}
 use Rattle.modes.specs.Modes.{normal, first_col_missing, row_of, headed_row, normal_with, normal_at, headless_row, headless_in, first_col_missing_in}
 use Rattle.modes.specs.declared.inner.Find.{Find}
 use Rattle.modes.specs.declared.inner.Style.{Style}
-use Rattle.modes.specs.declared.inner.Tried.{Tried as Trial}
 use Rattle.modes.proofs.Reading.{typed}
 use Rattle.record.proofs.Laws.{varint_lies}
 use Rattle.record.proofs.Numbers.{by_order}
 use Rattle.record.specs.Places.{types_padded, header_padded}
 use Rattle.record.specs.Varint.{varint_at}
 use Rattle.record.specs.declared.varint.Cursor.{Cursor}
-use Rattle.record.specs.declared.varint.Varint.{Varint}
-use Rattle.record.specs.declared.varint.Varint.TheVariants.{Value, Short}
+use Rattle.record.specs.Varint.{Varint}
 
 -- ---- a row
 -- its own mark may come from a number before the types, too
@@ -71,11 +70,11 @@ pub record NormalIs (s : List ℕ) (columns o : ℕ) (x : Found) : Type 0 where
   pub few : x.style.lost + length x.types ≤ columns
 
 module _ (s : List ℕ) (columns o : ℕ) where
-  pub normal_short : varint_at s o ≡ Short → normal_at s columns o ≡ miss
+  pub normal_short : varint_at s o ≡ None → normal_at s columns o ≡ miss
   unfolding normal_at
   normal_short e = rw e
 
-  module _ (h : ℕ) (c : Cursor) (e : varint_at s o ≡ Value h c) where
+  module _ (h : ℕ) (c : Cursor) (e : varint_at s o ≡ Some (h, c)) where
     pub normal_bad : (c.at - o ≤ h → h ≤ length s - o → ⊥) → normal_at s columns o ≡ miss
     unfolding normal_at
     normal_bad no' =
@@ -122,8 +121,8 @@ module _ (s : List ℕ) (columns o : ℕ) where
           record { at_is = cc; past = omega arith; inside = omega arith; few = rw (← is, ← types) (omega arith) }
 
       with_length : (v : Varint) → varint_at s o ≡ v → normal_with s columns o v ≡ hit x → NormalIs s columns o x
-      with_length Short v e = never e
-      with_length (Value h c) v e =
+      with_length None v e = never e
+      with_length (Some (h, c)) v e =
           let z = varint_lies s o h c v in
           by_order h (c.at - o)
           (λ low. never (simp (lt-leb (c.at - o) h low) at e))
@@ -181,11 +180,10 @@ module _ (s : List ℕ) (columns : ℕ) where
       unfolding first_col_missing_in
       missing_on = simp (le-leb 5 (length s) (omega arith), le-leb 2 columns some)
 
-      pub missing_is : (style : Style) → style ≡ first_col_missing → (r : Trial) → TriedIs s (columns - 1 + style.lost) (headless_in style s 4 (columns - 1)) r
-          → TriedIs s columns (first_col_missing_in s columns) r
-      missing_is style e r t =
+      pub missing_is : (r : Option Find) → TriedIs s (columns - 1 + 1) (headless_in first_col_missing s 4 (columns - 1)) r → TriedIs s columns (first_col_missing_in s columns) r
+      missing_is r t =
           let n : columns - 1 + 1 ≡ columns = omega arith in
-          rw missing_on (rw (e, n) at t)
+          rw missing_on (rw n at t)
 
   pub missing_found : (x : Found) → first_col_missing_in s columns ≡ hit x → x.style.lost + length x.types ≤ columns
   missing_found x e =

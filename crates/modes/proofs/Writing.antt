@@ -1,5 +1,6 @@
 -- The columns of a row, written one after the other: what is written, with what is left to write, comes to the whole.
 -- Assumes nothing.
+use Rattle.std.specs.Prelude.{false, Option, None, Ok, Some}
 use Prim.Native.Nat.{ℕ, zero, suc, ◌+◌, ◌-◌, ◌*◌, ◌≤◌, ◌<◌}
 use mathlib.Core.Path.{◌≡◌, refl, sym, ap, ◌∙◌}
 use mathlib.Core.List.{List, [], ◌∷◌, ◌++◌}
@@ -7,61 +8,70 @@ use native.Mathlib.Omega.{arith}
 use lib.ListN.{length, length-append}
 use lib.Seq.{sets}
 use Rattle.modes.specs.Found.{column_at, behind, columns_from, end_from, lost_columns, found_hit}
-use Rattle.modes.specs.Inner.{kinds_at, found_in, FindFits, Fitting, Ready}
+use Rattle.modes.specs.Inner.{kinds_at, found_in, FindFits, Ready}
 use Rattle.modes.specs.declared.inner.Find.{Find}
 use Rattle.modes.proofs.Bodies.{behind_inside, columns_nil, columns_cons, columns_count, end_nil, end_cons}
 use Rattle.modes.proofs.Reading.{kinds_step, kinds_cut, kinds_none}
 use Rattle.record.specs.Varint.{varint_at}
 use Rattle.record.specs.declared.varint.Cursor.{Cursor}
-use Rattle.record.specs.declared.varint.Varint.TheVariants.{Value, Short}
+use Rattle.sheet.proofs.Filling.{adds_filled, rows_filled}
 use Rattle.sheet.proofs.Laws.{column_words-length, columns_words-length, columns_append, sets_append, room_rows, room_cols, counted_fits}
 use Rattle.sheet.specs.Columns.{column_words, unused_words, room_of}
-use Rattle.sheet.specs.Limits.{words_per_entry}
+use Rattle.sheet.specs.Hits.{Hit, RowFilling, row_outcome, FillsRows}
+use Rattle.sheet.specs.Inner.{Empty, told_by, Adds, filled_to}
+use Rattle.sheet.specs.Limits.{words_per_row, words_per_entry}
 use Rattle.sheet.specs.Refusal.{first_held}
 use Rattle.sheet.specs.Sheet.{columns_words}
 use Rattle.sheet.specs.Slice.{counted_checks}
 use Rattle.sheet.specs.declared.columns.Column.{Column}
-use Rattle.sheet.specs.declared.refusal.Checked.TheVariants.{Passed}
+use Rattle.sheet.specs.declared.filled.Filled.{Filled}
+use Rattle.sheet.specs.declared.inner.Sheet.{Sheet}
 
--- the columns of ts are written from word k of cols₀ on, with bodies from `start` on; so many types are left
-pub record Written (s ts : List ℕ) (start : ℕ) (cols₀ : List ℕ) (k at end : ℕ) (cols : List ℕ) (to left : ℕ) : Type 0 where
-  pub lists : sets cols to (columns_words (columns_from (length s) end (kinds_at left s at))) ≡ sets cols₀ k (columns_words (columns_from (length s) start ts))
-  pub ends : end_from (length s) end (kinds_at left s at) ≡ end_from (length s) start ts
+-- the columns of ts are written from the word `first` of cols₀ on: k of them are there, and those of the other types, which stand from `at`
+-- on, are left
+pub record Written (s ts : List ℕ) (start : ℕ) (cols₀ : List ℕ) (first at end : ℕ) (cols : List ℕ) (k count : ℕ) : Type 0 where
+  pub lists : sets cols (first + words_per_entry * k) (columns_words (columns_from (length s) end (kinds_at (count - k) s at))) ≡ sets cols₀ first (columns_words (columns_from (length s) start ts))
+  pub ends : end_from (length s) end (kinds_at (count - k) s at) ≡ end_from (length s) start ts
   pub long : length cols ≡ length cols₀
   pub inside : end ≤ length s
-  pub room : to + words_per_entry * left ≤ length cols₀
 
-pub written_start : (s : List ℕ) (from count start : ℕ) (cols : List ℕ) (k : ℕ) → start ≤ length s → k + words_per_entry * count ≤ length cols
-    → Written s (kinds_at count s from) start cols k from start cols k count
-written_start s from count start cols k h r = record { lists = refl; ends = refl; long = refl; inside = h; room = r }
+pub written_start : (s : List ℕ) (from count start : ℕ) (cols : List ℕ) (first : ℕ) → start ≤ length s
+    → Written s (kinds_at count s from) start cols first from start cols 0 count
+written_start s from count start cols first h =
+    let to : first + words_per_entry * 0 ≡ first = omega arith in
+    let left : count - 0 ≡ count = omega arith in
+    record { lists = rw (to, left); ends = rw left; long = refl; inside = h }
 
-module _ (s ts : List ℕ) (start : ℕ) (cols₀ : List ℕ) (k at end : ℕ) (cols : List ℕ) (to left : ℕ) (w : Written s ts start cols₀ k at end cols to left) where
-  pub written_step : (l t : ℕ) (c : Cursor) (cols' : List ℕ) → left ≡ suc l → varint_at s at ≡ Value t c
-      → cols' ≡ sets cols to (column_words (column_at (length s) end t)) → length cols' ≡ length cols
-      → Written s ts start cols₀ k c.at (behind end (column_at (length s) end t)) cols' (to + words_per_entry) l
-  written_step l t c cols' n e is long =
-      let x = column_at (length s) end t in
-      let rest = kinds_at l s c.at in
-      let kinds : kinds_at left s at ≡ t ∷ rest = rw n (kinds_step l s at t c e) in
-      let lists = rw (kinds, columns_cons (length s) end t rest) at w.lists in
-      let m : to + words_per_entry ≡ to + length (column_words x) = rw (column_words-length x) in
-      record {
-        lists = rw (is, m) (sets_append cols to (column_words x) (columns_words (columns_from (length s) (behind end x) rest)) ∙ lists);
-        ends = sym (end_cons (length s) end t rest) ∙ rw kinds at w.ends;
-        long = long ∙ w.long;
-        inside = (behind_inside (length s) end t w.inside).1;
-        room = omega (arith, w.room);
-      }
+module _ (s ts : List ℕ) (start : ℕ) (cols₀ : List ℕ) (first at end : ℕ) (cols : List ℕ) (k count : ℕ) (w : Written s ts start cols₀ first at end cols k count) where
+  module _ (more : k < count) where
+    left : count - k ≡ suc (count - (k + 1))
+    left = omega arith
 
-  nothing_left : kinds_at left s at ≡ [] → (end ≡ end_from (length s) start ts) × (cols ≡ sets cols₀ k (columns_words (columns_from (length s) start ts)))
+    pub written_step : (t : ℕ) (c : Cursor) (cols' : List ℕ) → varint_at s at ≡ Some (t, c)
+        → cols' ≡ sets cols (first + words_per_entry * k) (column_words (column_at (length s) end t)) → length cols' ≡ length cols
+        → Written s ts start cols₀ first c.at (behind end (column_at (length s) end t)) cols' (k + 1) count
+    written_step t c cols' e is long =
+        let x = column_at (length s) end t in
+        let rest = kinds_at (count - (k + 1)) s c.at in
+        let kinds : kinds_at (count - k) s at ≡ t ∷ rest = rw left (kinds_step (count - (k + 1)) s at t c e) in
+        let lists = rw (kinds, columns_cons (length s) end t rest) at w.lists in
+        let to : first + words_per_entry * (k + 1) ≡ (first + words_per_entry * k) + length (column_words x) = omega (arith, column_words-length x) in
+        record {
+          lists = rw (is, to) (sets_append cols (first + words_per_entry * k) (column_words x) (columns_words (columns_from (length s) (behind end x) rest)) ∙ lists);
+          ends = sym (end_cons (length s) end t rest) ∙ rw kinds at w.ends;
+          long = long ∙ w.long;
+          inside = (behind_inside (length s) end t w.inside).1;
+        }
+
+  nothing_left : kinds_at (count - k) s at ≡ [] → (end ≡ end_from (length s) start ts) × (cols ≡ sets cols₀ first (columns_words (columns_from (length s) start ts)))
   nothing_left e = (sym (end_nil (length s) end) ∙ rw e at w.ends, rw (e, columns_nil (length s) end) at w.lists)
 
-  pub written_cut : (l : ℕ) → left ≡ suc l → varint_at s at ≡ Short
-      → (end ≡ end_from (length s) start ts) × (cols ≡ sets cols₀ k (columns_words (columns_from (length s) start ts)))
-  written_cut l n e = nothing_left (rw n (kinds_cut l s at e))
+  pub written_cut : k < count → varint_at s at ≡ None
+      → (end ≡ end_from (length s) start ts) × (cols ≡ sets cols₀ first (columns_words (columns_from (length s) start ts)))
+  written_cut more e = nothing_left (rw (left more) (kinds_cut (count - (k + 1)) s at e))
 
-  pub written_all : left ≡ 0 → (end ≡ end_from (length s) start ts) × (cols ≡ sets cols₀ k (columns_words (columns_from (length s) start ts)))
-  written_all z = nothing_left (rw z (kinds_none s at))
+  pub written_all : count ≤ k → (end ≡ end_from (length s) start ts) × (cols ≡ sets cols₀ first (columns_words (columns_from (length s) start ts)))
+  written_all done = let z : count - k ≡ 0 = omega arith in nothing_left (rw z (kinds_none s at))
 
 -- ---- the group of a row
 pub lost_length : (n : ℕ) → length (lost_columns n) ≡ n
@@ -90,14 +100,30 @@ few_columns s base width x f =
 
 -- ---- room for a row
 -- behind the checks nothing is written yet
-pub ready : (len base columns room rows cols : ℕ) → first_held (counted_checks len columns base) ≡ Passed → room ≡ room_of rows cols columns
-    → Ready len base columns room 0 rows cols
-ready len base columns room rows cols e is =
+pub ready : (len base : ℕ) (rows cols : List ℕ) (columns : ℕ) (sheet : Sheet) → first_held (counted_checks len columns base) ≡ (Ok tt) → Empty rows cols columns sheet → Ready len base sheet
+ready len base rows cols columns sheet e x =
     let f = counted_fits len columns base e in
-    record { small = f.small; near = f.near; some = f.some; few = f.few; room_is = is; fits = omega arith }
+    record {
+      small = f.small;
+      near = f.near;
+      some = rw x.width_is f.some;
+      few = rw x.width_is f.few;
+      room_most = rw (x.width_is, x.rows_are, x.cols_are, x.room_is) (omega arith);
+      fits = omega (arith, x.n_is);
+    }
 
-pub fitting : (s : List ℕ) (base columns room n rows cols : ℕ) (x : Find) → Ready (length s) base columns room n rows cols → FindFits s columns x → n < room
-    → Fitting s x base columns n rows cols
-fitting s base columns room n rows cols x r f h =
-    let below = rw r.room_is at h in
-    record { small = r.small; near = r.near; fits = f; row = room_rows rows cols columns n below; group = room_cols rows cols columns n below }
+module _ (len base : ℕ) (sheet : Sheet) (r : Ready len base sheet) (h : sheet.n < sheet.room) where
+  below : sheet.n < room_of (length sheet.rows.now) (length sheet.cols.now) sheet.width
+  below = omega (arith, r.room_most)
+
+  pub row_fits : sheet.n * words_per_row + words_per_row ≤ length sheet.rows.now
+  row_fits = room_rows (length sheet.rows.now) (length sheet.cols.now) sheet.width sheet.n below
+
+  pub group_fits : sheet.n * (words_per_entry * sheet.width) + words_per_entry * sheet.width ≤ length sheet.cols.now
+  group_fits = room_cols (length sheet.rows.now) (length sheet.cols.now) sheet.width sheet.n below
+
+-- ---- a call
+-- THE LAW: what a call leaves whose checks have passed, by what was added to its sheet
+pub carved : (a : RowFilling) (hits : List Hit) (s₀ s : Sheet) (added : Option Unit) (filled : Filled) (rows cols : List ℕ) → a.checked ≡ (Ok tt) → Empty a.rows a.cols a.width s₀ → hits ≡ a.hits
+    → Adds hits false s₀ (told_by added s) s → filled ≡ filled_to s added → rows ≡ s.rows.now → cols ≡ s.cols.now → FillsRows a (row_outcome (Ok filled) rows cols)
+carved a hits s₀ s added filled rows cols e x h y f r c = rw (f, r, c) (rows_filled a _ e (adds_filled a.rows a.cols a.width a.hits s₀ s added x (rw h at y)))

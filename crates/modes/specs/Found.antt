@@ -1,17 +1,14 @@
 -- Rows that are read with no more to go by than a count of columns: types, their bodies, and the words that they make (rules 12.1 to
 -- 12.3).
 -- Assumes nothing.
-use Rattle.std.specs.Prelude.{ℕ, zero, suc, ◌+◌, ◌-◌, Bool, cond, List, [], ◌∷◌, ◌++◌, ltb, leb}
+use Rattle.std.specs.Prelude.{ℕ, zero, suc, ◌+◌, ◌-◌, Bool, cond, List, [], ◌∷◌, ◌++◌, ltb, leb, None, Some}
 use Rattle.modes.specs.declared.inner.Style.{Style}
 use Rattle.record.specs.Value.{body_length}
 use Rattle.record.specs.Varint.{varint_at}
-use Rattle.record.specs.declared.record.Length.{Length}
-use Rattle.record.specs.declared.record.Length.TheVariants.{Bytes, Reserved}
-use Rattle.record.specs.declared.varint.Varint.{Varint}
-use Rattle.record.specs.declared.varint.Varint.TheVariants.{Value, Short}
+use Rattle.record.specs.Value.{Length}
+use Rattle.record.specs.Varint.{Varint}
 use Rattle.sheet.specs.declared.columns.Column.{Column}
 use Rattle.sheet.specs.declared.columns.Column.TheVariants.{Body, Unfit, Lost, Unused}
-use Rattle.sheet.specs.declared.row.RowId.TheVariants.{Absent}
 use Rattle.sheet.specs.Hits.{Hit}
 
 -- ---- types, and where reading them ended; or one of them runs off the slice
@@ -24,8 +21,8 @@ type_before t cut = cut
 type_before t (read ts end) = read (t ∷ ts) end
 
 abbrev pub type_on : Varint → (ℕ → Types) → Types
-type_on (Value t c) rest = type_before t (rest c.at)
-type_on Short rest = cut
+type_on (Some (t, c)) rest = type_before t (rest c.at)
+type_on None rest = cut
 
 -- Rule 12.1: so many types at the most, from `at` on, while the position is below stop; the last may run past it
 unfoldable pub types_from : ℕ → List ℕ → ℕ → ℕ → Types
@@ -36,8 +33,8 @@ types_from (suc most) s at stop = cond (ltb at stop) (type_on (varint_at s at) (
 
 -- Rule 12.2: a body of type t at `at`; one that does not fit, as none of type 10 or 11 does, has no place
 abbrev pub column_of : ℕ → ℕ → ℕ → Length → Column
-column_of len at t (Bytes n) = cond (leb (at + n) len) (Body t at n) (Unfit t)
-column_of len at t Reserved = Unfit t
+column_of len at t (Some n) = cond (leb (at + n) len) (Body t at n) (Unfit t)
+column_of len at t None = Unfit t
 
 unfoldable pub column_at : ℕ → ℕ → ℕ → Column
 column_at len at t = column_of len at t (body_length t)
@@ -88,7 +85,7 @@ found_hit len base x =
           record {
             offset = base + x.at;
             consumed = end_of len x - x.at;
-            id = Absent;
+            id = None;
             source = x.style.source;
             confidence = x.style.confidence;
             mode = x.style.mode;

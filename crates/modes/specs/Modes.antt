@@ -1,14 +1,13 @@
 -- The three modes, and the call that tries them (rules 12.4 to 12.8).
 -- Assumes nothing.
-use Rattle.std.specs.Prelude.{ℕ, zero, suc, ◌+◌, ◌-◌, Bool, cond, ◌&&◌, List, [], ◌∷◌, ◌++◌, leb, length}
+use Rattle.std.specs.Prelude.{ℕ, zero, suc, ◌+◌, ◌-◌, Bool, cond, ◌&&◌, List, [], ◌∷◌, ◌++◌, leb, length, None, Some}
 use Rattle.std.specs.Float.{binary32}
 use Rattle.std.specs.Float.Ieee.{of_bits}
 use Rattle.modes.specs.Found.{Types, cut, read, types_from, Found, Tried, miss, hit, end_of, found_hits}
 use Rattle.modes.specs.declared.inner.Style.{Style}
 use Rattle.record.specs.Places.{types_padded, header_padded}
 use Rattle.record.specs.Varint.{varint_at}
-use Rattle.record.specs.declared.varint.Varint.{Varint}
-use Rattle.record.specs.declared.varint.Varint.TheVariants.{Value, Short}
+use Rattle.record.specs.Varint.{Varint}
 use Rattle.sheet.specs.Hits.{RowFilling}
 use Rattle.sheet.specs.Refusal.{first_held}
 use Rattle.sheet.specs.Slice.{counted_checks}
@@ -43,11 +42,11 @@ headed_row o h p cut = miss
 headed_row o h p (read ts end) = row_of normal o (o + h) p ts
 
 abbrev pub normal_with : List ℕ → ℕ → ℕ → Varint → Tried
-normal_with s columns o (Value h c) =
+normal_with s columns o (Some (h, c)) =
     cond (length_fits (length s) o (c.at - o) h)
     (headed_row o h (header_padded columns s c (o + h)) (types_from columns s c.at (o + h)))
     miss
-normal_with s columns o Short = miss
+normal_with s columns o None = miss
 
 unfoldable pub normal_at : List ℕ → ℕ → ℕ → Tried
 normal_at s columns o = normal_with s columns o (varint_at s o)

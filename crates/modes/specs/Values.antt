@@ -1,19 +1,18 @@
 -- The values of a row (rule 12.9): what its columns read as, by the places of its bodies.
 -- Assumes nothing.
-use Rattle.std.specs.Prelude.{ℕ, ◌+◌, cond, List, [], ◌∷◌, ◌++◌, map, leb, length, replicate}
+use Rattle.std.specs.Prelude.{ℕ, ◌+◌, cond, List, [], ◌∷◌, ◌++◌, map, leb, length, replicate, None, Some}
 use Rattle.modes.specs.Found.{Found}
 use Rattle.modes.specs.Modes.{modes_found, modes_filling}
 use Rattle.record.specs.Value.{body_length, value_of}
-use Rattle.record.specs.declared.record.Length.{Length}
-use Rattle.record.specs.declared.record.Length.TheVariants.{Bytes, Reserved}
+use Rattle.record.specs.Value.{Length}
 use Rattle.record.specs.declared.record.Value.{Value}
 use Rattle.record.specs.declared.record.Value.TheVariants.{Null}
 use Rattle.sheet.specs.Values.{written_values}
 
 -- Rule 12.9: the value of type t at `at`, if its body fits; if not, NULL, and the next one stands at the same place
 abbrev pub value_on : List ℕ → ℕ → ℕ → (ℕ → List Value) → Length → List Value
-value_on s at t rest (Bytes n) = cond (leb (at + n) (length s)) (value_of t s at n ∷ rest (at + n)) (Null ∷ rest at)
-value_on s at t rest Reserved = Null ∷ rest at
+value_on s at t rest (Some n) = cond (leb (at + n) (length s)) (value_of t s at n ∷ rest (at + n)) (Null ∷ rest at)
+value_on s at t rest None = Null ∷ rest at
 
 unfoldable pub values_from : List ℕ → ℕ → List ℕ → List Value
 values_from s at [] = []

@@ -1,5 +1,6 @@
 -- A row that was rebuilt: the header that it comes from.
 -- Assumes nothing.
+use Rattle.std.specs.Prelude.{None, Some}
 use Prim.Native.Nat.{ℕ, zero, suc, ◌+◌, ◌-◌, ◌≤◌}
 use mathlib.Core.Path.{◌≡◌, refl, sym, ap, ◌∙◌}
 use mathlib.Core.Bool.{Bool, true, false, cond}
@@ -22,8 +23,7 @@ use Rattle.record.proofs.Laws.{varint_lies}
 use Rattle.record.proofs.Numbers.{by_order}
 use Rattle.record.specs.Places.{types_padded}
 use Rattle.record.specs.Varint.{varint_at}
-use Rattle.record.specs.declared.varint.Varint.{Varint}
-use Rattle.record.specs.declared.varint.Varint.TheVariants.{Value, Short}
+use Rattle.record.specs.Varint.{Varint}
 use Rattle.attempt.proofs.Laws.{never}
 
 -- ---- the bytes of its types
@@ -49,8 +49,8 @@ module _ (d : List ℕ) (v : ℕ) (start : v ≤ length d) where
   exact_some n t e = go (varint_at d v) refl
     where
       go : (r : Varint) → varint_at d v ≡ r → 1 ≤ t
-      go Short r = none_taken (rw (types_cut n d v (v + suc most_type_bytes) (omega arith) r) at e)
-      go (Value k c) r =
+      go None r = none_taken (rw (types_cut n d v (v + suc most_type_bytes) (omega arith) r) at e)
+      go (Some (k, c)) r =
           let z = varint_lies d v k c r in
           let f = taken_from_lem d v (types_from n d c.at (v + suc most_type_bytes)) t (rw (types_step n d v (v + suc most_type_bytes) k c (omega arith) r) at e) in
           omega (arith, z.past, f.1, (stops d (v + suc most_type_bytes) n c.at z.inside).counts)

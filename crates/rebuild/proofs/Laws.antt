@@ -1,6 +1,7 @@
 -- What other crates rest on. A header whose length is made up: the code's form, a header of so many bytes, joined to an attempt on the bytes of that
 -- length.
 -- Assumes nothing.
+use Rattle.std.specs.Prelude.{Some, Result, Ok, Err}
 use Prim.Native.Nat.{ℕ, ◌+◌, ◌-◌, ◌*◌, ◌/◌, ◌%◌, ◌≤◌, ◌<◌}
 use mathlib.Core.Path.{◌≡◌, refl, sym, ap, ◌∙◌}
 use mathlib.Core.Bool.{Bool, true, false, cond}
@@ -14,8 +15,8 @@ use Rattle.attempt.proofs.Shifts.{back_moved, moved_at, given, moved_tried, long
 use Rattle.attempt.specs.Attempt.{Tried, miss, hit, kinds, most_bytes}
 use Rattle.attempt.specs.Inner.{columns_at, find_types, Judged}
 use Rattle.attempt.specs.Moved.{moved, back}
-use Rattle.attempt.specs.declared.inner.Verdict.{Verdict}
-use Rattle.attempt.specs.declared.inner.Verdict.TheVariants.{Hit, Miss}
+use Rattle.attempt.specs.declared.inner.Find.{Find}
+use Rattle.attempt.specs.declared.inner.Miss.{Miss}
 use Rattle.rebuild.specs.Header.{one_byte_types, most_type_bytes, own_bytes, length_bytes, no_header, takes, guessed, without, rebuilt_with, rebuilt}
 use Rattle.rebuild.specs.Inner.{found_from, short_by, RebuiltIs}
 use Rattle.rebuild.specs.declared.rebuilding.Rebuilding.{Rebuilding}
@@ -26,7 +27,6 @@ use Rattle.record.proofs.Shifts.{part_rest}
 use Rattle.record.proofs.Widths.{width_least}
 use Rattle.record.specs.Places.{types_padded}
 use Rattle.record.specs.Varint.{width_of, varint_at}
-use Rattle.record.specs.declared.varint.Varint.TheVariants.{Value}
 use Rattle.sheet.specs.Limits.{most_header}
 
 -- ---- the bytes of a length
@@ -38,13 +38,13 @@ own_length t = go (leb t one_byte_types)
     go false = refl
 
 -- THE LAW: they read as the bytes of the types and their own, in the shortest form
-pub own_read : (t : ℕ) (l : List ℕ) → t ≤ most_type_bytes → varint_at (length_bytes t ++ l) 0 ≡ Value (length (length_bytes t) + t) (record { at = length (length_bytes t); padded = false })
+pub own_read : (t : ℕ) (l : List ℕ) → t ≤ most_type_bytes → varint_at (length_bytes t ++ l) 0 ≡ Some ((length (length_bytes t) + t), (record { at = length (length_bytes t); padded = false }))
 own_read t l few = by_order one_byte_types t two one
   where
-    one : t ≤ one_byte_types → varint_at (length_bytes t ++ l) 0 ≡ Value (length (length_bytes t) + t) (record { at = length (length_bytes t); padded = false })
+    one : t ≤ one_byte_types → varint_at (length_bytes t ++ l) 0 ≡ Some ((length (length_bytes t) + t), (record { at = length (length_bytes t); padded = false }))
     one le = let e : t + 1 ≡ 1 + t = omega arith in rw (le-leb t one_byte_types le) (varint_low ((t + 1) ∷ l) 0 (omega arith) (omega arith) ∙ rw e)
 
-    two : one_byte_types < t → varint_at (length_bytes t ++ l) 0 ≡ Value (length (length_bytes t) + t) (record { at = length (length_bytes t); padded = false })
+    two : one_byte_types < t → varint_at (length_bytes t ++ l) 0 ≡ Some ((length (length_bytes t) + t), (record { at = length (length_bytes t); padded = false }))
     two gt =
         let e : (128 + (t + 2) / 128) % 128 * 128 + (t + 2) % 128 ≡ 2 + t = omega arith in
         let short = le-ltb (width_of (2 + t)) 2 (width_least (2 + t) 1 (omega arith) (omega arith)) in
@@ -107,16 +107,16 @@ module _ (d hints : List ℕ) (v : ℕ) (start : v ≤ length d) (t : ℕ) (some
       rebuilt_miss e = rebuilt_with_lem ∙ (behind_is h ∙ rw e)
 
       -- THE LAW: what such a header tells, and with it the made_up bytes
-      pub rebuilt_told : (verdict : Verdict) → Judged d hints v t v (types_padded t d v (v + t)) verdict → RebuiltIs how d hints v (short_by (own_bytes t) verdict)
-      rebuilt_told (Miss read) m = rebuilt_miss m.misses
-      rebuilt_told (Hit x) f = go (leb (own_bytes t + x.consumed) most_bytes) refl
+      pub rebuilt_told : (verdict : Result Find Miss) → Judged d hints v t v (types_padded t d v (v + t)) verdict → RebuiltIs how d hints v (short_by (own_bytes t) verdict)
+      rebuilt_told (Err read) m = rebuilt_miss m.misses
+      rebuilt_told (Ok x) f = go (leb (own_bytes t + x.consumed) most_bytes) refl
         where
           seen : rebuilt how d hints v ≡ short_only (own_bytes t) (hit (found_from d v x))
           seen =
               let ts = kinds (find_types d v x) in
               rebuilt_with_lem ∙ (behind_is h ∙ rw (f.hits, ← moved_at v x.head ts, back_moved v (columns_at x.head ts)))
 
-          go : (b : Bool) → leb (own_bytes t + x.consumed) most_bytes ≡ b → RebuiltIs how d hints v (short_by (own_bytes t) (Hit x))
+          go : (b : Bool) → leb (own_bytes t + x.consumed) most_bytes ≡ b → RebuiltIs how d hints v (short_by (own_bytes t) (Ok x))
           go true e = rw e (record { is = seen ∙ rw e; tried = given d hints v t; places = _; found = f })
           go false e = rw e (seen ∙ rw e)
 

@@ -1,5 +1,6 @@
 -- The two modes that rebuild beside each other, and what the exact mode looks at.
 -- Assumes nothing.
+use Rattle.std.specs.Prelude.{None, Some}
 use Prim.Native.Nat.{ℕ, zero, suc, ◌+◌, ◌-◌, ◌≤◌, ◌<◌}
 use mathlib.Core.Path.{◌≡◌, refl, sym, ap, ◌∙◌}
 use mathlib.Core.Bool.{false}
@@ -22,8 +23,7 @@ use Rattle.record.proofs.Laws.{varint_lies, varint_low}
 use Rattle.record.proofs.Numbers.{by_order}
 use Rattle.record.specs.Places.{AgreeAt, types_padded}
 use Rattle.record.specs.Varint.{varint_at}
-use Rattle.record.specs.declared.varint.Varint.{Varint}
-use Rattle.record.specs.declared.varint.Varint.TheVariants.{Value, Short}
+use Rattle.record.specs.Varint.{Varint}
 use Rattle.sheet.specs.Limits.{most_columns}
 
 abbrev stop_at : ℕ → ℕ
@@ -54,9 +54,9 @@ module _ (d : List ℕ) (v n : ℕ) (few : n ≤ most_columns) (low : (p : ℕ) 
       (one_off f (at + 1) (omega arith) (omega arith) (omega arith) (omega arith)))
       (λ end. rw (types_cut f d at (stop_at v) (omega arith) (nothing (varint_at d at) refl end)))
     where
-      nothing : (r : Varint) → varint_at d at ≡ r → length d ≤ at → varint_at d at ≡ Short
-      nothing Short r end = r
-      nothing (Value t c) r end = let z = varint_lies d at t c r in absurd (omega (arith, z.past, z.inside))
+      nothing : (r : Varint) → varint_at d at ≡ r → length d ≤ at → varint_at d at ≡ None
+      nothing None r end = r
+      nothing (Some (t, c)) r end = let z = varint_lies d at t c r in absurd (omega (arith, z.past, z.inside))
 
 -- THE LAW: where every type takes one byte, the exact and the one-byte mode give the same row at that start
 pub same_row : (d hints : List ℕ) (v : ℕ) → v ≤ length d → 1 ≤ length hints → length hints ≤ most_columns

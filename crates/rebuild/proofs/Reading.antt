@@ -1,5 +1,6 @@
 -- As many types as columns, one after the other: those that were read, with those to come, are all that the exact mode reads.
 -- Assumes nothing.
+use Rattle.std.specs.Prelude.{None, Some}
 use Prim.Native.Nat.{ℕ, zero, suc, ◌+◌, ◌-◌, ◌≤◌, ◌<◌, min}
 use mathlib.Core.Path.{◌≡◌, refl, ap, ◌∙◌}
 use mathlib.Core.Bool.{Bool, true, false, ◌||◌}
@@ -20,7 +21,6 @@ use Rattle.rebuild.proofs.From.{guess_small, header_is}
 use Rattle.rebuild.proofs.Laws.{rebuilt_none, rebuilt_miss}
 use Rattle.record.specs.Varint.{varint_at}
 use Rattle.record.specs.declared.varint.Cursor.{Cursor}
-use Rattle.record.specs.declared.varint.Varint.TheVariants.{Value, Short}
 use Rattle.sheet.specs.Limits.{most_columns}
 
 -- ---- the bytes of types, by whether they are whole and where they end
@@ -66,7 +66,7 @@ module _ (d hints : List ℕ) (v : ℕ) where
       }
 
   module _ (at count matched total : ℕ) (mark : Bool) (r : Reading at count matched total mark) where
-    pub reading_step : (t : ℕ) (c : Cursor) → count < length hints → at ≤ v + most_type_bytes → varint_at d at ≡ Value t c
+    pub reading_step : (t : ℕ) (c : Cursor) → count < length hints → at ≤ v + most_type_bytes → varint_at d at ≡ Some (t, c)
         → Reading c.at (count + 1) (matched + suits_at hints count t) (min too_long (total + body_size t)) (mark || c.padded)
     reading_step t c more near e = go r.left r.sum r.along r.marks
       where
@@ -82,7 +82,7 @@ module _ (d hints : List ℕ) (v : ℕ) where
             }
 
     -- a type runs off
-    pub reading_cut : count < length hints → at ≤ v + most_type_bytes → varint_at d at ≡ Short → rebuilt Exact d hints v ≡ miss
+    pub reading_cut : count < length hints → at ≤ v + most_type_bytes → varint_at d at ≡ None → rebuilt Exact d hints v ≡ miss
     unfolding guessed
     reading_cut more near e = rebuilt_none Exact d hints v (go r.left r.sum r.along)
       where

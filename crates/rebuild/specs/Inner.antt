@@ -1,17 +1,13 @@
 -- What the code carries between its own functions; nothing that a caller has to believe.
 -- Assumes nothing.
-use Rattle.std.specs.Prelude.{ℕ, suc, ◌+◌, ◌<◌, ◌≤◌, ◌≡◌, Bool, cond, List, leb, length}
+use Rattle.std.specs.Prelude.{ℕ, suc, ◌+◌, ◌<◌, ◌≤◌, ◌≡◌, Bool, cond, List, leb, length, Option, Some, None, Result, Ok, Err}
 use Rattle.attempt.specs.Attempt.{Found, Tried, miss, hit, kinds, most_bytes}
 use Rattle.attempt.specs.Inner.{columns_at, find_types, HitIs, WholeIs}
 use Rattle.attempt.specs.declared.inner.Find.{Find}
-use Rattle.attempt.specs.declared.inner.Verdict.{Verdict}
-use Rattle.attempt.specs.declared.inner.Verdict.TheVariants.{Hit, Miss}
+use Rattle.attempt.specs.declared.inner.Miss.{Miss}
+use Rattle.attempt.specs.declared.inner.Walk.{Walk}
 use Rattle.rebuild.specs.Header.{most_type_bytes, exact_types, rebuilt}
 use Rattle.record.specs.Places.{types_padded}
-use Rattle.rebuild.specs.declared.inner.columns.Columns.{Columns}
-use Rattle.rebuild.specs.declared.inner.columns.Columns.TheVariants.{Take, Nothing as NoColumns}
-use Rattle.rebuild.specs.declared.inner.Rebuilt.{Rebuilt}
-use Rattle.rebuild.specs.declared.inner.Rebuilt.TheVariants.{Found as Row, Nothing}
 use Rattle.rebuild.specs.declared.rebuilding.Rebuilding.{Rebuilding}
 use Rattle.rebuild.specs.declared.rebuilding.Rebuilding.TheVariants.{Exact}
 
@@ -26,9 +22,9 @@ pub record Taken (d hints : List ℕ) (v matched total end : ℕ) (padded : Bool
   pub past : v < end
   pub near : end ≤ v + most_type_bytes
 
-abbrev pub ColumnsIs : List ℕ → List ℕ → ℕ → Columns → Type 0
-ColumnsIs d hints v (Take matched total end padded) = Taken d hints v matched total end padded
-ColumnsIs d hints v NoColumns = rebuilt Exact d hints v ≡ miss
+abbrev pub ColumnsIs : List ℕ → List ℕ → ℕ → Option Walk → Type 0
+ColumnsIs d hints v (Some w) = (w.count ≡ length hints) × Taken d hints v w.matched w.total w.end w.padded
+ColumnsIs d hints v None = rebuilt Exact d hints v ≡ miss
 
 -- a row that was found at v, said of the bytes from v on
 abbrev pub found_from : List ℕ → ℕ → Find → Found
@@ -36,9 +32,9 @@ found_from d v x =
     record { consumed = x.consumed; matched = x.matched; columns = columns_at x.head (kinds (find_types d v x)); padded = x.padded }
 
 -- with its made-up bytes it takes no more than a row may
-abbrev pub short_by : ℕ → Verdict → Rebuilt
-short_by own (Hit x) = cond (leb (own + x.consumed) most_bytes) (Row x) Nothing
-short_by own (Miss read) = Nothing
+abbrev pub short_by : ℕ → Result Find Miss → Option Find
+short_by own (Ok x) = cond (leb (own + x.consumed) most_bytes) (Some x) None
+short_by own (Err x) = None
 
 -- the types that begin at v make a row
 pub record RebuiltFound (how : Rebuilding) (d hints : List ℕ) (v : ℕ) (x : Find) : Type 0 where
@@ -47,6 +43,6 @@ pub record RebuiltFound (how : Rebuilding) (d hints : List ℕ) (v : ℕ) (x : F
   pub places : List ℕ
   pub found : HitIs d hints v tried places x
 
-abbrev pub RebuiltIs : Rebuilding → List ℕ → List ℕ → ℕ → Rebuilt → Type 0
-RebuiltIs how d hints v (Row x) = RebuiltFound how d hints v x
-RebuiltIs how d hints v Nothing = rebuilt how d hints v ≡ miss
+abbrev pub RebuiltIs : Rebuilding → List ℕ → List ℕ → ℕ → Option Find → Type 0
+RebuiltIs how d hints v (Some x) = RebuiltFound how d hints v x
+RebuiltIs how d hints v None = rebuilt how d hints v ≡ miss

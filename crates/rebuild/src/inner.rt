@@ -1,4 +1,5 @@
-// What stands at a start of a payload, for our own crates: callers show by proof that it lies there, and that the table is not too wide.
+// What stands at a start of a payload, for our own crates: callers show by proof that it lies there, and that the table is not too wide;
+// each contract writes these bounds out, since a name for them would be longer, and the last differs.
 mod columns;
 
 ghost use Rattle.std.specs.Prelude.{◌≡◌, ◌≤◌, length};
@@ -7,16 +8,9 @@ ghost use Rattle.rebuild.specs.Inner.{short_by, RebuiltIs};
 ghost use Rattle.rebuild.specs.declared.rebuilding.Rebuilding.TheVariants.{OneByte, Exact};
 ghost use Rattle.sheet.specs.Limits.{largest_region, most_columns};
 
-use crate::inner::columns::{Columns, walk_columns};
+use crate::inner::columns::walk_columns;
 use crate::rebuilding::{ONE_BYTE_TYPES, Rebuilding};
-use attempt::inner::{Find, MOST_BYTES, Verdict, given_header, judge};
-
-// A row whose types begin at a start, if there is one.
-#[derive(Clone, Copy)]
-pub enum Rebuilt {
-    Found(Find),
-    Nothing,
-}
+use attempt::inner::{Find, MOST_BYTES, Miss, given_header, judge};
 
 // How many bytes a header's length has itself.
 fn own_bytes(types: usize) -> usize
@@ -27,27 +21,26 @@ fn own_bytes(types: usize) -> usize
 }
 
 // The bytes that are made up count among those that a row may take.
-fn short_by(own: usize, verdict: Verdict) -> Rebuilt
+fn short_by(own: usize, verdict: Result<Find, Miss>) -> Option<Find>
     requires { own ≤ 2 }
     ensures { result ≡ short_by own verdict }
 {
-    let Verdict::Hit(find) = verdict else {
-        return Rebuilt::Nothing;
-    };
+    let find = verdict.ok()?;
     if find.consumed > MOST_BYTES - own {
-        return Rebuilt::Nothing;
+        None
+    } else {
+        Some(find)
     }
-    Rebuilt::Found(find)
 }
 
-fn one_byte(payload: &[u8], hints: &[u8], v: usize) -> Rebuilt
+fn one_byte(payload: &[u8], hints: &[u8], v: usize) -> Option<Find>
     requires v_in_bounds { (v ≤ length payload.now) × (length payload.now ≤ largest_region) }
     requires hint_count_bound { (1 ≤ length hints.now) × (length hints.now ≤ one_byte_types) }
     ensures { RebuiltIs OneByte payload.now hints.now v result }
 {
     let types = hints.len();
     if types > payload.len() - v {
-        return Rebuilt::Nothing;
+        return None;
     }
     short_by(
         own_bytes(types),
@@ -55,34 +48,24 @@ fn one_byte(payload: &[u8], hints: &[u8], v: usize) -> Rebuilt
     )
 }
 
-fn exact(payload: &[u8], hints: &[u8], v: usize) -> Rebuilt
+fn exact(payload: &[u8], hints: &[u8], v: usize) -> Option<Find>
     requires v_in_bounds { (v ≤ length payload.now) × (length payload.now ≤ largest_region) }
     requires hint_count_bound { (1 ≤ length hints.now) × (length hints.now ≤ most_columns) }
     ensures { RebuiltIs Exact payload.now hints.now v result }
 {
-    let Columns::Take {
-        matched,
-        total,
-        end,
-        padded,
-    } = walk_columns(payload, hints, v)
-    else {
-        return Rebuilt::Nothing;
-    };
-    let types = end - v;
-    short_by(
-        own_bytes(types),
-        judge(payload, hints, v, types, v, matched, total, end, padded),
-    )
+    let walk = walk_columns(payload, hints, v)?;
+    let types = walk.end - v;
+    short_by(own_bytes(types), judge(payload, hints, v, types, v, walk))
 }
 
-pub fn rebuild(how: Rebuilding, payload: &[u8], hints: &[u8], v: usize) -> Rebuilt
+// The row whose types begin at a start, if there is one.
+pub fn rebuild(how: Rebuilding, payload: &[u8], hints: &[u8], v: usize) -> Option<Find>
     requires v_in_bounds { (v ≤ length payload.now) × (length payload.now ≤ largest_region) }
     requires hint_count_bound { (1 ≤ length hints.now) × (length hints.now ≤ most_by how) }
     ensures { RebuiltIs how payload.now hints.now v result }
 {
     match how {
-        Rebuilding::NoGuesses => Rebuilt::Nothing,
+        Rebuilding::NoGuesses => None,
         Rebuilding::OneByte => one_byte(payload, hints, v),
         Rebuilding::Exact => exact(payload, hints, v),
     }

@@ -7,14 +7,15 @@ use sheet::MOST_COLUMNS;
 // The most bytes of types behind a header length of one byte.
 pub const ONE_BYTE_TYPES: usize = 126;
 
-#[derive(Clone, Copy)]
+// Each by its code.
+#[derive(Clone, Copy, Debug, PartialEq, Eq)]
 pub enum Rebuilding {
     // No header is made up.
-    NoGuesses,
+    NoGuesses = 0,
     // Each type takes one byte, as the Rust has it.
-    OneByte,
+    OneByte = 1,
     // As many types as columns, of one to nine bytes each.
-    Exact,
+    Exact = 2,
 }
 
 impl Rebuilding {
@@ -23,9 +24,8 @@ impl Rebuilding {
         ensures { result ≡ most_by self }
     {
         match self {
-            Rebuilding::NoGuesses => MOST_COLUMNS,
+            Rebuilding::NoGuesses | Rebuilding::Exact => MOST_COLUMNS,
             Rebuilding::OneByte => ONE_BYTE_TYPES,
-            Rebuilding::Exact => MOST_COLUMNS,
         }
     }
 }

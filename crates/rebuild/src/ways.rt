@@ -1,38 +1,37 @@
 // The codes of the ways in which a header is rebuilt.
 ghost use Rattle.std.specs.Prelude.{◌≡◌};
-ghost use Rattle.rebuild.specs.Ways.{named as way_named, unnamed_number};
+ghost use Rattle.rebuild.specs.Ways.{Named, unnamed_number};
+ghost use Rattle.sheet.specs.Refusal.{refusal_number};
 
 use crate::rebuilding::Rebuilding;
-use sheet::refusal::{Refusal, number};
+use sheet::refusal::Refusal;
 
-#[derive(Clone, Copy)]
-pub enum Way {
-    By(Rebuilding),
-    Unnamed,
-}
+// A code that names no way.
+#[derive(Clone, Copy, Debug, PartialEq, Eq)]
+pub struct UnknownWay;
 
-pub fn named(code: u64) -> Way
-    ensures { result ≡ way_named code }
-{
-    if code == 0 {
-        return Way::By(Rebuilding::NoGuesses);
+impl TryFrom<u64> for Rebuilding {
+    type Error = UnknownWay;
+
+    ghost try_from_gives = { Named };
+
+    fn try_from(code: u64) -> Result<Self, UnknownWay> {
+        match code {
+            0 => Ok(Rebuilding::NoGuesses),
+            1 => Ok(Rebuilding::OneByte),
+            2 => Ok(Rebuilding::Exact),
+            _ => Err(UnknownWay),
+        }
     }
-    if code == 1 {
-        return Way::By(Rebuilding::OneByte);
-    }
-    if code == 2 {
-        return Way::By(Rebuilding::Exact);
-    }
-    Way::Unnamed
 }
 
 // A code that names nothing is refused behind a count of columns that no table has.
-pub fn unnamed(fits: bool) -> u64
-    ensures { result ≡ unnamed_number fits }
+pub fn unnamed(fits: bool) -> Refusal
+    ensures { refusal_number result ≡ unnamed_number fits }
 {
     if fits {
-        number(Refusal::Malformed)
+        Refusal::Malformed
     } else {
-        number(Refusal::ColumnCount)
+        Refusal::ColumnCount
     }
 }

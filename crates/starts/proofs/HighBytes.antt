@@ -1,5 +1,6 @@
 -- A byte from 128 up before the last byte of a made-up header: it begins or goes on in a type of two bytes at least, so there are too few types.
 -- Assumes nothing.
+use Rattle.std.specs.Prelude.{None, Some}
 use Prim.Native.Nat.{ℕ, zero, suc, ◌+◌, ◌-◌, ◌≤◌, ◌<◌}
 use mathlib.Core.Path.{◌≡◌, refl}
 use mathlib.Core.List.{List}
@@ -17,8 +18,7 @@ use Rattle.record.proofs.Laws.{varint_lies, varint_through}
 use Rattle.record.proofs.Numbers.{by_order}
 use Rattle.record.specs.Places.{stop_of}
 use Rattle.record.specs.Varint.{varint_at}
-use Rattle.record.specs.declared.varint.Varint.{Varint}
-use Rattle.record.specs.declared.varint.Varint.TheVariants.{Value, Short}
+use Rattle.record.specs.Varint.{Varint}
 
 module _ (s : List ℕ) where
   -- a byte from 128 up is no varint of its own
@@ -43,8 +43,8 @@ module _ (s : List ℕ) where
         by_order at stop (λ lt. go lt (varint_at s at) refl (λ k. count f k)) (λ ge. rw (types_end_lem (suc f) s at stop ge) (omega arith))
       where
         go : at < stop → (v : Varint) → varint_at s at ≡ v → ((k : ℕ) → length (kinds (types_from f s k stop)) ≤ stop - k) → length (kinds (types_from (suc f) s at stop)) ≤ stop - at
-        go lt (Value t c) v rest = rw (types_step f s at stop t c lt v) (omega (arith, (varint_lies s at t c v).past, rest c.at))
-        go lt Short v rest = rw (types_cut f s at stop lt v) (omega arith)
+        go lt (Some (t, c)) v rest = rw (types_step f s at stop t c lt v) (omega (arith, (varint_lies s at t c v).past, rest c.at))
+        go lt None v rest = rw (types_cut f s at stop lt v) (omega arith)
 
     -- THE LAW: and one of them takes two, if such a byte stands before the last
     module _ (p : ℕ) (before : p + 1 < stop) (inside : p + 1 < length s) (high : 128 ≤ get_or s p 0) where
@@ -53,7 +53,7 @@ module _ (s : List ℕ) where
       fewer (suc f) at le = go (varint_at s at) refl (λ k. fewer f k)
         where
           go : (v : Varint) → varint_at s at ≡ v → ((k : ℕ) → k ≤ p → length (kinds (types_from f s k stop)) < stop - k) → length (kinds (types_from (suc f) s at stop)) < stop - at
-          go (Value t c) v rest =
+          go (Some (t, c)) v rest =
               let past = (varint_lies s at t c v).past in
               let most = count f c.at in
               rw (types_step f s at stop t c (omega arith) v)
@@ -65,7 +65,7 @@ module _ (s : List ℕ) where
               let two : at + 2 ≤ c.at = rw v at (two_bytes at (omega arith) (rw e high)) in
               omega arith))
               (λ on. omega (arith, rest c.at on)))
-          go Short v rest = rw (types_cut f s at stop (omega arith) v) (omega arith)
+          go None v rest = rw (types_cut f s at stop (omega arith) v) (omega arith)
 
 -- THE LAW: so it dismisses each start from which it is among the bytes before the last
 pub high_miss : (d hints : List ℕ) (v p : ℕ) → 1 ≤ length hints → length hints ≤ one_byte_types → v ≤ p → p + 1 < v + length hints → p < length d → 128 ≤ get_or d p 0

@@ -5,7 +5,7 @@ ghost use Rattle.std.specs.Prelude.{◌≡◌, ◌+◌, ◌*◌, ◌≤◌, leng
 ghost use Rattle.rebuild.specs.Header.{one_byte_types, most_by};
 ghost use Rattle.sheet.specs.Limits.{largest_region, words_per_row};
 ghost use Rattle.starts.specs.Starts.{rebuilt_starts};
-ghost use Rattle.starts.specs.Inner.{is_cell, BehindHigh, Apart, Passes, StartIs};
+ghost use Rattle.starts.specs.Inner.{next_cell, BehindHigh, Apart, Passes, StartIs};
 
 use rebuild::rebuilding::Rebuilding;
 use sheet::WORDS_PER_ROW;
@@ -15,23 +15,20 @@ pub fn starts_of(len: usize, columns: usize) -> usize
     requires { (len ≤ largest_region) × (1 ≤ columns) }
     ensures { result ≡ rebuilt_starts len columns }
 {
-    let others = columns - 1;
-    if others > len {
-        return 0;
-    }
-    len + 1 - others
+    (len + 1).saturating_sub(columns - 1)
 }
 
-// Whether the row k is one of the first `cells` and has that offset.
-pub fn is_cell(rows: &[u64], k: usize, cells: usize, offset: u64) -> bool
+// Where the record of the next cell starts: the offset of the row k, if it is one of the first `cells`.
+#[tactic(auto, unfolding(crate::specs::Inner::next_cell))]
+pub fn next_cell(rows: &[u64], k: usize, cells: usize) -> Option<u64>
     requires { cells * words_per_row ≤ length rows.now }
-    ensures { result ≡ is_cell rows.now k cells offset }
+    ensures { result ≡ next_cell rows.now k cells }
 {
     if k >= cells {
-        return false;
+        return None;
     }
     // A row begins with its offset.
-    rows[k * WORDS_PER_ROW] == offset
+    Some(rows[k * WORDS_PER_ROW])
 }
 
 // Behind the last byte from 128 up, of those from v on and before `last`; v if there is none.
@@ -39,14 +36,12 @@ fn behind_high(payload: &[u8], v: usize, last: usize) -> usize
     requires { (v ≤ last) × (last ≤ length payload.now) }
     ensures { BehindHigh payload.now v last result }
 {
-    let mut at = last;
-    while at > v {
-        if payload[at - 1] > 127 {
-            return at;
+    for at in (v..last).rev() {
+        if payload[at] > 127 {
+            return at + 1;
         }
-        at = at - 1;
     }
-    at
+    v
 }
 
 // The first start from v on and before `end` at which a row may be; `end` if there is none. One byte dismisses all starts up to its own.
@@ -67,47 +62,34 @@ fn pass_high(payload: &[u8], hints: &[u8], v: usize, end: usize) -> usize
     end
 }
 
-// How many starts there are before that of the next cell's record, whose row is the row k.
-fn before_cell(rows: &[u64], k: usize, cells: usize, offset: u64, starts: usize) -> usize
-    requires { cells * words_per_row ≤ length rows.now }
-    ensures { Apart rows.now k cells offset starts result }
+// How many starts there are before that of the next cell's record; the payload's offset is `offset`.
+fn before_cell(next: Option<u64>, offset: u64, starts: usize) -> usize
+    ensures { Apart next offset starts result }
 {
-    if k >= cells {
-        return starts;
+    match next {
+        Some(next) if next >= offset => (next - offset).min(starts as u64) as usize,
+        _ => starts,
     }
-    // A row begins with its offset.
-    let next = rows[k * WORDS_PER_ROW];
-    if next < offset {
-        return 0;
-    }
-    let ahead = next - offset;
-    if ahead < starts as u64 {
-        return ahead as usize;
-    }
-    starts
 }
 
-// The first start from v on at which the record of a cell starts, or a row may be; the payload's offset is `offset`.
+// The first start from v on at which the next cell's record starts, or a row may be; the payload's offset is `offset`.
 pub fn next_start(
     how: Rebuilding,
     payload: &[u8],
     hints: &[u8],
-    rows: &[u64],
-    k: usize,
-    cells: usize,
+    next: Option<u64>,
     offset: u64,
     v: usize,
     starts: usize,
 ) -> usize
     requires payload_len_bound { (length payload.now ≤ largest_region) × (1 ≤ length hints.now) × (length hints.now ≤ most_by how) }
     requires v_le_starts { (v ≤ starts) × (starts ≤ rebuilt_starts (length payload.now) (length hints.now)) }
-    requires rows_there { cells * words_per_row ≤ length rows.now }
-    ensures { StartIs how payload.now hints.now rows.now k cells offset v starts result }
+    ensures { StartIs how payload.now hints.now next offset v starts result }
 {
     let Rebuilding::OneByte = how else {
         return v;
     };
-    let clear = before_cell(rows, k, cells, offset, starts);
+    let clear = before_cell(next, offset, starts);
     if clear <= v {
         return v;
     }

@@ -1,5 +1,6 @@
 -- One attempt: each way out, and what is known of a row that is found.
 -- Assumes nothing.
+use Rattle.std.specs.Prelude.{None, Some}
 use Prim.Native.Nat.{ℕ, ◌+◌, ◌-◌, ◌≤◌, ◌<◌}
 use mathlib.Core.Path.{◌≡◌, refl, sym, ◌∙◌}
 use mathlib.Core.Bool.{Bool, true, false, cond, ◌&&◌, ◌||◌}
@@ -18,8 +19,7 @@ use Rattle.record.proofs.Numbers.{by_order}
 use Rattle.record.specs.Places.{types_padded, header_padded}
 use Rattle.record.specs.Varint.{varint_at}
 use Rattle.record.specs.declared.varint.Cursor.{Cursor}
-use Rattle.record.specs.declared.varint.Varint.{Varint}
-use Rattle.record.specs.declared.varint.Varint.TheVariants.{Value, Short}
+use Rattle.record.specs.Varint.{Varint}
 use Rattle.sheet.specs.Limits.{most_columns, largest_region, most_header}
 use Rattle.unalloc.specs.Inner.{Headed, AllIs, FailsIs}
 use Rattle.unalloc.specs.Learned.{matched, learned_style, all_there, judged, judged_types, attempt_at}
@@ -57,11 +57,11 @@ module _ (s ls : List ℕ) (o h : ℕ) (p : Bool) (ts : List ℕ) where
 
 -- ---- the header
 module _ (s ls : List ℕ) (o : ℕ) where
-  pub attempt_short : varint_at s o ≡ Short → attempt_at s ls o ≡ miss
+  pub attempt_short : varint_at s o ≡ None → attempt_at s ls o ≡ miss
   unfolding attempt_at
   attempt_short e = rw e
 
-  module _ (h : ℕ) (c : Cursor) (e : varint_at s o ≡ Value h c) where
+  module _ (h : ℕ) (c : Cursor) (e : varint_at s o ≡ Some (h, c)) where
     pub attempt_bad : (h ≤ most_header → c.at - o ≤ h → h ≤ length s - o → ⊥) → attempt_at s ls o ≡ miss
     unfolding attempt_at
     attempt_bad no' =
@@ -126,8 +126,8 @@ module _ (s ls : List ℕ) (o first : ℕ) (inside : o < length s) (is : first �
   begins_large big byte = go (varint_at s o) refl
     where
       go : (v : Varint) → varint_at s o ≡ v → attempt_at s ls o ≡ miss
-      go (Value n c) e = attempt_bad s ls o n c e (λ p q r. omega (arith, varint_large s o (rw is at big) (rw is at byte) n c e))
-      go Short e = attempt_short s ls o e
+      go (Some (n, c)) e = attempt_bad s ls o n c e (λ p q r. omega (arith, varint_large s o (rw is at big) (rw is at byte) n c e))
+      go None e = attempt_short s ls o e
 
 -- ---- a row that is found: it stands where it was looked for, its bodies start behind that, in the region, and it has no more columns than were learned
 pub record AttemptIs (s ls : List ℕ) (o : ℕ) (x : Found) : Type 0 where
@@ -148,8 +148,8 @@ attempt_found s ls o x e = with_length (varint_at s o) refl
         record { at_is = f.0; past = rw f.1 (omega arith); inside = rw f.1 in'; few = rw (f.2, f.3) (omega arith) }
 
     with_length : (v : Varint) → varint_at s o ≡ v → AttemptIs s ls o x
-    with_length Short v = never (sym (attempt_short s ls o v) ∙ e)
-    with_length (Value h c) v =
+    with_length None v = never (sym (attempt_short s ls o v) ∙ e)
+    with_length (Some (h, c)) v =
         let z = varint_lies s o h c v in
         by_order most_header h
         (λ long. never (sym (attempt_bad s ls o h c v (λ p q r. omega arith)) ∙ e))

@@ -1,21 +1,21 @@
 -- The types of a header, one after the other: what was read so far, with the bodies that fit and the types that match.
 -- Assumes nothing.
+use Rattle.std.specs.Prelude.{None, Some}
 use Prim.Native.Nat.{ℕ, ◌+◌, ◌≤◌, ◌<◌}
 use mathlib.Core.Path.{◌≡◌, refl, ap, ◌∙◌}
-use mathlib.Core.Bool.{Bool, true, false, ◌&&◌, ◌||◌}
+use mathlib.Core.Bool.{Bool, true, false, cond, ◌&&◌, ◌||◌}
 use mathlib.Core.List.{List, [], ◌∷◌, ◌++◌}
 use native.Mathlib.Omega.{arith}
-use lib.ListN.{length, length-append}
+use lib.ListN.{length, get_or, length-append}
 use Rattle.modes.proofs.Bodies.{columns_nil, columns_one, columns_first, end_nil, end_one, behind_inside}
 use Rattle.modes.proofs.Reading.{SoFar, so_start, so_on, so_cut, so_past, so_all, so_first}
 use Rattle.modes.specs.Found.{Types, cut, read, types_from, column_at, behind, columns_from, end_from}
 use Rattle.record.specs.Places.{types_padded}
 use Rattle.record.specs.Varint.{varint_at}
 use Rattle.record.specs.declared.varint.Cursor.{Cursor}
-use Rattle.record.specs.declared.varint.Varint.TheVariants.{Value, Short}
 use Rattle.sheet.specs.declared.columns.Column.{Column}
 use Rattle.unalloc.specs.Inner.{matches_at, AllIs, FailsIs}
-use Rattle.unalloc.specs.Learned.{matched, is_there, all_there}
+use Rattle.unalloc.specs.Learned.{matches, matched, is_there, all_there}
 use Rattle.unalloc.proofs.Matching.{matched_one}
 
 -- ---- columns of which all have their bodies
@@ -35,6 +35,11 @@ there_not (d ∷ cs) c ds t = go (is_there d) (there_not cs c ds t)
     go : (b : Bool) → all_there ((cs ++ (c ∷ [])) ++ ds) ≡ false → (b && all_there ((cs ++ (c ∷ [])) ++ ds)) ≡ false
     go true rest = rest
     go false rest = refl
+
+-- one type matches, or none does
+one : (b : Bool) → cond b 1 0 ≤ 1
+one true = omega arith
+one false = omega arith
 
 -- of the types `whole`, with the mark p, so many were read, up to `at`, with the mark `padded`; n of them match, and the last body ends at
 -- `end`
@@ -71,10 +76,10 @@ module _ (s ls : List ℕ) (stop : ℕ) (whole : Types) (p : Bool) (at : ℕ) (p
     more : length w.done < length ls
     more = rw w.counts h
 
-    pub reading_cut : varint_at s at ≡ Short → FailsIs s stop whole
+    pub reading_cut : varint_at s at ≡ None → FailsIs s stop whole
     reading_cut e = rw (so_cut s stop whole p (length ls) at padded w.done w.so more below e) tt
 
-    module _ (t : ℕ) (c : Cursor) (e : varint_at s at ≡ Value t c) where
+    module _ (t : ℕ) (c : Cursor) (e : varint_at s at ≡ Some (t, c)) where
       on : SoFar s stop whole p (length ls) c.at (padded || c.padded) (w.done ++ (t ∷ []))
       on = so_on s stop whole p (length ls) at padded w.done w.so more below t c e
 
@@ -93,9 +98,9 @@ module _ (s ls : List ℕ) (stop : ℕ) (whole : Types) (p : Bool) (at : ℕ) (p
               = ap (λ (l : List ℕ). columns_from (length s) stop l) first.1 ∙ columns_first (length s) stop (w.done ++ (t ∷ [])) first.0 ∙ rw (columns_one (length s) stop w.done t, next) in
               rw columns (there_not (columns_from (length s) stop w.done) (column_at (length s) end t) (columns_from (length s) (end_from (length s) stop (w.done ++ (t ∷ []))) first.0) f)
 
-      pub reading_on : is_there (column_at (length s) end t) ≡ true → (m : ℕ) → m ≡ matches_at ls count t → m ≤ 1
-          → ReadSoFar s ls stop whole p c.at (padded || c.padded) (behind end (column_at (length s) end t)) (count + 1) (n + m)
-      reading_on f m is small =
+      pub reading_on : is_there (column_at (length s) end t) ≡ true → (m : ℕ) → m ≡ n + matches_at ls count t
+          → ReadSoFar s ls stop whole p c.at (padded || c.padded) (behind end (column_at (length s) end t)) (count + 1) m
+      reading_on f m is =
           record {
             done = w.done ++ (t ∷ []);
             counts = simp length-append (omega (arith, w.counts));
@@ -104,7 +109,7 @@ module _ (s ls : List ℕ) (stop : ℕ) (whole : Types) (p : Bool) (at : ℕ) (p
             ends = end_one (length s) stop w.done t ∙ rw w.ends;
             there = rw (columns_one (length s) stop w.done t, next) (there_one (columns_from (length s) stop w.done) (column_at (length s) end t) w.there f);
             inside = (behind_inside (length s) end t w.inside).1;
-            few = omega (arith, w.few);
+            few = omega (arith, w.few, is, one (matches t (get_or ls count 0)));
           }
 
   ended : (whole ≡ read w.done at) × (p ≡ padded) → AllIs s ls stop whole p count n padded
@@ -113,5 +118,5 @@ module _ (s ls : List ℕ) (stop : ℕ) (whole : Types) (p : Bool) (at : ℕ) (p
   pub reading_past : stop ≤ at → AllIs s ls stop whole p count n padded
   reading_past h = ended (so_past s stop whole p (length ls) at padded w.done w.so h)
 
-  pub reading_all : length ls ≤ count → AllIs s ls stop whole p count n padded
-  reading_all h = ended (so_all s stop whole p (length ls) at padded w.done w.so (rw w.counts h))
+  pub reading_all : length ls ≡ count → AllIs s ls stop whole p (length ls) n padded
+  reading_all e = rw e (ended (so_all s stop whole p (length ls) at padded w.done w.so (omega (arith, w.counts))))

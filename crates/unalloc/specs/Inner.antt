@@ -1,11 +1,10 @@
 -- What the code carries between its own functions; nothing that a caller has to believe.
 -- Assumes nothing.
-use Rattle.std.specs.Prelude.{ℕ, ◌≤◌, ◌≡◌, Bool, true, false, cond, List, length, get_or}
+use Rattle.std.specs.Prelude.{ℕ, ◌≤◌, ◌≡◌, Bool, true, false, cond, List, length, get_or, Option, None, Some}
 use Rattle.modes.specs.Found.{Types, cut, read, columns_from}
 use Rattle.sheet.specs.Limits.{most_columns, largest_region}
 use Rattle.unalloc.specs.Learned.{matches, matched, all_there}
 use Rattle.unalloc.specs.declared.unalloc.Reading.{Reading}
-use Rattle.unalloc.specs.declared.unalloc.Reading.TheVariants.{Whole, Fails}
 
 -- 1 where the type matches the one learned for the column k
 abbrev pub matches_at : List ℕ → ℕ → ℕ → ℕ
@@ -34,6 +33,6 @@ abbrev pub FailsIs : List ℕ → ℕ → Types → Type 0
 FailsIs s stop cut = Unit
 FailsIs s stop (read ts end) = all_there (columns_from (length s) stop ts) ≡ false
 
-abbrev pub ReadingIs : List ℕ → List ℕ → ℕ → Types → Bool → Reading → Type 0
-ReadingIs s ls stop w p (Whole count n padded) = AllIs s ls stop w p count n padded
-ReadingIs s ls stop w p Fails = FailsIs s stop w
+abbrev pub ReadingIs : List ℕ → List ℕ → ℕ → Types → Bool → Option Reading → Type 0
+ReadingIs s ls stop w p (Some r) = AllIs s ls stop w p r.count r.matched r.padded
+ReadingIs s ls stop w p None = FailsIs s stop w

@@ -1,14 +1,13 @@
 -- Carving by learned types (rules 14.1 to 14.5): a type is known for each column, and a row is one where types match.
 -- Assumes nothing.
-use Rattle.std.specs.Prelude.{◌+◌, ◌-◌, ◌*◌, ◌/◌, ◌%◌, ◌&&◌, ◌||◌, [], ◌∷◌}
+use Rattle.std.specs.Prelude.{◌+◌, ◌-◌, ◌*◌, ◌/◌, ◌%◌, ◌&&◌, ◌||◌, [], ◌∷◌, None, Some}
 use Rattle.std.specs.Prelude.{ℕ, zero, suc, Bool, true, false, cond, List, ltb, leb, eqb, length}
 use Rattle.modes.specs.Found.{Types, cut, read, types_from, columns_from, Found, Tried, miss, hit, end_of, found_hits}
 use Rattle.modes.specs.Modes.{length_fits}
 use Rattle.modes.specs.declared.inner.Style.{Style}
 use Rattle.record.specs.Places.{header_padded}
 use Rattle.record.specs.Varint.{varint_at}
-use Rattle.record.specs.declared.varint.Varint.{Varint}
-use Rattle.record.specs.declared.varint.Varint.TheVariants.{Value, Short}
+use Rattle.record.specs.Varint.{Varint}
 use Rattle.sheet.specs.Confidence.{share}
 use Rattle.sheet.specs.Hits.{RowFilling}
 use Rattle.sheet.specs.Limits.{most_header}
@@ -84,11 +83,11 @@ judged_types s ls o h p (read ts end) = judged s ls o h p ts
 
 -- Rule 14.3: the types stand behind the header's length, up to the header's end, and no more are read than were learned
 abbrev pub attempt_with : List ℕ → List ℕ → ℕ → Varint → Tried
-attempt_with s ls o (Value h c) =
+attempt_with s ls o (Some (h, c)) =
     cond (header_fits (length s) o (c.at - o) h)
     (judged_types s ls o h (header_padded (length ls) s c (o + h)) (types_from (length ls) s c.at (o + h)))
     miss
-attempt_with s ls o Short = miss
+attempt_with s ls o None = miss
 
 unfoldable pub attempt_at : List ℕ → List ℕ → ℕ → Tried
 attempt_at s ls o = attempt_with s ls o (varint_at s o)

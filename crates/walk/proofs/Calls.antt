@@ -1,5 +1,6 @@
 -- The two ways out of the call that writes the leaves of a table: a check refused it, or its work is done and flags and stack are cleared.
 -- Assumes nothing.
+use Rattle.std.specs.Prelude.{Err, Ok}
 use Prim.Native.Nat.{ℕ, ◌≤◌}
 use mathlib.Core.Path.{◌≡◌, refl, ap, ◌∙◌}
 use mathlib.Core.List.{List}
@@ -11,16 +12,14 @@ use Rattle.sheet.proofs.Filling.{list_refused, list_filled}
 use Rattle.sheet.proofs.Laws.{none_holds}
 use Rattle.sheet.specs.Filled.{filled_by, list_outcome}
 use Rattle.sheet.specs.Refusal.{first_held}
-use Rattle.sheet.specs.declared.refusal.Checked.TheVariants.{Passed, Refused as Held}
 use Rattle.sheet.specs.declared.refusal.Refusal.{Refusal}
 use Rattle.walk.specs.Collect.{walked_number, walked_written, walk_checks, LeavesAsked, collect_walk, collect_walking, collect_filling, collect_answer, collect_number, collect_written, collect_leaves, collect_cleared, LeavesOutcome, leaves_outcome, CollectsLeaves}
 use Rattle.walk.specs.Inner.{Collected}
 use Rattle.walk.specs.declared.walk.Walked.{Walked}
-use Rattle.walk.specs.declared.walk.Walked.TheVariants.{Refused}
 use Rattle.walk.proofs.Laws.{numbers_are}
 
 -- what passed has one of the page sizes
-pub passed_size : (len size : ℕ) → first_held (walk_checks len size) ≡ Passed → (512 ≤ size) × (size ≤ 65536)
+pub passed_size : (len size : ℕ) → first_held (walk_checks len size) ≡ (Ok tt) → (512 ≤ size) × (size ≤ 65536)
 passed_size len size e = size_range size (not-false (size_fits size) (none_holds (walk_checks len size) e).1.0)
 
 module _ (a : LeavesAsked) where
@@ -31,16 +30,16 @@ module _ (a : LeavesAsked) where
       let n = numbers_are (collect_walking a) in
       record { answer = e; number = ap walked_number e ∙ n.0; written = ap walked_written e ∙ n.1; leaves = leaves; flags = flags; stack = stack }
 
-  pub call_refused : (r : Refusal) → first_held (walk_checks (length a.db) a.size) ≡ Held r
-      → CollectsLeaves a (leaves_outcome (Refused r) a.flags a.stack a.leaves)
+  pub call_refused : (r : Refusal) → first_held (walk_checks (length a.db) a.size) ≡ Err r
+      → CollectsLeaves a (leaves_outcome (Err r) a.flags a.stack a.leaves)
   unfolding collect_answer collect_leaves collect_cleared
   call_refused r e =
-      promised (leaves_outcome (Refused r) a.flags a.stack a.leaves) (simp e) (list_refused (collect_filling a) r e).list (simp e) (simp e)
+      promised (leaves_outcome (Err r) a.flags a.stack a.leaves) (simp e) (list_refused (collect_filling a) r e).list (simp e) (simp e)
 
-  pub call_passed : (r : Walked) (leaves : List ℕ) → first_held (walk_checks (length a.db) a.size) ≡ Passed
+  pub call_passed : (r : Walked) (leaves : List ℕ) → first_held (walk_checks (length a.db) a.size) ≡ (Ok tt)
       → Collected (collect_walking a).pages (length a.flags) (collect_walk a) a.leaves r leaves
-      → CollectsLeaves a (leaves_outcome r (replicate (length a.flags) 0) (replicate (length a.stack) 0) leaves)
+      → CollectsLeaves a (leaves_outcome (Ok r) (replicate (length a.flags) 0) (replicate (length a.stack) 0) leaves)
   unfolding collect_answer collect_leaves collect_cleared
   call_passed r leaves e x =
-      let filled = list_filled (collect_filling a) (list_outcome (filled_by (length (collect_filling a).things) (length a.leaves)) leaves) e refl x.leaves_are in
-      promised (leaves_outcome r (replicate (length a.flags) 0) (replicate (length a.stack) 0) leaves) (simp e x.answer) filled.list (simp e) (simp e)
+      let filled = list_filled (collect_filling a) (list_outcome (Ok (filled_by (length (collect_filling a).things) (length a.leaves))) leaves) e refl x.leaves_are in
+      promised (leaves_outcome (Ok r) (replicate (length a.flags) 0) (replicate (length a.stack) 0) leaves) (rw (e, x.answer)) filled.list (simp e) (simp e)

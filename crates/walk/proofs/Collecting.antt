@@ -7,8 +7,8 @@ use mathlib.Core.List.{List, [], ◌∷◌, ◌++◌, append_assoc}
 use native.Mathlib.Omega.{arith}
 use borrow.Author.Tests.{lt-ltb, le-ltb}
 use lib.ListN.{length, set, replicate, length-append}
-use lib.Seq.{take-nil, take_at, take_all}
-use Rattle.sheet.proofs.Laws.{overlay_more, overlay_length}
+use lib.Seq.{take_at, take_all}
+use Rattle.sheet.proofs.Laws.{overlay_more}
 use Rattle.sheet.specs.Sheet.{overlay}
 use Rattle.walk.specs.Collect.{leaves_of}
 use Rattle.walk.specs.Inner.{tops, rest, LeafIs, Collected}
@@ -39,10 +39,7 @@ module _ (pages flags : ℕ) (w : Walk) (old : List ℕ) (flagged : pages ≤ fl
         leaves_are = simp (le-ltb flags pages flagged, sym e, append_assoc, take_at done ((p ∷ []) ++ later) (length old) h);
       }
 
--- ---- too few flags, or no room for the root
-pub collects_few : (pages flags : ℕ) (w : Walk) (old : List ℕ) → flags < pages → Collected pages flags w old (Short 0) old
-collects_few pages flags w old h = record { answer = simp (lt-ltb flags pages h); leaves_are = simp (lt-ltb flags pages h, take-nil {A = ℕ} (length old)) }
-
+-- ---- no room for the root
 pub collects_none : (db : List ℕ) (size root flags depth : ℕ) (old : List ℕ) → length db / size ≤ flags → overflow ≡ push_all depth (root ∷ []) []
     → Collected (length db / size) flags (walk db size depth root) old (Short 0) old
 unfolding leaves_of
@@ -96,6 +93,3 @@ module _ (db : List ℕ) (size root depth count : ℕ) (old flags stack leaves :
       let d = along_overflow (λ q. q ∷ []) _ db size depth count flags stack top w.done w.along e in
       let h : length w.done ≤ length old = omega (arith, w.counted, w.room) in
       rw (w.written, ← w.counted) (ended (length db / size) count (walk db size depth root) old w.along.flagged w.done true d.0 d.1 h)
-
-  pub collects_length : length leaves ≡ length old
-  collects_length = rw w.written (overlay_length w.done old (omega (arith, w.counted, w.room)))

@@ -1,7 +1,6 @@
 pub mod Along
 mod Calls
 mod Cases
-mod Clearing
 mod Collecting
 pub mod Fuel
 pub mod Laws

@@ -1,7 +1,8 @@
 -- Popping a page: what it comes to, that it brings the walk on, and that it uses up something.
 -- Assumes nothing.
+use Rattle.std.specs.Prelude.{Some, None, Ok, Err}
 use Prim.Native.Nat.{ℕ, zero, suc, ◌+◌, ◌-◌, ◌*◌, ◌/◌, ◌≤◌, ◌<◌}
-use mathlib.Core.Path.{◌≡◌, refl, ◌∙◌}
+use mathlib.Core.Path.{◌≡◌, refl, sym, ap, ◌∙◌}
 use mathlib.Core.Bool.{Bool, true, false, cond, and-eq-true_iff}
 use mathlib.Core.List.{List, [], ◌∷◌}
 use native.Mathlib.Nat.{suc-mul}
@@ -13,9 +14,11 @@ use lib.Seq.{length-take-le, get_or-take}
 use Rattle.page.proofs.Laws.{there_page, page_there, page_zero, page_behind}
 use Rattle.page.specs.Page.{has_page, page_of, head_of}
 use Rattle.walk.specs.Walk.{Popped, leaf_then, onward, overflow, page_done, fresh, marked, popped, through, from_popped, walk_from}
-use Rattle.walk.specs.Inner.{tops, zeros, need, rest, NextSays}
-use Rattle.walk.specs.declared.inner.Next.TheVariants.{Leaf, Done, Overflow}
-use Rattle.walk.proofs.Pushing.{tops_length, tops_pop}
+use Rattle.walk.specs.Inner.{zeros, need, rest, held, depth_of, Keeps, NextSays}
+use Rattle.walk.specs.declared.inner.Overflow.{Overflow}
+use Rattle.walk.specs.declared.inner.Stack.{Stack}
+use Rattle.walk.proofs.Laws.{keeps_then}
+use Rattle.walk.proofs.Pushing.{tops_length}
 
 -- ---- whether a page is expanded
 fresh_true : (len size : ℕ) (marks : List ℕ) (p : ℕ) → fresh len size marks p ≡ true → (1 ≤ p) × (p ≤ len / size) × (get_or marks (p - 1) 0 ≡ 0)
@@ -94,32 +97,34 @@ used_up db size depth marks p st l h = by (fresh (length db) size marks p) refl 
       rw (← new_marks (length db) size marks p e, z, suc-mul (zeros (set marks (p - 1) 1)) (depth + 1)) (omega arith)
   by false e = rw (← stale_marks (length db) size marks p e, ← stale_goes db size depth marks p st e) (omega arith)
 
--- a page is popped off the first t cells, and o is what comes of it
-pub record Pops (db : List ℕ) (size : ℕ) (flags stack : List ℕ) (t : ℕ) (flags' stack' : List ℕ) (o : Popped) : Type 0 where
-  pub some : 0 < t
+-- the page p is popped off a stack, st stays, and o is what comes of it
+pub record Pops (db : List ℕ) (size : ℕ) (flags : List ℕ) (s : Stack) (p : ℕ) (st flags' : List ℕ) (s' : Stack) (o : Popped) : Type 0 where
+  pub top : held s ≡ p ∷ st
   pub flagged : length db / size ≤ length flags
-  pub is : o ≡ popped db size (length stack) (take (length db / size) flags) (get_or stack (t - 1) 0) (tops stack (t - 1))
-  pub marks : take (length db / size) flags' ≡ marked (length db) size (take (length db / size) flags) (get_or stack (t - 1) 0)
-  pub stack_long : length stack' ≡ length stack
+  pub is : o ≡ popped db size (depth_of s) (take (length db / size) flags) p st
+  pub marks : take (length db / size) flags' ≡ marked (length db) size (take (length db / size) flags) p
+  pub kept : Keeps s s'
   pub flags_long : length flags' ≡ length flags
 
-module _ (db : List ℕ) (size : ℕ) (flags stack : List ℕ) (t : ℕ) (flags' stack' : List ℕ) where
-  pub pops_less : (o : Popped) (n : ℕ) → Pops db size flags stack t flags' stack' o → length (stack_of o) ≡ n → n ≤ length stack
-      → need (length db / size) (length stack') flags' n < need (length db / size) (length stack) flags t
+module _ (db : List ℕ) (size : ℕ) (flags : List ℕ) (s : Stack) (p : ℕ) (st flags' : List ℕ) (s' : Stack) (o : Popped) (v : Pops db size flags s p st flags' s' o) where
+  pops_top : s.top ≡ suc (length st)
+  pops_top = sym (tops_length s.pages.now s.top) ∙ ap (λ (l : List ℕ). length l) v.top
+
+  pub pops_less : length (stack_of o) ≡ s'.top → need (length db / size) (depth_of s') flags' s'.top < need (length db / size) (depth_of s) flags s.top
   unfolding need
-  pops_less o n v e h =
-      let u = used_up db size (length stack) (take (length db / size) flags) (get_or stack (t - 1) 0) (tops stack (t - 1)) (length-take-le _ _ v.flagged) in
-      let w = rw (← v.is, e, tops_length) at u in
-      let some = v.some in
-      rw (v.marks, v.stack_long) (omega (arith, w h))
+  pops_less e =
+      let fits : s'.top ≤ depth_of s = omega (arith, v.kept.inside, v.kept.depth) in
+      let u = used_up db size (depth_of s) (take (length db / size) flags) p st (length-take-le _ _ v.flagged) in
+      let w = rw (← v.is, e) at u in
+      rw (v.marks, v.kept.depth) (omega (arith, w fits, pops_top))
 
   -- if the fuel is enough, there is some, and the walk goes by what comes of the page
-  pub pops_next : (g : ℕ) (o : Popped) → Pops db size flags stack t flags' stack' o → need (length db / size) (length stack) flags t ≤ g
+  pub pops_next : (g : ℕ) → need (length db / size) (depth_of s) flags s.top ≤ g
       → (h : ℕ) × (suc h ≡ g)
-      × (rest g db size flags stack t ≡ from_popped (get_or stack (t - 1) 0) (λ s. walk_from h db size (length stack') (take (length db / size) flags') s) o)
+      × (rest g db size flags s.pages.now s.top ≡ from_popped p (λ t. walk_from h db size (depth_of s') (take (length db / size) flags') t) o)
   unfolding walk_from need
-  pops_next zero o v n = let some = v.some in absurd (omega arith)
-  pops_next (suc h) o v n = (h, refl, rw (tops_pop stack t v.some, v.is, v.marks, v.stack_long))
+  pops_next zero n = absurd (omega (arith, pops_top))
+  pops_next (suc h) n = (h, refl, rw (v.top, v.is, v.marks, v.kept.depth))
 
 pub walk_end : (f : ℕ) (db : List ℕ) (size depth : ℕ) (marks : List ℕ) → walk_from f db size depth marks [] ≡ through
 unfolding walk_from
@@ -127,46 +132,40 @@ walk_end zero db size depth marks = refl
 walk_end (suc f) db size depth marks = refl
 
 -- ---- the loop of `next_leaf`: the walk that was to come is the walk that is still to come
-pub record Goes (db : List ℕ) (size : ℕ) (flags₀ stack₀ : List ℕ) (top : ℕ) (flags stack : List ℕ) (t : ℕ) : Type 0 where
-  pub fits : t ≤ length stack
-  pub stack_long : length stack ≡ length stack₀
+pub record Goes (db : List ℕ) (size : ℕ) (flags₀ : List ℕ) (s₀ : Stack) (flags : List ℕ) (s : Stack) : Type 0 where
+  pub kept : Keeps s₀ s
   pub flags_long : length flags ≡ length flags₀
-  pub spent : need (length db / size) (length stack) flags t ≤ need (length db / size) (length stack₀) flags₀ top
-  pub same : (f : ℕ) → need (length db / size) (length stack₀) flags₀ top ≤ f
-      → (g : ℕ) × (need (length db / size) (length stack) flags t ≤ g) × (rest f db size flags₀ stack₀ top ≡ rest g db size flags stack t)
+  pub spent : need (length db / size) (depth_of s) flags s.top ≤ need (length db / size) (depth_of s₀) flags₀ s₀.top
+  pub same : (f : ℕ) → need (length db / size) (depth_of s₀) flags₀ s₀.top ≤ f
+      → (g : ℕ) × (need (length db / size) (depth_of s) flags s.top ≤ g) × (rest f db size flags₀ s₀.pages.now s₀.top ≡ rest g db size flags s.pages.now s.top)
 
-pub goes_start : (db : List ℕ) (size : ℕ) (flags stack : List ℕ) (top : ℕ) → top ≤ length stack → Goes db size flags stack top flags stack top
-goes_start db size flags stack top h = record { fits = h; stack_long = refl; flags_long = refl; spent = omega arith; same = λ f n. (f, n, refl) }
-
-module _ (db : List ℕ) (size : ℕ) (flags₀ stack₀ : List ℕ) (top : ℕ) (flags stack : List ℕ) (t : ℕ) (w : Goes db size flags₀ stack₀ top flags stack t) where
-  module _ (flags' stack' : List ℕ) where
-    pub goes_on : (t2 : ℕ) → Pops db size flags stack t flags' stack' (onward (tops stack' t2)) → t2 ≤ length stack → Goes db size flags₀ stack₀ top flags' stack' t2
-    goes_on t2 v h =
-        let less = pops_less db size flags stack t flags' stack' _ t2 v (tops_length stack' t2) h in
+module _ (db : List ℕ) (size : ℕ) (flags₀ : List ℕ) (s₀ : Stack) (flags : List ℕ) (s : Stack) (w : Goes db size flags₀ s₀ flags s) where
+  module _ (p : ℕ) (st flags' : List ℕ) (s' : Stack) where
+    pub goes_on : Pops db size flags s p st flags' s' (onward (held s')) → Goes db size flags₀ s₀ flags' s'
+    goes_on v =
+        let less = pops_less db size flags s p st flags' s' _ v (tops_length s'.pages.now s'.top) in
         record {
-          fits = omega (arith, v.stack_long);
-          stack_long = v.stack_long ∙ w.stack_long;
+          kept = keeps_then s₀ s s' w.kept v.kept;
           flags_long = v.flags_long ∙ w.flags_long;
           spent = omega (arith, w.spent);
           same =
               λ f n.
               let a = w.same f n in
-              let b = pops_next db size flags stack t flags' stack' a.0 _ v a.1 in
+              let b = pops_next db size flags s p st flags' s' _ v a.0 a.1 in
               (b.0, omega (arith, a.1, b.1), a.2 ∙ b.2);
         }
 
-    pub goes_leaf : (t2 : ℕ) → Pops db size flags stack t flags' stack' (leaf_then (tops stack' t2)) → t2 ≤ length stack
-        → NextSays db size flags₀ stack₀ top flags' stack' (Leaf (get_or stack (t - 1) 0) t2)
-    goes_leaf t2 v h f n =
-        let less = pops_less db size flags stack t flags' stack' _ t2 v (tops_length stack' t2) h in
+    pub goes_leaf : Pops db size flags s p st flags' s' (leaf_then (held s')) → NextSays db size flags₀ s₀ flags' s' (Ok (Some p))
+    goes_leaf v f n =
+        let less = pops_less db size flags s p st flags' s' _ v (tops_length s'.pages.now s'.top) in
         let a = w.same f n in
-        let b = pops_next db size flags stack t flags' stack' a.0 _ v a.1 in
-        let there = leaf_there db size (length stack) (take (length db / size) flags) (get_or stack (t - 1) 0) (tops stack (t - 1)) (tops stack' t2) v.is in
-        record { some = there.0; there = there.1; fuel = b.0; enough = omega (arith, a.1, b.1); less = omega (arith, w.spent); fits = omega (arith, v.stack_long); is = a.2 ∙ b.2 }
+        let b = pops_next db size flags s p st flags' s' _ v a.0 a.1 in
+        let there = leaf_there db size (depth_of s) (take (length db / size) flags) p st (held s') v.is in
+        record { some = there.0; there = there.1; fuel = b.0; enough = omega (arith, a.1, b.1); less = omega (arith, w.spent); fits = v.kept.inside; is = a.2 ∙ b.2 }
 
-    pub goes_overflow : Pops db size flags stack t flags' stack' overflow → NextSays db size flags₀ stack₀ top flags' stack' Overflow
-    goes_overflow v f n = let a = w.same f n in a.2 ∙ (pops_next db size flags stack t flags' stack' a.0 _ v a.1).2
+    pub goes_overflow : Pops db size flags s p st flags' s' overflow → (e : Overflow) → NextSays db size flags₀ s₀ flags' s' (Err e)
+    goes_overflow v e f n = let a = w.same f n in a.2 ∙ (pops_next db size flags s p st flags' s' _ v a.0 a.1).2
 
-  pub goes_done : t ≡ 0 → NextSays db size flags₀ stack₀ top flags stack Done
-  unfolding tops
-  goes_done z f n = let a = w.same f n in a.2 ∙ rw z (walk_end a.0 db size (length stack) (take (length db / size) flags))
+  -- popping found the stack empty
+  pub goes_done : (s' : Stack) → held s ≡ [] → NextSays db size flags₀ s₀ flags s' (Ok None)
+  goes_done s' z f n = let a = w.same f n in a.2 ∙ rw z (walk_end a.0 db size (depth_of s) (take (length db / size) flags))

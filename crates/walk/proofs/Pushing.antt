@@ -35,19 +35,30 @@ unfolding tops
 tops_pop s zero h = absurd (omega arith)
 tops_pop s (suc k) h = rw (suc-sub-suc, sub-zero)
 
+pub tops_none : (s : List ℕ) (t : ℕ) → t ≡ 0 → tops s t ≡ []
+unfolding tops
+tops_none s zero h = refl
+tops_none s (suc k) h = absurd (omega arith)
+
+-- ---- one page
+module _ (depth p : ℕ) (st : List ℕ) where
+  pub push_one : length st < depth → push_all depth (p ∷ []) st ≡ onward (p ∷ st)
+  unfolding push_all
+  push_one h = simp (lt-ltb (length st) depth h)
+
+  pub push_full : depth ≤ length st → push_all depth (p ∷ []) st ≡ overflow
+  unfolding push_all
+  push_full h = simp (le-ltb (length st) depth h)
+
 -- ---- one child
-module _ (depth : ℕ) (page : List ℕ) (at : ℕ) (st : List ℕ) where
-  pub push_none : length page < at + 4 → push_all depth (child_in page at) st ≡ onward st
-  unfolding push_all child_in
-  push_none h = simp (lt-leb (at + 4) (length page) h)
+module _ (page : List ℕ) (at : ℕ) where
+  pub child_past : length page < at + 4 → child_in page at ≡ []
+  unfolding child_in
+  child_past h = simp (lt-leb (at + 4) (length page) h)
 
-  pub push_one : at + 4 ≤ length page → length st < depth → push_all depth (child_in page at) st ≡ onward (child_at page at ∷ st)
-  unfolding push_all child_in
-  push_one h g = simp (le-leb (at + 4) (length page) h, lt-ltb (length st) depth g)
-
-  pub push_overflow : at + 4 ≤ length page → depth ≤ length st → push_all depth (child_in page at) st ≡ overflow
-  unfolding push_all child_in
-  push_overflow h g = simp (le-leb (at + 4) (length page) h, le-ltb (length st) depth g)
+  pub child_there : at + 4 ≤ length page → child_in page at ≡ child_at page at ∷ []
+  unfolding child_in
+  child_there h = simp (le-leb (at + 4) (length page) h)
 
 -- ---- some pages, and then others
 abbrev and_push : Popped → (List ℕ → Popped) → Popped
@@ -75,11 +86,11 @@ pub push_nil : (depth : ℕ) (st : List ℕ) → push_all depth [] st ≡ onward
 unfolding push_all
 push_nil depth st = refl
 
--- ---- the cells of a page
-cells_step : (n : ℕ) (page : List ℕ) (at : ℕ) → 0 < n → at + 2 ≤ length page → cells_from n page at ≡ child_in page (pointer_at page at) ++ cells_from (n - 1) page (at + 2)
+-- ---- the cells of a page: n of them from `at` on, and m behind the first
+cells_step : (n m : ℕ) (page : List ℕ) (at at' : ℕ) → n ≡ suc m → at' ≡ at + 2 → at + 2 ≤ length page
+    → cells_from n page at ≡ child_in page (pointer_at page at) ++ cells_from m page at'
 unfolding cells_from
-cells_step zero page at z h = absurd (omega arith)
-cells_step (suc n) page at z h = rw (suc-sub-suc, sub-zero) (simp (le-leb (at + 2) (length page) h))
+cells_step n m page at at' e f h = rw (e, f) (simp (le-leb (at + 2) (length page) h))
 
 cells_cut : (n : ℕ) (page : List ℕ) (at : ℕ) → length page < at + 2 → cells_from n page at ≡ []
 unfolding cells_from
@@ -92,12 +103,13 @@ cells_end zero page at h = refl
 cells_end (suc n) page at h = absurd (omega arith)
 
 module _ (depth n : ℕ) (page : List ℕ) (at : ℕ) (st : List ℕ) where
-  pub cells_on : (mid : List ℕ) → 0 < n → at + 2 ≤ length page → onward mid ≡ push_all depth (child_in page (pointer_at page at)) st
-      → push_all depth (cells_from (n - 1) page (at + 2)) mid ≡ push_all depth (cells_from n page at) st
-  cells_on mid z h e = rw (cells_step n page at z h) (sym (push_on depth (child_in page (pointer_at page at)) (cells_from (n - 1) page (at + 2)) st mid (sym e)))
+  module _ (m at' : ℕ) (e : n ≡ suc m) (f : at' ≡ at + 2) (h : at + 2 ≤ length page) where
+    pub cells_on : (mid : List ℕ) → onward mid ≡ push_all depth (child_in page (pointer_at page at)) st
+        → push_all depth (cells_from m page at') mid ≡ push_all depth (cells_from n page at) st
+    cells_on mid g = rw (cells_step n m page at at' e f h) (sym (push_on depth (child_in page (pointer_at page at)) (cells_from m page at') st mid (sym g)))
 
-  pub cells_overflow : 0 < n → at + 2 ≤ length page → overflow ≡ push_all depth (child_in page (pointer_at page at)) st → overflow ≡ push_all depth (cells_from n page at) st
-  cells_overflow z h e = rw (cells_step n page at z h) (sym (push_stop depth (child_in page (pointer_at page at)) (cells_from (n - 1) page (at + 2)) st (sym e)))
+    pub cells_overflow : overflow ≡ push_all depth (child_in page (pointer_at page at)) st → overflow ≡ push_all depth (cells_from n page at) st
+    cells_overflow g = rw (cells_step n m page at at' e f h) (sym (push_stop depth (child_in page (pointer_at page at)) (cells_from m page at') st (sym g)))
 
   pub cells_past : length page < at + 2 → onward st ≡ push_all depth (cells_from n page at) st
   cells_past h = rw (cells_cut n page at h) (sym (push_nil depth st))
@@ -125,12 +137,3 @@ module _ (depth : ℕ) (page : List ℕ) (head : ℕ) (st : List ℕ) where
 
   pub inner_overflow : page_type page head ≡ 0x05 → overflow ≡ push_all depth (child_in page (head + 8)) st → overflow ≡ page_done depth page head st
   inner_overflow e f = sym (push_stop depth (child_in page (head + 8)) (cells_from (cell_count page head) page (head + 12)) st (sym f)) ∙ sym (page_inner e)
-
--- ---- the root
-pub root_none : (stack : List ℕ) (root : ℕ) → length stack ≡ 0 → overflow ≡ push_all (length stack) (root ∷ []) []
-unfolding push_all
-root_none stack root h = simp (le-ltb 0 (length stack) (omega arith))
-
-pub root_one : (stack : List ℕ) (root : ℕ) → (length stack ≡ 0 → ⊥) → onward (tops (set stack 0 root) 1) ≡ push_all (length stack) (root ∷ []) []
-unfolding push_all tops
-root_one stack root h = simp (lt-ltb 0 (length stack) (omega arith), get_or-set_same stack 0 root 0 (omega arith))

@@ -1,8 +1,8 @@
 -- Counts of columns one by one: each fits, their sum, and the widest.
 -- Assumes nothing.
 use Prim.Native.Nat.{ℕ, zero, suc, ◌+◌, ◌-◌, ◌≤◌, ◌<◌, max}
-use mathlib.Core.Path.{◌≡◌, sym, ◌∙◌}
-use mathlib.Core.Bool.{true, false, ◌&&◌, and-eq-true_iff}
+use mathlib.Core.Path.{◌≡◌, refl, sym, ◌∙◌}
+use mathlib.Core.Bool.{true, false, and-eq-true_iff}
 use mathlib.Core.List.{List, [], ◌∷◌}
 use mathlib.Core.Logic.{by_cases}
 use native.Mathlib.Decide.{ℕ_discrete}
@@ -13,20 +13,15 @@ use borrow.Author.Tests.{eq-eqb, ne_eqb}
 use lib.Dec.{eqb}
 use lib.ListN.{length, get_or, drop, drop_of_length-le}
 use lib.Seq.{drop-cons}
+use Rattle.std.specs.List.{list_all, fold}
 use Rattle.record.proofs.Numbers.{by_order}
 use Rattle.sheet.specs.Limits.{count_fits}
 use Rattle.walk.specs.Carve.{sum_of, widest, counts_fit}
 
 module _ (cs : List ℕ) (i : ℕ) where
   module _ (h : i < length cs) where
-    pub fit_at : counts_fit (drop i cs) ≡ (count_fits (get_or cs i 0) && counts_fit (drop (i + 1) cs))
-    fit_at = rw (add-one, drop-cons cs i 0)
-
     pub sum_at : sum_of (drop i cs) ≡ get_or cs i 0 + sum_of (drop (i + 1) cs)
     sum_at = rw (add-one, drop-cons cs i 0)
-
-    pub widest_at : widest (drop i cs) ≡ max (get_or cs i 0) (widest (drop (i + 1) cs))
-    widest_at = rw (add-one, drop-cons cs i 0)
 
   pub none_left : length cs ≤ i → drop i cs ≡ []
   none_left h = drop_of_length-le cs h
@@ -59,19 +54,14 @@ max_assoc a b c =
     (λ ba. rw (max-eq_left ba)
     (by_order b c (λ bc. rw (max-eq_right (le_of_lt bc))) (λ cb. rw (max-eq_left cb) (max-eq_left ba ∙ sym (max-eq_left (omega arith))))))
 
--- of all counts the widest is the widest so far or among the rest
-abbrev pub Widest : List ℕ → ℕ → ℕ → Type 0
-Widest cs i most = widest cs ≡ max most (widest (drop i cs))
+pub widest_folded : (m : ℕ) (cs : List ℕ) → fold max m cs ≡ max m (widest cs)
+widest_folded m [] = sym (max-zero m)
+widest_folded m (c ∷ cs) = widest_folded (max m c) cs ∙ sym (max_assoc m c (widest cs))
 
-module _ (cs : List ℕ) (i most : ℕ) (w : Widest cs i most) where
-  pub widest_more : i < length cs → Widest cs (i + 1) (max most (get_or cs i 0))
-  widest_more h = w ∙ rw (widest_at cs i h) (max_assoc most (get_or cs i 0) (widest (drop (i + 1) cs)))
-
-  pub widest_all : length cs ≤ i → most ≡ widest cs
-  widest_all h = sym (w ∙ rw (none_left cs i h) (max-zero most))
-
-pub widest_none : (cs : List ℕ) → Widest cs 0 0
-widest_none cs = sym (max-eq_right (omega arith))
+-- ---- the test of all counts
+pub each_fits : (cs : List ℕ) → list_all count_fits cs ≡ counts_fit cs
+each_fits [] = refl
+each_fits (c ∷ cs) = rw (each_fits cs)
 
 -- ---- one of the counts
 pub count_at : (cs : List ℕ) (i : ℕ) → counts_fit cs ≡ true → i < length cs → count_fits (get_or cs i 0) ≡ true

@@ -3,8 +3,8 @@
 use mathlib.Core.Path.{◌≡◌, sym, ◌∙◌}
 use Rattle.record.proofs.Unique.{Fixes, FixesSeen}
 use Rattle.walk.specs.Collect.{LeavesAsked, LeavesOutcome, leaves_outcome, CollectsLeaves}
-use Rattle.walk.proofs.walk.Walked.number.Reads as number
-use Rattle.walk.proofs.walk.Walked.written.Reads as written
+use Rattle.walk.proofs.walk.WalkedAnswer.number.Reads as number
+use Rattle.walk.proofs.walk.WalkedAnswer.written.Reads as written
 use Rattle.walk.proofs.walk.collect_leaf_pages.Reads as collect-leaf-pages
 
 -- ---- the promises fix what is left: the answer, the flags, the stack and the leaves at exit

@@ -1,15 +1,17 @@
 -- What a call over walks answers, and the call that writes the leaves of a table (rules 9.8 to 9.11).
 -- Assumes nothing.
-use Rattle.std.specs.Prelude.{ℕ, min, ◌≡◌, Bool, cond, not, List, [], ◌∷◌, ltb, length, replicate}
+use Rattle.std.specs.Prelude.{ℕ, min, ◌≡◌, Bool, cond, not, List, [], ◌∷◌, ltb, length, replicate, Result, Ok, Err}
 use Rattle.page.specs.Page.{size_fits, whole_pages}
+use Rattle.sheet.specs.Answer.{number_in, written_in}
 use Rattle.sheet.specs.Filled.{ListFilling, list_left}
 use Rattle.sheet.specs.Limits.{largest_region}
 use Rattle.sheet.specs.Refusal.{Check, first_held, refusal_number, after, after_or0, after_or_kept}
-use Rattle.sheet.specs.declared.refusal.Checked.{Checked}
+use Rattle.sheet.specs.Refusal.{Checked}
+use Rattle.sheet.specs.declared.refusal.Refusal.{Refusal}
 use Rattle.sheet.specs.declared.refusal.Refusal.TheVariants.{TooLarge, PageSize, WalkSpace, NoRoom}
 use Rattle.walk.specs.Walk.{Walk, walk, hits_of, overflows}
 use Rattle.walk.specs.declared.walk.Walked.{Walked}
-use Rattle.walk.specs.declared.walk.Walked.TheVariants.{Done, Full, Short, Refused}
+use Rattle.walk.specs.declared.walk.Walked.TheVariants.{Done, Full, Short}
 
 -- ---- the answer of a call over walks, whatever it makes of the leaves
 
@@ -34,21 +36,26 @@ walked_of w =
     (cond (ltb w.room w.things) (Full w.room) (cond w.overflow (Short w.things) (Done w.things)))
     (Short 0)
 
-abbrev pub walking_answer : Walking → Walked
-walking_answer w = after Refused w.checked (walked_of w)
+abbrev pub walking_answer : Walking → Result Walked Refusal
+walking_answer w = after Err w.checked (Ok (walked_of w))
+
+-- how a walk ends behind the checks: the refusal's number, 0 for none, and how many things are written
+abbrev pub end_number : Walked → ℕ
+end_number (Done n) = 0
+end_number (Full n) = refusal_number NoRoom
+end_number (Short n) = refusal_number WalkSpace
+
+abbrev pub end_written : Walked → ℕ
+end_written (Done n) = n
+end_written (Full n) = n
+end_written (Short n) = n
 
 -- the paper's number of an answer, 0 where nothing is refused, and how many things it says are written
-abbrev pub walked_number : Walked → ℕ
-walked_number (Done n) = 0
-walked_number (Full n) = refusal_number NoRoom
-walked_number (Short n) = refusal_number WalkSpace
-walked_number (Refused r) = refusal_number r
+abbrev pub walked_number : Result Walked Refusal → ℕ
+walked_number r = number_in end_number r
 
-abbrev pub walked_written : Walked → ℕ
-walked_written (Done n) = n
-walked_written (Full n) = n
-walked_written (Short n) = n
-walked_written (Refused r) = 0
+abbrev pub walked_written : Result Walked Refusal → ℕ
+walked_written r = written_in end_written r
 
 -- the same, said of what the answer rests on
 abbrev pub walking_number : Walking → ℕ
@@ -106,7 +113,7 @@ collect_walking a =
     leaves_walking (first_held (walk_checks (length a.db) a.size)) (whole_pages (length a.db) a.size)
     (length a.flags) (length a.leaves) (collect_walk a)
 
-unfoldable pub collect_answer : LeavesAsked → Walked
+unfoldable pub collect_answer : LeavesAsked → Result Walked Refusal
 collect_answer a = walking_answer (collect_walking a)
 
 unfoldable pub collect_number : LeavesAsked → ℕ
@@ -129,12 +136,12 @@ collect_cleared a old = walking_cleared (collect_walking a) old
 
 -- what the call leaves: its answer, and what the lists hold at exit
 pub record LeavesOutcome : Type 0 where
-  pub answer : Walked
+  pub answer : Result Walked Refusal
   pub flags : List ℕ
   pub stack : List ℕ
   pub leaves : List ℕ
 
-abbrev pub leaves_outcome : Walked → List ℕ → List ℕ → List ℕ → LeavesOutcome
+abbrev pub leaves_outcome : Result Walked Refusal → List ℕ → List ℕ → List ℕ → LeavesOutcome
 leaves_outcome r flags stack leaves = record { answer = r; flags = flags; stack = stack; leaves = leaves }
 
 -- what it promises

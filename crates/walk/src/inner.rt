@@ -2,195 +2,173 @@
 pub mod checks;
 
 ghost use Rattle.std.specs.Prelude.{◌≡◌, [], ◌∷◌, ◌+◌, ◌/◌, ◌≤◌, length, replicate, take};
-ghost use Rattle.walk.specs.Inner.{tops, pushed_as, pushed_top, stepped_as, stepped_top, NextSays};
+ghost use Rattle.walk.specs.Inner.{Inside, Keeps, held, depth_of, TakenOff, pushed_as, stepped_as, NextSays};
 ghost use Rattle.walk.specs.Walk.{child_in, cells_from, push_all, page_done, popped, marked};
 
 use page::inner::{cell_count, child, head_of, page_type, pointer};
 
-// The stack's height behind what was pushed; or there was no room for it.
-#[derive(Clone, Copy)]
-pub enum Pushed {
-    On(usize),
-    Overflow,
+// The stack has no cell left for a page.
+#[derive(Clone, Copy, Debug, PartialEq, Eq)]
+pub struct Overflow;
+
+// Page numbers that are still to be popped, in the first `top` cells of a lent list.
+#[derive(Drop)]
+pub struct Stack<'a> {
+    pages: &'a mut [u64],
+    top: usize,
 }
 
-// What popping a page came to, and the stack's height.
-#[derive(Clone, Copy)]
-pub enum Step {
-    Leaf(usize),
-    On(usize),
-    Overflow,
+impl<'a> Stack<'a> {
+    // With no page on it, whatever the list holds.
+    pub fn new(pages: &'a mut [u64]) -> Self
+        ensures same { result.pages.ghost_name ≡ pages.entry.ghost_name }
+        ensures cells { result.pages.now ≡ pages.old }
+        ensures empty { result.top ≡ 0 }
+    {
+        Stack { pages, top: 0 }
+    }
+
+    fn push(&mut self, page: u64) -> Result<(), Overflow>
+        requires { Inside self.old }
+        ensures kept { Keeps self.old self.new }
+        ensures result_after { pushed_as self.new result ≡ push_all (depth_of self.old) (page ∷ []) (held self.old) }
+    {
+        if self.top >= self.pages.len() {
+            return Err(Overflow);
+        }
+        self.pages[self.top] = page;
+        self.top += 1;
+        Ok(())
+    }
+
+    fn pop(&mut self) -> Option<u64>
+        requires { Inside self.old }
+        ensures kept { Keeps self.old self.new }
+        ensures result_after { TakenOff self.old result self.new }
+    {
+        if self.top == 0 {
+            return None;
+        }
+        self.top -= 1;
+        Some(self.pages[self.top])
+    }
 }
 
-// The next leaf, and the stack's height behind it.
-#[derive(Clone, Copy)]
-pub enum Next {
-    Leaf { page: u64, top: usize },
-    Done,
-    Overflow,
-}
-
+// Of the file format's page types those of a table; any other byte may stand there, and is neither.
 const LEAF: u64 = 0x0D;
 
 const INTERIOR: u64 = 0x05;
 
 // Pushes the page number at a place of a page; past its end there is none.
-fn push_child(page: &[u8], at: usize, stack: &mut [u64], top: usize) -> Pushed
+fn push_child(page: &[u8], at: usize, stack: &mut Stack<'_>) -> Result<(), Overflow>
     requires at_bound { at ≤ 131072 }
-    requires top_in_bounds { top ≤ length stack.old }
-    ensures result_after { pushed_as stack.new result ≡ push_all (length stack.old) (child_in page.now at)
-        (tops stack.old top) }
-    ensures small { pushed_top result ≤ length stack.old }
+    requires inside { Inside stack.old }
+    ensures kept { Keeps stack.old stack.new }
+    ensures result_after { pushed_as stack.new result ≡ push_all (depth_of stack.old) (child_in page.now at) (held stack.old) }
 {
     if at + 4 > page.len() {
-        return Pushed::On(top);
+        return Ok(());
     }
-    if top >= stack.len() {
-        return Pushed::Overflow;
-    }
-    stack[top] = child(page, at);
-    Pushed::On(top + 1)
+    stack.push(child(page, at))
 }
 
 // Pushes the children of so many cells, whose pointers stand from a place on.
-fn push_cells(page: &[u8], from: usize, count: usize, stack: &mut [u64], top: usize) -> Pushed
+fn push_cells(page: &[u8], from: usize, count: usize, stack: &mut Stack<'_>) -> Result<(), Overflow>
     requires page_len_bound { length page.now ≤ 65536 }
     requires from_bound { from ≤ 65536 }
-    requires top_in_bounds { top ≤ length stack.old }
-    ensures result_after { pushed_as stack.new result ≡ push_all (length stack.old) (cells_from count page.now from)
-        (tops stack.old top) }
-    ensures small { pushed_top result ≤ length stack.old }
+    requires inside { Inside stack.old }
+    ensures kept { Keeps stack.old stack.new }
+    ensures result_after { pushed_as stack.new result ≡ push_all (depth_of stack.old) (cells_from count page.now from) (held stack.old) }
 {
-    let mut at = from;
-    let mut left = count;
-    let mut t = top;
-    while left > 0 {
+    for k in 0..count {
+        let at = from + 2 * k;
         if at + 2 > page.len() {
-            return Pushed::On(t);
+            break;
         }
-        let Pushed::On(next) = push_child(page, pointer(page, at), stack, t) else {
-            return Pushed::Overflow;
-        };
-        t = next;
-        at = at + 2;
-        left = left - 1;
+        push_child(page, pointer(page, at), stack)?;
     }
-    Pushed::On(t)
+    Ok(())
 }
 
-// A page that is looked at for the first time.
-fn expand(page: &[u8], head: usize, stack: &mut [u64], top: usize) -> Step
+// A page that is looked at for the first time: its children are pushed. Whether it is a leaf.
+fn expand(page: &[u8], head: usize, stack: &mut Stack<'_>) -> Result<bool, Overflow>
     requires page_len_bound { length page.now ≤ 65536 }
     requires head_bound { head ≤ 100 }
-    requires top_in_bounds { top ≤ length stack.old }
-    ensures result_after { stepped_as stack.new result ≡ page_done (length stack.old) page.now head
-        (tops stack.old top) }
-    ensures small { stepped_top result ≤ length stack.old }
+    requires inside { Inside stack.old }
+    ensures kept { Keeps stack.old stack.new }
+    ensures result_after { stepped_as stack.new result ≡ page_done (depth_of stack.old) page.now head (held stack.old) }
 {
-    let kind = page_type(page, head);
-    if kind == LEAF {
-        return Step::Leaf(top);
-    }
-    if kind != INTERIOR {
-        return Step::On(top);
-    }
-    let Pushed::On(mid) = push_child(page, head + 8, stack, top) else {
-        return Step::Overflow;
-    };
-    let count = cell_count(page, head);
-    match push_cells(page, head + 12, count, stack, mid) {
-        Pushed::On(t) => Step::On(t),
-        Pushed::Overflow => Step::Overflow,
+    match page_type(page, head) {
+        LEAF => Ok(true),
+        INTERIOR => {
+            push_child(page, head + 8, stack)?;
+            push_cells(page, head + 12, cell_count(page, head), stack)?;
+            Ok(false)
+        }
+        _ => Ok(false),
     }
 }
 
-// A page number that was popped.
-fn visit(db: &[u8], size: usize, p: u64, flags: &mut [u8], stack: &mut [u64], top: usize) -> Step
+// A page number that was popped: whether it is that of a leaf, which was not there before.
+fn visit(
+    db: &[u8],
+    size: usize,
+    p: u64,
+    flags: &mut [u8],
+    stack: &mut Stack<'_>,
+) -> Result<bool, Overflow>
     requires le_size { 512 ≤ size }
     requires size_bound { size ≤ 65536 }
     requires flag_for_each_page { length db.now / size ≤ length flags.old }
-    requires top_in_bounds { top ≤ length stack.old }
-    ensures result_after { stepped_as stack.new result ≡ popped db.now size (length stack.old)
-        (take (length db.now / size) flags.old) p (tops stack.old top) }
+    requires inside { Inside stack.old }
+    ensures kept { Keeps stack.old stack.new }
+    ensures result_after { stepped_as stack.new result ≡ popped db.now size (depth_of stack.old)
+        (take (length db.now / size) flags.old) p (held stack.old) }
     ensures flags { take (length db.now / size) flags.new ≡ marked (length db.now) size
         (take (length db.now / size) flags.old) p }
-    ensures small { stepped_top result ≤ length stack.old }
 {
-    if p == 0 {
-        return Step::On(top);
-    }
-    if p > (db.len() / size) as u64 {
-        return Step::On(top);
+    if p == 0 || p > (db.len() / size) as u64 {
+        return Ok(false);
     }
     let i = p as usize - 1;
     if flags[i] != 0 {
-        return Step::On(top);
+        return Ok(false);
     }
     flags[i] = 1;
     let start = i * size;
     let end = start + size;
-    let head = head_of(p);
-    expand(&db[start..end], head, stack, top)
+    expand(&db[start..end], head_of(p), stack)
 }
 
-// Pops pages until one is a leaf.
-pub fn next_leaf(db: &[u8], size: usize, flags: &mut [u8], stack: &mut [u64], top: usize) -> Next
+// Pops pages until one is a leaf; none if no leaf is left.
+pub fn next_leaf(
+    db: &[u8],
+    size: usize,
+    flags: &mut [u8],
+    stack: &mut Stack<'_>,
+) -> Result<Option<u64>, Overflow>
     requires le_size { 512 ≤ size }
     requires size_bound { size ≤ 65536 }
     requires flag_for_each_page { length db.now / size ≤ length flags.old }
-    requires top_in_bounds { top ≤ length stack.old }
-    ensures { NextSays db.now size flags.old stack.old top flags.new
-        stack.new result }
+    requires inside { Inside stack.old }
+    ensures kept { Keeps stack.old stack.new }
+    ensures next { NextSays db.now size flags.old stack.old flags.new stack.new result }
 {
-    let mut t = top;
-    while t > 0 {
-        let k = t - 1;
-        let p = stack[k];
-        match visit(db, size, p, flags, stack, k) {
-            Step::Leaf(t2) => {
-                return Next::Leaf { page: p, top: t2 };
-            }
-            Step::On(t2) => {
-                t = t2;
-            }
-            Step::Overflow => {
-                return Next::Overflow;
-            }
+    while let Some(page) = stack.pop() {
+        if visit(db, size, page, flags, stack)? {
+            return Ok(Some(page));
         }
     }
-    Next::Done
+    Ok(None)
 }
 
-pub fn clear_flags(flags: &mut [u8])
-    ensures { flags.new ≡ replicate (length flags.old) 0 }
-{
-    let mut i = 0;
-    while i < flags.len() {
-        flags[i] = 0;
-        i = i + 1;
-    }
-}
-
-pub fn clear_stack(stack: &mut [u64])
-    ensures { stack.new ≡ replicate (length stack.old) 0 }
-{
-    let mut i = 0;
-    while i < stack.len() {
-        stack[i] = 0;
-        i = i + 1;
-    }
-}
-
-// A table's walk begins: no page is flagged, and the root is pushed.
-pub fn begin(root: u64, flags: &mut [u8], stack: &mut [u64]) -> Pushed
-    ensures result_after { pushed_as stack.new result ≡ push_all (length stack.old) (root ∷ []) [] }
+// A table's walk begins: no page is flagged, and only the root is on the stack.
+pub fn begin(root: u64, flags: &mut [u8], stack: &mut Stack<'_>) -> Result<(), Overflow>
+    ensures kept { Keeps stack.old stack.new }
+    ensures result_after { pushed_as stack.new result ≡ push_all (depth_of stack.old) (root ∷ []) [] }
     ensures flags { flags.new ≡ replicate (length flags.old) 0 }
-    ensures small { pushed_top result ≤ length stack.old }
 {
-    clear_flags(flags);
-    if stack.len() == 0 {
-        return Pushed::Overflow;
-    }
-    stack[0] = root;
-    Pushed::On(1)
+    flags.fill(0);
+    stack.top = 0;
+    stack.push(root)
 }

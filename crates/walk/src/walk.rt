@@ -2,16 +2,17 @@
 ghost use Rattle.std.specs.Prelude.{◌≡◌, ◌/◌, ◌≤◌, length};
 ghost use Rattle.sheet.specs.Refusal.{first_held};
 ghost use Rattle.walk.specs.Inner.{Collected};
-ghost use Rattle.walk.specs.Collect.{walked_number, walked_written, walk_checks, leaves_asked, leaves_outcome, CollectsLeaves};
+ghost use Rattle.walk.specs.Collect.{end_number, end_written, walk_checks, leaves_asked, leaves_outcome, CollectsLeaves};
 ghost use Rattle.walk.specs.Walk.{walk};
 
-use crate::inner::{Next, Pushed, begin, clear_flags, clear_stack, next_leaf};
+use crate::inner::{Overflow, Stack, begin, next_leaf};
 use page::inner::size_fits;
-use sheet::refusal::{Checked, FULL, Refusal};
-use sheet::{LARGEST_REGION, refusal};
+use sheet::LARGEST_REGION;
+use sheet::answer::Answer;
+use sheet::refusal::Refusal;
 
 // What is written while walking: leaves, or rows out of them.
-#[derive(Clone, Copy)]
+#[derive(Clone, Copy, Debug, PartialEq, Eq)]
 pub enum Walked {
     // All of it: how many.
     Done(usize),
@@ -19,45 +20,39 @@ pub enum Walked {
     Full(usize),
     // There were too few flags, or the stack overflowed: how many were written before.
     Short(usize),
-    Refused(Refusal),
 }
 
-impl Walked {
-    // The refusal's number, 0 for none.
-    pub fn number(self) -> u64
-        ensures { result ≡ walked_number self }
-    {
+impl Answer for Walked {
+    ghost number_of = { end_number };
+
+    ghost written_of = { end_written };
+
+    fn number(self) -> u64 {
         match self {
             Walked::Done(_) => 0,
-            Walked::Full(_) => FULL,
-            Walked::Short(_) => refusal::number(Refusal::WalkSpace),
-            Walked::Refused(refusal) => refusal::number(refusal),
+            Walked::Full(_) => Refusal::NoRoom.number(),
+            Walked::Short(_) => Refusal::WalkSpace.number(),
         }
     }
 
-    pub fn written(self) -> u64
-        ensures { result ≡ walked_written self }
-    {
+    fn written(self) -> u64 {
         match self {
-            Walked::Done(n) => n as u64,
-            Walked::Full(n) => n as u64,
-            Walked::Short(n) => n as u64,
-            Walked::Refused(_) => 0,
+            Walked::Done(n) | Walked::Full(n) | Walked::Short(n) => n as u64,
         }
     }
 }
 
 // The checks before a walk, in rising order of their numbers.
-fn check(len: usize, size: u64) -> Checked
+fn check(len: usize, size: u64) -> Result<(), Refusal>
     ensures { result ≡ first_held (walk_checks len size) }
 {
     if len > LARGEST_REGION {
-        return Checked::Refused(Refusal::TooLarge);
+        Err(Refusal::TooLarge)
+    } else if !size_fits(size) {
+        Err(Refusal::PageSize)
+    } else {
+        Ok(())
     }
-    if !size_fits(size) {
-        return Checked::Refused(Refusal::PageSize);
-    }
-    Checked::Passed
 }
 
 fn collect(
@@ -76,25 +71,24 @@ fn collect(
     if flags.len() < db.len() / size {
         return Walked::Short(0);
     }
-    let Pushed::On(height) = begin(root, flags, stack) else {
+    let mut stack = Stack::new(stack);
+    if let Err(Overflow) = begin(root, flags, &mut stack) {
         return Walked::Short(0);
-    };
-    let mut top = height;
+    }
     let mut n = 0;
     loop {
-        match next_leaf(db, size, flags, stack, top) {
-            Next::Leaf { page, top: t } => {
+        match next_leaf(db, size, flags, &mut stack) {
+            Ok(Some(page)) => {
                 if n >= leaves.len() {
                     return Walked::Full(n);
                 }
                 leaves[n] = page;
-                n = n + 1;
-                top = t;
+                n += 1;
             }
-            Next::Done => {
+            Ok(None) => {
                 return Walked::Done(n);
             }
-            Next::Overflow => {
+            Err(Overflow) => {
                 return Walked::Short(n);
             }
         }
@@ -109,18 +103,14 @@ pub fn collect_leaf_pages(
     flags: &mut [u8],
     stack: &mut [u64],
     leaves: &mut [u64],
-) -> Walked
+) -> Result<Walked, Refusal>
     ensures { CollectsLeaves
         (leaves_asked db.now size root flags.old stack.old leaves.old)
         (leaves_outcome result flags.new stack.new leaves.new) }
 {
-    match check(db.len(), size) {
-        Checked::Refused(refusal) => Walked::Refused(refusal),
-        Checked::Passed => {
-            let answer = collect(db, size as usize, root, flags, stack, leaves);
-            clear_flags(flags);
-            clear_stack(stack);
-            answer
-        }
-    }
+    check(db.len(), size)?;
+    let answer = collect(db, size as usize, root, flags, stack, leaves);
+    flags.fill(0);
+    stack.fill(0);
+    Ok(answer)
 }

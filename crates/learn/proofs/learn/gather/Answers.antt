@@ -1,41 +1,20 @@
 -- `learn::learn::gather` meets its contract.
 -- Assumes nothing.
-use mathlib.Core.Path.{◌∙◌}
 use native.Mathlib.Omega.{arith}
-use borrow.Author.Rules.{rules}
-use Rattle.learn.proofs.Columns.{gathered_none, gathered_place, gathered_more, gathered_all}
+use Rattle.learn.proofs.Columns.{gathered_none, gathered_more, gathered_all, entry_place}
 use Rattle.learn.proofs.learn.gather.Goals as goal
 
-pub loop-left-init : goal.loop-left-init
-loop-left-init c = (search rules, gathered_none c.requires.lent.whole (omega (arith, c.requires.lent.few)))
-
-pub overflow_mul-column : goal.overflow_mul-column
-overflow_mul-column c = omega (arith, c.requires.lent.narrow)
-
-pub overflow_add-at : goal.overflow_add-at
-overflow_add-at c = omega (arith, gathered_place c.loop-left.invariant.1 (search rules))
+pub loop-i-init : goal.loop-i-init
+loop-i-init c = gathered_none
 
 pub entry_at-requires : goal.entry_at-requires
-entry_at-requires c = omega (arith, gathered_place c.loop-left.invariant.1 (search rules))
+entry_at-requires c = entry_place _ _ _ _ _ c.requires.lent.whole c.loop-i-test.true c.requires.column_lt_width
 
 pub put_type-n-requires : goal.put_type-n-requires
-put_type-n-requires c = record { bytes_len_bound = c.requires.lent.small; n_in_bounds = omega (arith, c.loop-left.invariant.1.room) }
+put_type-n-requires c = record { bytes_len_bound = c.requires.lent.small; n_in_bounds = omega (arith, c.loop-i.invariant.few, c.requires.lent.few, c.requires.kinds_len) }
 
-pub overflow_mul-at : goal.overflow_mul-at
-overflow_mul-at c = omega (arith, c.requires.lent.narrow)
-
-pub overflow_add-at-in-loop-left : goal.overflow_add-at-in-loop-left
-overflow_add-at-in-loop-left c = omega (arith, gathered_place c.loop-left.invariant.1 (search rules))
-
-pub loop-left-preserved : goal.loop-left-preserved
-loop-left-preserved c =
-    let put = rw c.entry_at.ensures at c.put_type-n.ensures in (
-      c.put_type-n.auto.kinds ∙ c.loop-left.invariant.0,
-      gathered_more c.loop-left.invariant.1 (search rules) (search rules) c.put_type-n.auto.kinds put,
-    )
-
-pub shape_of-kinds : goal.shape_of-kinds
-shape_of-kinds c = c.loop-left.invariant.0
+pub loop-i-preserved : goal.loop-i-preserved
+loop-i-preserved c = gathered_more c.loop-i.invariant c.loop-i-test.true c.requires.column_lt_width (rw c.entry_at.ensures at c.put_type-n.ensures)
 
 pub returns : goal.returns
-returns c = record { kinds_after = gathered_all c.loop-left.invariant.1 (search rules); small = omega (arith, c.loop-left.invariant.0, c.loop-left.invariant.1.room, c.requires.kinds_len) }
+returns c = record { kinds_after = gathered_all c.loop-i.invariant c.loop-i-test.false; small = omega (arith, c.loop-i.invariant.few, c.requires.lent.few) }

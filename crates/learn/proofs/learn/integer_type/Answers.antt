@@ -30,6 +30,6 @@ pub returns-then-n-lt2 : goal.returns-then-n-lt2
 unfolding integer_type
 returns-then-n-lt2 c = let z = from (goal.at.returns-then-n-lt2 c).Else-v-lt0 in rw z.is (simp (lt-ltb _ _ (rw z.kept at c.if-n-lt2.true)))
 
-pub returns : goal.returns
+pub returns-else-n-lt2 : goal.returns-else-n-lt2
 unfolding integer_type
-returns c = let z = from (goal.at.returns c).Else-v-lt0 in rw z.is (simp (le-ltb _ _ (rw z.kept at c.if-n-lt2.false)) (rw z.kept at c.width_type-2.ensures))
+returns-else-n-lt2 c = let z = from (goal.at.returns-else-n-lt2 c).Else-v-lt0 in rw z.is (simp (le-ltb _ _ (rw z.kept at c.if-n-lt2.false)) (rw z.kept at c.width_type-else-n-lt2.ensures))

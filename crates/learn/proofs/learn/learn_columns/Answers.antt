@@ -13,7 +13,7 @@ use Rattle.learn.proofs.learn.learn_columns.Goals.{After-put_hints}
 -- the hints that fit lie in the list
 lie : (c : After-put_hints) →
     c.put_hints.new.types ≡ laid (hints_below c.args.bytes.now c.args.columns (rows_in c.args.rows c.args.width c.args.entries.now)) c.args.types.now
-lie c = hints_laid _ _ _ _ c.smaller.ensures c.put_hints.ensures
+lie c = hints_laid _ _ _ _ c.min.ensures c.put_hints.ensures
 
 pub put_hints-requires : goal.put_hints-requires
 put_hints-requires c =
@@ -22,5 +22,5 @@ put_hints-requires c =
 pub returns-then-room-columns : goal.returns-then-room-columns
 returns-then-room-columns c = record { value = simp (lt-leb _ _ c.if-room-columns.true); list = lie (goal.at.returns-then-room-columns c).After-put_hints }
 
-pub returns : goal.returns
-returns c = record { value = simp (le-leb _ _ c.if-room-columns.false); list = lie (goal.at.returns c).After-put_hints }
+pub returns-else-room-columns : goal.returns-else-room-columns
+returns-else-room-columns c = record { value = simp (le-leb _ _ c.if-room-columns.false); list = lie (goal.at.returns-else-room-columns c).After-put_hints }

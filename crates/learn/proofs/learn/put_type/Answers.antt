@@ -1,19 +1,18 @@
 -- `learn::learn::put_type` meets its contract.
 -- Assumes nothing.
+use Rattle.std.specs.Prelude.{Some}
 use borrow.Author.Rules.{rules}
 use mathlib.Core.Path.{◌≡◌, sym, ◌∙◌}
 use native.Mathlib.Omega.{arith}
 use Rattle.record.specs.Entry.{read_entry}
-use Rattle.record.specs.declared.entry.EntryRead.TheVariants.{Of}
 use Rattle.record.proofs.Bodies.{entry_inside}
 use Rattle.learn.proofs.Columns.{given_unused, given_value, given_bad, put_none, put_one}
 use Rattle.learn.proofs.learn.put_type.Goals as goal
-use Rattle.learn.proofs.learn.put_type.Goals.{In-Of}
+use Rattle.learn.proofs.learn.put_type.Goals.{In-Some}
 
 -- the value that was read
-got : (c : In-Of) →
-    read_entry c.args.e c.args.bytes.now ≡ Of c.in-Of.value
-got c = sym c.read.ensures.value ∙ c.in-Of.is
+got : (c : In-Some) → read_entry c.args.e c.args.bytes.now ≡ Some c.in-Some.value
+got c = sym c.read.ensures.value ∙ c.in-Some.is
 
 pub returns-then-e-ge-UNUSED : goal.returns-then-e-ge-UNUSED
 returns-then-e-ge-UNUSED c = put_none (given_unused _ _ c.if-e-ge-UNUSED.true)
@@ -28,4 +27,4 @@ pub value_type-requires : goal.value_type-requires
 value_type-requires c = omega (arith, entry_inside _ _ _ (got c))
 
 pub returns : goal.returns
-returns c = put_one (given_value _ _ c.if-e-ge-UNUSED.false (got (goal.at.returns c).In-Of) ∙ rw c.value_type.ensures) (search rules)
+returns c = put_one (given_value _ _ c.if-e-ge-UNUSED.false (got (goal.at.returns c).In-Some) ∙ rw c.value_type.ensures) (search rules)

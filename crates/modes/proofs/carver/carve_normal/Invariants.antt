@@ -1,4 +1,4 @@
--- `modes::carver::carve_normal` meets its contract: what the loop has written are the rows so far (`Normals`).
+-- `modes::carver::carve_normal` meets its contract: what the loop has added are the rows so far (`Normals`).
 -- Assumes nothing.
 use Prim.Native.Nat.{◌-◌}
 use lib.ListN.{length}
@@ -6,7 +6,7 @@ use Rattle.modes.proofs.Running.{Normals}
 use Rattle.modes.proofs.carver.carve_normal.Given as goal
 
 abbrev pub invariant-loop-o : goal.invariant-loop-o
-invariant-loop-o l = Normals l.bytes l.base l.columns l.room l.initial.rows l.initial.cols l.rows l.cols l.o l.n
+invariant-loop-o l = Normals l.bytes l.base l.initial.sheet.width l.initial.sheet l.o l.sheet
 
 abbrev pub decreases-loop-o : goal.decreases-loop-o
 decreases-loop-o l = length l.bytes - l.o

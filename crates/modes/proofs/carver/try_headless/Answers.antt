@@ -4,11 +4,11 @@ use native.Mathlib.Omega.{arith}
 use Rattle.modes.proofs.Trying.{headless_cut, headless_none, headless_hit}
 use Rattle.modes.proofs.carver.try_headless.Goals as goal
 
-pub returns-in_default : goal.returns-in_default
-returns-in_default c = headless_cut _ _ _ _ (rw c.in_default.is at c.read_types.ensures)
+pub returns-in_err-types : goal.returns-in_err-types
+returns-in_err-types c = rw c.from_residual.ensures (headless_cut _ _ _ _ (rw c.in_err-types.was at c.read_types.ensures))
 
-pub returns-then-count-eq0 : goal.returns-then-count-eq0
-returns-then-count-eq0 c = headless_none _ _ _ _ _ _ _ (rw c.in-Whole.is at c.read_types.ensures) c.if-count-eq0.true
+pub returns-then-types-eq0 : goal.returns-then-types-eq0
+returns-then-types-eq0 c = headless_none _ _ _ _ _ _ _ (rw c.in_ok-types.was at c.read_types.ensures) c.if-types-eq0.true
 
 pub returns : goal.returns
-returns c = headless_hit _ _ _ _ _ _ _ (rw c.in-Whole.is at c.read_types.ensures) c.requires.0 c.requires.2 (omega (arith, c.if-count-eq0.false))
+returns c = headless_hit _ _ _ _ _ _ _ (rw c.in_ok-types.was at c.read_types.ensures) c.requires.0 c.requires.2 (omega (arith, c.if-types-eq0.false))

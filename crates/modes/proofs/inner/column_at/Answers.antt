@@ -5,11 +5,11 @@ use native.Mathlib.Omega.{arith}
 use Rattle.modes.proofs.Bodies.{column_body, column_out, column_none}
 use Rattle.modes.proofs.inner.column_at.Goals as goal
 
-pub returns-in_default : goal.returns-in_default
-returns-in_default c = record { value = sym (column_none _ _ _ (sym c.body_length.ensures ∙ c.in_default.is)); inside = c.requires }
+pub returns-in-Some-clause-value : goal.returns-in-Some-clause-value
+returns-in-Some-clause-value c = sym (column_body _ _ _ _ (sym c.body_length.ensures ∙ c.in-Some.is) (omega (arith, c.if-n-len.true, c.requires)))
 
-pub returns-then-n-len : goal.returns-then-n-len
-returns-then-n-len c = record { value = sym (column_out _ _ _ _ (sym c.body_length.ensures ∙ c.in-Bytes.is) (omega (arith, c.if-n-len.true))); inside = c.requires }
+pub returns-in_default-clause-value : goal.returns-in_default-clause-value
+returns-in_default-clause-value c = sym (column_out _ _ _ _ (sym c.body_length.ensures ∙ c.in-Some.is) (omega (arith, c.if-n-len.false)))
 
-pub returns : goal.returns
-returns c = record { value = sym (column_body _ _ _ _ (sym c.body_length.ensures ∙ c.in-Bytes.is) (omega (arith, c.if-n-len.false, c.requires))); inside = omega (arith, c.if-n-len.false, c.requires) }
+pub returns-in_default-2-clause-value : goal.returns-in_default-2-clause-value
+returns-in_default-2-clause-value c = sym (column_none _ _ _ (sym c.body_length.ensures ∙ c.in_default.is))

@@ -4,8 +4,5 @@ use Rattle.modes.specs.Inner.{kinds_at}
 use Rattle.modes.proofs.Writing.{Written}
 use Rattle.modes.proofs.inner.put_bodies.Given as goal
 
-abbrev pub invariant-loop-left : goal.invariant-loop-left
-invariant-loop-left l = Written l.bytes (kinds_at l.count l.bytes l.from) l.start l.initial.cols l.k l.at l.end l.cols l.to l.left
-
-abbrev pub decreases-loop-left : goal.decreases-loop-left
-decreases-loop-left l = l.left
+abbrev pub invariant-loop-k : goal.invariant-loop-k
+invariant-loop-k l = Written l.bytes (kinds_at l.count l.bytes l.from) l.start l.initial.cols l.first l.at l.end l.cols l.k l.count

@@ -1,4 +1,4 @@
--- `unalloc::unalloc::carve_rows` meets its contract: what the loop has written are the rows so far (`Rows`).
+-- `unalloc::unalloc::carve_rows` meets its contract: what the loop has added are the rows so far (`Rows`).
 -- Assumes nothing.
 use Prim.Native.Nat.{◌-◌}
 use lib.ListN.{length}
@@ -6,7 +6,7 @@ use Rattle.unalloc.proofs.Running.{Rows}
 use Rattle.unalloc.proofs.unalloc.carve_rows.Given as goal
 
 abbrev pub invariant-loop-o : goal.invariant-loop-o
-invariant-loop-o l = Rows l.region l.types l.base l.room l.initial.rows l.initial.cols l.rows l.cols l.o l.n
+invariant-loop-o l = Rows l.region l.types l.base l.initial.sheet l.o l.sheet
 
 abbrev pub decreases-loop-o : goal.decreases-loop-o
 decreases-loop-o l = length l.region - l.o

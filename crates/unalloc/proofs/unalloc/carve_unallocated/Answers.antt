@@ -1,16 +1,24 @@
 -- `unalloc::unalloc::carve_unallocated` meets its contract: a check refuses, or the region is carved.
 -- Assumes nothing.
-use mathlib.Core.Path.{sym, ◌∙◌}
-use Rattle.modes.proofs.Writing.{ready}
-use Rattle.sheet.proofs.Filling.{carved_filled, rows_refused, rows_filled}
+use Rattle.std.proofs.lemmas.Result.{err_from_is_err_and}
+use Rattle.std.specs.Prelude.{Err}
+use mathlib.Core.Path.{◌≡◌, refl, sym, ◌∙◌}
+use borrow.Author.Rules.{rules}
+use Rattle.modes.proofs.Writing.{ready, carved}
+use Rattle.sheet.proofs.Filling.{rows_refused}
 use Rattle.unalloc.proofs.unalloc.carve_unallocated.Goals as goal
 
-pub carve_rows-requires : goal.carve_rows-requires
-carve_rows-requires c = ready _ _ _ _ _ _ (sym c.check_counted.ensures ∙ c.in-Passed.is) c.room-most.ensures
+pub returns-in_err-check_counted : goal.returns-in_err-check_counted
+returns-in_err-check_counted c =
+    let e = err_from_is_err_and _ c.from_residual.ensures.1 in
+    let is : c.from_residual.result ≡ Err c.in_err-check_counted.field-0.0 = e.1 ∙ rw e.2 in
+    rw is (rows_refused _ _ (sym c.check_counted.ensures ∙ c.in_err-check_counted.was))
 
-pub returns-in-Refused : goal.returns-in-Refused
-returns-in-Refused c = rows_refused _ _ (sym c.check_counted.ensures ∙ c.in-Refused.is)
+pub carve_rows-added-requires-clause-ready : goal.carve_rows-added-requires-clause-ready
+carve_rows-added-requires-clause-ready c =
+    ready _ _ _ _ _ _ (sym c.check_counted.ensures ∙ c.in_ok-check_counted.was) (record { rows_are = refl; cols_are = refl; width_is = refl; room_is = c.room-room.ensures; n_is = refl })
 
-pub returns-in-Passed : goal.returns-in-Passed
-returns-in-Passed c =
-    rows_filled _ _ (sym c.check_counted.ensures ∙ c.in-Passed.is) (rw c.filled.ensures (carved_filled _ _ _ _ _ _ _ c.room-most.ensures c.carve_rows.result c.carve_rows.ensures))
+pub returns : goal.returns
+returns c =
+    carved _ _ _ _ c.carve_rows-added.result _ _ _ (sym c.check_counted.ensures ∙ c.in_ok-check_counted.was)
+    (record { rows_are = refl; cols_are = refl; width_is = refl; room_is = c.room-room.ensures; n_is = refl }) refl c.carve_rows-added.ensures c.filled.ensures (search rules) (search rules)

@@ -1,6 +1,5 @@
 -- `unalloc::unalloc::read_and_match` meets its contract: what the loop has read, with what is left, comes to the whole (`ReadSoFar`).
 -- Assumes nothing.
-use Prim.Native.Nat.{◌-◌, ◌≤◌}
 use lib.ListN.{length}
 use Rattle.modes.specs.Found.{types_from}
 use Rattle.record.specs.Places.{types_padded}
@@ -9,7 +8,4 @@ use Rattle.unalloc.proofs.unalloc.read_and_match.Given as goal
 
 abbrev pub invariant-loop-count : goal.invariant-loop-count
 invariant-loop-count l =
-    (l.count ≤ length l.types) × ReadSoFar l.region l.types l.stop (types_from (length l.types) l.region l.from l.stop) (types_padded (length l.types) l.region l.from l.stop) l.at l.padded l.end l.count l.matched
-
-abbrev pub decreases-loop-count : goal.decreases-loop-count
-decreases-loop-count l = length l.types - l.count
+    ReadSoFar l.region l.types l.stop (types_from (length l.types) l.region l.from l.stop) (types_padded (length l.types) l.region l.from l.stop) l.at l.padded l.end l.count l.matched

@@ -2,12 +2,12 @@
 -- Assumes nothing.
 use Prim.Native.Nat.{◌/◌}
 use lib.ListN.{length}
-use Rattle.walk.specs.Inner.{need}
+use Rattle.walk.specs.Inner.{need, depth_of}
 use Rattle.walk.proofs.Popping.{Goes}
 use Rattle.walk.proofs.inner.next_leaf.Given as goal
 
-abbrev pub invariant-loop-t : goal.invariant-loop-t
-invariant-loop-t l = Goes l.db l.size l.initial.flags l.initial.stack l.top l.flags l.stack l.t
+abbrev pub invariant-loop-page : goal.invariant-loop-page
+invariant-loop-page l = Goes l.db l.size l.initial.flags l.initial.stack l.flags l.stack
 
-abbrev pub decreases-loop-t : goal.decreases-loop-t
-decreases-loop-t l = need (length l.db / l.size) (length l.stack) l.flags l.t
+abbrev pub decreases-loop-page : goal.decreases-loop-page
+decreases-loop-page l = need (length l.db / l.size) (depth_of l.stack) l.flags l.stack.top

@@ -1,20 +1,14 @@
--- `walk::inner::checks::counts_fit` meets its contract.
+-- `walk::inner::checks::counts_fit` meets its contract: the definition is the library's test of all elements.
 -- Assumes nothing.
-use mathlib.Core.Path.{refl, sym, ◌∙◌}
-use native.Mathlib.Omega.{arith}
+use mathlib.Core.Path.{◌∙◌}
 use borrow.Author.Rules.{rules}
-use Rattle.walk.proofs.Summing.{fit_at, none_left}
+use Rattle.std.proofs.lemmas.Iterator.{YieldsList-from_slice}
+use Rattle.std.proofs.lemmas.Iterator.Search.{all_from_yields_List}
+use Rattle.sheet.specs.Limits.{count_fits}
+use Rattle.walk.proofs.Summing.{each_fits}
 use Rattle.walk.proofs.inner.checks.counts_fit.Goals as goal
 
-pub loop-i-init : goal.loop-i-init
-loop-i-init c = (search rules, refl)
-
-pub returns-then-not-hint_count_fits : goal.returns-then-not-hint_count_fits
-returns-then-not-hint_count_fits c = sym (c.loop-i.invariant.1 ∙ fit_at _ _ c.loop-i-test.true ∙ simp (sym c.hint_count_fits.ensures ∙ c.if-not-hint_count_fits.true))
-
-pub loop-i-preserved : goal.loop-i-preserved
-loop-i-preserved c =
-    (omega arith, c.loop-i.invariant.1 ∙ fit_at _ _ c.loop-i-test.true ∙ simp (sym c.hint_count_fits.ensures ∙ c.if-not-hint_count_fits.false))
-
 pub returns : goal.returns
-returns c = sym (c.loop-i.invariant.1 ∙ rw (none_left _ _ c.loop-i-test.false))
+returns c =
+    all_from_yields_List count_fits _ _ _ c.all.ensures.ran (YieldsList-from_slice c.args.counts.now c.iter.ensures.rest) (λ x b q k. search rules)
+    ∙ each_fits c.args.counts.now

@@ -1,15 +1,16 @@
--- `walk::inner::checks::widest` meets its contract.
+-- `walk::inner::checks::widest` meets its contract: the definition is a fold.
 -- Assumes nothing.
+use Prim.Native.Nat.{max}
+use mathlib.Core.Path.{◌∙◌}
+use native.Mathlib.Nat.{max-eq_right}
 use native.Mathlib.Omega.{arith}
 use borrow.Author.Rules.{rules}
-use Rattle.walk.proofs.Summing.{widest_none, widest_more, widest_all}
+use Rattle.std.proofs.lemmas.Iterator.{YieldsList-from_slice}
+use Rattle.std.proofs.lemmas.Iterator.Consumers.{fold_from_yields_List}
+use Rattle.walk.proofs.Summing.{widest_folded}
 use Rattle.walk.proofs.inner.checks.widest.Goals as goal
 
-pub loop-i-init : goal.loop-i-init
-loop-i-init c = (search rules, widest_none c.args.counts.now)
-
-pub loop-i-preserved : goal.loop-i-preserved
-loop-i-preserved c = (omega arith, rw c.larger-most.ensures (widest_more _ _ _ c.loop-i.invariant.1 c.loop-i-test.true))
-
 pub returns : goal.returns
-returns c = widest_all _ _ _ c.loop-i.invariant.1 c.loop-i-test.false
+returns c =
+    fold_from_yields_List _ max 0 _ c.fold.ensures.ran (YieldsList-from_slice c.args.counts.now c.iter.ensures.rest) (λ a x b q k. search rules)
+    ∙ widest_folded 0 c.args.counts.now ∙ max-eq_right (omega arith)

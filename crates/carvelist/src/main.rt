@@ -9,9 +9,10 @@ ghost use Rattle.sheet.specs.Limits.{most_columns};
 use listing::input::{COUNT_BYTES, LARGEST_INPUT, count_of, judge};
 use listing::part::{Totals, col_space, list_part, row_space, text_space};
 use listing::text::{put_heading, put_refusal, put_totals};
-use scan::schema_sig::Scanned;
-use sheet::refusal::{Checked, Refusal};
-use streams::{Got, Output, fail, has_word, read_whole, say_aside};
+use sheet::answer::Answer;
+use sheet::filled::Filled;
+use sheet::refusal::Refusal;
+use streams::{Output, fail, has_word, read_whole, say_aside};
 
 // One byte more than is taken, which tells a longer input.
 const INPUT_SPACE: usize = LARGEST_INPUT + 1;
@@ -80,28 +81,22 @@ fn say_parts(out: Output, region: &[u8], hints: &[u8]) -> Listed
     ensures { result.total ≡ totals_of (parts_of region.now hints.now) }
 {
     let mut out = out;
+    let mut total = Totals { rows: 0, read: 0 };
     let mut rows = row_space();
     let mut cols = col_space();
     let mut text = text_space();
     let mut at = 0;
-    let mut count = 0;
-    let mut read = 0;
-    loop {
-        let part = list_part(region, hints, at, &mut rows, &mut cols, &mut text);
+    while let Ok(part) = list_part(region, hints, at, &mut rows, &mut cols, &mut text) {
         let len = part.len;
         out = out.say(&text[..len]);
-        let found = part.found;
-        count = count + found.written();
-        read = read + found.read();
-        let Scanned::Full { place, .. } = found else {
-            let total = Totals {
-                rows: count as u64,
-                read: read as u64,
-            };
-            return Listed { out, total };
-        };
-        at = place;
+        total.rows += part.found.written();
+        total.read += part.found.read as u64;
+        match part.found.rows {
+            Filled::Done(_) => break,
+            Filled::Full(_) => at = part.found.place,
+        }
     }
+    Listed { out, total }
 }
 
 fn say_list(out: Output, region: &[u8], hints: &[u8]) -> Output
@@ -129,8 +124,8 @@ fn region_of(input: &[u8]) -> &[u8]
 
 fn say_answer(rt: HostRuntime, out: Output, input: &[u8]) -> Output {
     match judge(input) {
-        Checked::Refused(refusal) => say_refusal(rt, out, refusal),
-        Checked::Passed => say_list(out, region_of(input), hints_of(input)),
+        Ok(()) => say_list(out, region_of(input), hints_of(input)),
+        Err(refusal) => say_refusal(rt, out, refusal),
     }
 }
 
@@ -150,7 +145,7 @@ fn main(rt: HostRuntime) {
     }
     let mut space = input_space();
     match read_whole(&rt, &mut rt.stdin(), &mut space) {
-        Got::Bytes(n) => answer(rt, &space[..n]),
-        Got::Failed(error) => fail(rt, b"carvelist: standard input", error),
+        Ok(n) => answer(rt, &space[..n]),
+        Err(error) => fail(rt, b"carvelist: standard input", error),
     }
 }

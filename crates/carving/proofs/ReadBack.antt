@@ -1,6 +1,7 @@
 -- Values read back, of the public calls: the entries that a call writes lie in the lent slice, and read over it, one after the other, as the values of
 -- the rows' types, each at its place. Said once for each kind of call, whatever the way of carving, and by that of each public call.
 -- Assumes nothing.
+use Rattle.std.specs.Prelude.{Ok}
 use Prim.Native.Nat.{ℕ, ◌*◌, ◌/◌, ◌≤◌, ◌<◌}
 use mathlib.Core.Path.{◌≡◌}
 use mathlib.Core.List.{List}
@@ -36,7 +37,6 @@ use Rattle.sheet.proofs.Laws.{none_holds, count_fits_lem}
 use Rattle.sheet.proofs.ReadBack.{ReadBack, AllFit, rows_read}
 use Rattle.sheet.specs.Filled.{filled_written}
 use Rattle.sheet.specs.Hits.{RowOutcome, FillsRows}
-use Rattle.sheet.specs.declared.refusal.Checked.TheVariants.{Passed}
 
 -- THE LAW: the rows of a page, whatever the way of carving it, over a slice in which it lies
 pub hits_read : (how : Carving) (slice page : List ℕ) (head : ℕ) (hints : List ℕ) (spot : Spot) → PartOf spot.start page slice → 1 ≤ length hints → length hints ≤ width_by how
@@ -47,7 +47,7 @@ hits_read (Gaps how) slice page head hints spot part some few = page_reads slice
 hits_read (Payload how) slice page head hints spot part some few = payload_reads slice spot 0 page hints (rw (add-zero spot.start) part) how some few
 
 -- ---- a slice
-slice_fit : (a : SliceAsked) → slice_checked a ≡ Passed → AllFit a.page (length a.hints) (slice_hits a) (values_by a.how 0 a.page a.head a.hints)
+slice_fit : (a : SliceAsked) → slice_checked a ≡ (Ok tt) → AllFit a.page (length a.hints) (slice_hits a) (values_by a.how 0 a.page a.head a.hints)
 slice_fit a e =
     let n = none_holds (slice_checks_by a.how (length a.page) a.hints a.base) e in
     let k = count_fits_lem (length a.hints) (not-false _ n.1.0) in
@@ -70,7 +70,7 @@ leaf_reads how db size table p hints sized from to some few =
     hits_read how db (page_of db size p) (head_of p) hints (page_spot (start_of size p) table)
     (part_taken db (start_of size p) size (page_inside (length db) size p sized from to)) some few
 
-numbered_fit : (a : NumberedAsked) → numbered_checked a ≡ Passed
+numbered_fit : (a : NumberedAsked) → numbered_checked a ≡ (Ok tt)
     → AllFit a.db (length a.hints) (numbered_hits a) (leaf_values a.how a.db a.size a.hints a.page)
 numbered_fit a e =
     let n = none_holds (numbered_checks_by a.how (length a.db) a.size a.page a.hints) e in

@@ -13,7 +13,7 @@ use Rattle.sheet.specs.Hits.{Hit, RowFilling}
 use Rattle.sheet.specs.Limits.{most_columns, count_fits, hints_known}
 use Rattle.sheet.specs.Refusal.{Check, first_held}
 use Rattle.sheet.specs.Slice.{slice_checks}
-use Rattle.sheet.specs.declared.refusal.Checked.{Checked}
+use Rattle.sheet.specs.Refusal.{Checked}
 use Rattle.sheet.specs.declared.refusal.Refusal.TheVariants.{ColumnCount, Malformed}
 
 -- ---- ways of carving

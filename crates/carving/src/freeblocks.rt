@@ -6,6 +6,7 @@ ghost use Rattle.sheet.specs.Hits.{row_outcome, FillsRows};
 use crate::inner::Carving;
 use crate::single::{carve_numbered, carve_slice};
 use sheet::filled::Filled;
+use sheet::refusal::Refusal;
 
 pub fn recover_slice_freeblocks(
     page: &[u8],
@@ -14,7 +15,7 @@ pub fn recover_slice_freeblocks(
     hints: &[u8],
     rows: &mut [u64],
     cols: &mut [u64],
-) -> Filled
+) -> Result<Filled, Refusal>
     ensures { FillsRows (slice_filling (slice_asked Freeblocks page.now head base hints.now rows.old cols.old))
         (row_outcome result rows.new cols.new) }
 {
@@ -28,7 +29,7 @@ pub fn recover_page_freeblocks(
     hints: &[u8],
     rows: &mut [u64],
     cols: &mut [u64],
-) -> Filled
+) -> Result<Filled, Refusal>
     ensures { FillsRows (numbered_filling (numbered_asked Freeblocks db.now size page hints.now rows.old cols.old))
         (row_outcome result rows.new cols.new) }
 {

@@ -7,6 +7,7 @@ use crate::inner::Carving;
 use crate::single::{carve_numbered, carve_slice};
 use rebuild::rebuilding::Rebuilding;
 use sheet::filled::Filled;
+use sheet::refusal::Refusal;
 
 pub fn scan_single_page_gap(
     rebuilding: Rebuilding,
@@ -16,7 +17,7 @@ pub fn scan_single_page_gap(
     hints: &[u8],
     rows: &mut [u64],
     cols: &mut [u64],
-) -> Filled
+) -> Result<Filled, Refusal>
     ensures { FillsRows (slice_filling (slice_asked (Gaps rebuilding) page.now head base hints.now rows.old cols.old))
         (row_outcome result rows.new cols.new) }
 {
@@ -39,7 +40,7 @@ pub fn scan_page_gap(
     hints: &[u8],
     rows: &mut [u64],
     cols: &mut [u64],
-) -> Filled
+) -> Result<Filled, Refusal>
     ensures { FillsRows (numbered_filling (numbered_asked (Gaps rebuilding) db.now size page hints.now rows.old cols.old))
         (row_outcome result rows.new cols.new) }
 {
@@ -53,7 +54,7 @@ pub fn parse_cells_from_freeblock(
     hints: &[u8],
     rows: &mut [u64],
     cols: &mut [u64],
-) -> Filled
+) -> Result<Filled, Refusal>
     ensures { FillsRows (slice_filling (slice_asked (Payload rebuilding) payload.now 0 base hints.now rows.old cols.old))
         (row_outcome result rows.new cols.new) }
 {

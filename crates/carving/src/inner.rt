@@ -2,15 +2,16 @@
 ghost use Rattle.std.specs.Prelude.{◌≡◌, false, ◌≤◌, ltb, length};
 ghost use Rattle.carving.specs.Calls.{hits_by, width_by};
 ghost use Rattle.hit.specs.Inner.{Ready};
-ghost use Rattle.sheet.specs.Inner.{carved_as, Carves};
+ghost use Rattle.sheet.specs.Inner.{told_by, Adds};
 
 use cells::inner::carve_payload;
-use hit::inner::{Lent, Spot};
+use hit::inner::Spot;
 use rebuild::rebuilding::Rebuilding;
 use sheet::MOST_COLUMNS;
-use sheet::inner::Carved;
+use sheet::inner::Sheet;
 
-#[derive(Clone, Copy)]
+// A switch, and no closure: `hits_by` and the clauses of all calls speak of it.
+#[derive(Clone, Copy, Debug, PartialEq, Eq)]
 pub enum Carving {
     // The blocks of the page's chain.
     Freeblocks,
@@ -47,25 +48,18 @@ pub fn carve_page(
     head: usize,
     hints: &[u8],
     spot: Spot,
-    lent: Lent,
-    n: usize,
-    rows: &mut [u64],
-    cols: &mut [u64],
-) -> Carved
+    sheet: &mut Sheet<'_>,
+) -> Option<()>
     requires hints_len_bound { length hints.now ≤ width_by how }
-    requires ready { Ready (length page.now) (length hints.now) spot lent n (length rows.old) (length cols.old) }
-    ensures { Carves lent.width lent.room n (hits_by how page.now head hints.now spot) false
-        rows.old cols.old (carved_as result) rows.new cols.new }
+    requires ready { Ready (length page.now) (length hints.now) spot sheet.old }
+    ensures { Adds (hits_by how page.now head hints.now spot) false sheet.old
+        (told_by result sheet.new) sheet.new }
 {
     match how {
-        Carving::Freeblocks => {
-            freeblock::inner::carve_page(page, head, hints, spot, lent, n, rows, cols)
+        Carving::Freeblocks => freeblock::inner::carve_page(page, head, hints, spot, sheet),
+        Carving::Gaps(rebuilding) => {
+            gap::inner::carve_page(rebuilding, page, head, hints, spot, sheet)
         }
-        Carving::Gaps(rebuilding) => gap::inner::carve_page(
-            rebuilding, page, head, hints, spot, lent, n, rows, cols,
-        ),
-        Carving::Payload(rebuilding) => carve_payload(
-            rebuilding, page, hints, spot, 0, lent, n, rows, cols,
-        ),
+        Carving::Payload(rebuilding) => carve_payload(rebuilding, page, hints, spot, 0, sheet),
     }
 }

@@ -1,53 +1,44 @@
--- Hits that are carved one after the other: what was carved, with what is still to come, is the whole.
+-- Hits that are added one after the other: what was added, with what is still to come, is the whole.
 -- Assumes nothing.
-use Prim.Native.Nat.{ℕ, ◌≤◌}
-use mathlib.Core.Path.{◌≡◌, refl, sym, ◌∙◌}
-use mathlib.Core.Bool.{false}
-use mathlib.Core.List.{List, [], ◌++◌, append-nil, append_assoc}
-use lib.ListN.{length}
-use Rattle.hit.proofs.Laws.{carves_long, carves_wide, ready_next}
+use Rattle.std.specs.Prelude.{ℕ, ◌≤◌, ◌≡◌, refl, false, List, [], ◌++◌}
+use mathlib.Core.Path.{sym, ◌∙◌}
+use mathlib.Core.List.{append-nil, append_assoc}
+use Rattle.hit.proofs.Laws.{ready_then}
 use Rattle.hit.specs.Inner.{Ready}
-use Rattle.hit.specs.declared.inner.Lent.{Lent}
 use Rattle.hit.specs.declared.inner.Spot.{Spot}
-use Rattle.sheet.proofs.Carving.{carves_none, carves_more, carves_stop}
+use Rattle.sheet.proofs.Sheets.{adds_none, adds_more, adds_stop}
 use Rattle.sheet.specs.Hits.{Hit}
-use Rattle.sheet.specs.Inner.{on, over, Carves}
+use Rattle.sheet.specs.Inner.{on, over, Adds}
+use Rattle.sheet.specs.declared.inner.Sheet.{Sheet}
 
--- of `whole`, which is carved behind n₀ rows, `rest` is still to come, and there are n rows
-pub record Along (lent : Lent) (n₀ : ℕ) (whole : List Hit) (rows₀ cols₀ : List ℕ) (rest : List Hit) (rows cols : List ℕ) (n : ℕ) : Type 0 where
+-- of `whole`, which is added to the sheet s₀, `rest` is still to come, and the sheet is s
+pub record Along (s₀ : Sheet) (whole rest : List Hit) (s : Sheet) : Type 0 where
   pub done : List Hit
-  pub carved : Carves lent.width lent.room n₀ done false rows₀ cols₀ (on n) rows cols
+  pub added : Adds done false s₀ (on s.n) s
   pub sum : done ++ rest ≡ whole
 
-module _ (lent : Lent) (n₀ : ℕ) (whole : List Hit) (rows₀ cols₀ : List ℕ) where
-  pub along_start : n₀ ≤ lent.room → Along lent n₀ whole rows₀ cols₀ whole rows₀ cols₀ n₀
-  along_start h = record { done = []; carved = carves_none lent.width lent.room n₀ rows₀ cols₀ h; sum = refl }
+module _ (s₀ : Sheet) (whole : List Hit) where
+  pub along_start : s₀.n ≤ s₀.room → Along s₀ whole whole s₀
+  along_start h = record { done = []; added = adds_none s₀ h; sum = refl }
 
-  module _ (rows cols : List ℕ) (n : ℕ) where
-    pub along_end : Along lent n₀ whole rows₀ cols₀ [] rows cols n → Carves lent.width lent.room n₀ whole false rows₀ cols₀ (on n) rows cols
-    along_end w = rw (sym (append-nil w.done) ∙ w.sum) at w.carved
+  module _ (s : Sheet) where
+    pub along_end : Along s₀ whole [] s → Adds whole false s₀ (on s.n) s
+    along_end w = rw (sym (append-nil w.done) ∙ w.sum) at w.added
 
     -- what is ready where the work begins is ready now
-    pub along_ready : (rest : List Hit) (len columns : ℕ) (spot : Spot) → Along lent n₀ whole rows₀ cols₀ rest rows cols n
-        → Ready len columns spot lent n₀ (length rows₀) (length cols₀) → Ready len columns spot lent n (length rows) (length cols)
-    along_ready rest len columns spot w r = ready_next columns lent n₀ w.done rows₀ cols₀ n rows cols w.carved len spot r
+    pub along_ready : (rest : List Hit) (len columns : ℕ) (spot : Spot) → Along s₀ whole rest s → Ready len columns spot s₀ → Ready len columns spot s
+    along_ready rest len columns spot w r = ready_then len columns spot w.done s₀ s r w.added
 
-    pub along_long : (rest : List Hit) → Along lent n₀ whole rows₀ cols₀ rest rows cols n → (length rows ≡ length rows₀) × (length cols ≡ length cols₀)
-    along_long rest w = (
-      carves_long lent.width lent.room n₀ w.done false rows₀ cols₀ (on n) rows cols w.carved,
-      carves_wide lent.width lent.room n₀ w.done false rows₀ cols₀ (on n) rows cols w.carved,
-    )
-
-    module _ (some rest : List Hit) (w : Along lent n₀ whole rows₀ cols₀ (some ++ rest) rows cols n) (rows' cols' : List ℕ) where
-      pub along_on : (m : ℕ) → Carves lent.width lent.room n some false rows cols (on m) rows' cols' → Along lent n₀ whole rows₀ cols₀ rest rows' cols' m
-      along_on m x =
+    module _ (some rest : List Hit) (w : Along s₀ whole (some ++ rest) s) (s' : Sheet) where
+      pub along_on : Adds some false s (on s'.n) s' → Along s₀ whole rest s'
+      along_on x =
           record {
             done = w.done ++ some;
-            carved = carves_more lent.width lent.room n₀ w.done some rows₀ cols₀ rows cols n false (on m) rows' cols' w.carved x;
+            added = adds_more w.done some s₀ s s' false (on s'.n) w.added x;
             sum = append_assoc w.done some rest ∙ w.sum;
           }
 
-      pub along_full : Carves lent.width lent.room n some false rows cols over rows' cols' → Carves lent.width lent.room n₀ whole false rows₀ cols₀ over rows' cols'
+      pub along_full : Adds some false s over s' → Adds whole false s₀ over s'
       along_full x =
-          let c = carves_more lent.width lent.room n₀ w.done some rows₀ cols₀ rows cols n false over rows' cols' w.carved x in
-          rw (append_assoc w.done some rest ∙ w.sum) at (carves_stop lent.width lent.room n₀ (w.done ++ some) rest rows₀ cols₀ rows' cols' false false c)
+          let c = adds_more w.done some s₀ s s' false over w.added x in
+          rw (append_assoc w.done some rest ∙ w.sum) at (adds_stop (w.done ++ some) rest s₀ s' false false c)

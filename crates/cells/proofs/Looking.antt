@@ -1,5 +1,7 @@
 -- Cells: what stands at one place of a payload, and at all of them one after the other.
 -- Assumes nothing.
+use Rattle.std.specs.Prelude.{None, Some, Result, Ok, Err}
+use Rattle.std.specs.Result.{result_ok}
 use Prim.Native.Nat.{ℕ, zero, suc, ◌+◌, ◌-◌, ◌≤◌, ◌<◌}
 use mathlib.Core.Path.{◌≡◌, refl, ◌∙◌}
 use mathlib.Core.Bool.{Bool, true, false, cond}
@@ -11,46 +13,61 @@ use borrow.Author.Tests.{lt-ltb, le-ltb, le-leb, lt-leb, leb-true, ltb-true}
 use lib.Dec.{ltb, leb}
 use lib.ListN.{length, take, drop, length-take, length-drop}
 use Rattle.attempt.specs.Attempt.{Tried, miss, hit, attempt_at}
-use Rattle.attempt.specs.Inner.{found_at, HitIs}
+use Rattle.attempt.specs.Inner.{found_at, HitIs, Tells}
 use Rattle.attempt.specs.Places.{attempt_places}
 use Rattle.attempt.specs.declared.inner.Find.{Find}
+use Rattle.attempt.specs.declared.inner.Miss.{Miss}
 use Rattle.cells.specs.Cells.{CellRow, Looked, no_cell, cell, record_is, id_then, length_then, cell_at, cell_then, cells_from, cells_of, cell_hits}
 use Rattle.cells.specs.Inner.{record_of, CellFound, cells_there, next_place}
 use Rattle.cells.proofs.Along.{Along, along_start, along_end, along_on, along_full}
 use Rattle.hit.proofs.Laws.{ready_part}
 use Rattle.hit.specs.Hit.{intra_page, hit_of}
 use Rattle.hit.specs.Inner.{Ready}
-use Rattle.hit.specs.declared.inner.Lent.{Lent}
 use Rattle.hit.specs.declared.inner.Origin.{Origin}
 use Rattle.hit.specs.declared.inner.Spot.{Spot}
 use Rattle.record.proofs.Laws.{varint_lies}
 use Rattle.record.specs.Varint.{varint_at}
 use Rattle.record.specs.declared.varint.Cursor.{Cursor}
-use Rattle.record.specs.declared.varint.Varint.{Varint}
-use Rattle.record.specs.declared.varint.Varint.TheVariants.{Value, Short}
+use Rattle.record.specs.Varint.{Varint}
 use Rattle.sheet.specs.Confidence.{share}
-use Rattle.sheet.specs.declared.row.RowId.TheVariants.{Present}
-use Rattle.sheet.proofs.Carving.{carves_none}
+use Rattle.sheet.proofs.Sheets.{adds_none}
 use Rattle.sheet.specs.Hits.{Hit}
-use Rattle.sheet.specs.Inner.{Told, on, over, Carves}
+use Rattle.sheet.specs.Inner.{Told, on, over, Adds}
+use Rattle.sheet.specs.declared.inner.Sheet.{Sheet}
+
+-- ---- what an attempt tells, where its miss is dropped
+module _ (s hints : List ℕ) (o : ℕ) (t : Tried) (p : List ℕ) (r : Result Find Miss) where
+  pub missed : result_ok r ≡ None → Tells s hints o t p r → t ≡ miss
+  missed e tells = go r e tells
+    where
+      go : (r : Result Find Miss) → result_ok r ≡ None → Tells s hints o t p r → t ≡ miss
+      go (Ok x) e h = cc
+      go (Err x) e h = h.misses
+
+  pub told_hit : (x : Find) → result_ok r ≡ Some x → Tells s hints o t p r → HitIs s hints o t p x
+  told_hit x e tells = go r e tells
+    where
+      go : (r : Result Find Miss) → result_ok r ≡ Some x → Tells s hints o t p r → HitIs s hints o t p x
+      go (Ok y) e h = let z : y ≡ x = cc in rw (← z) h
+      go (Err y) e h = cc
 
 -- ---- one place
 module _ (d hints : List ℕ) (pos : ℕ) where
-  pub cell_short : varint_at d pos ≡ Short → cell_at d hints pos ≡ no_cell
+  pub cell_short : varint_at d pos ≡ None → cell_at d hints pos ≡ no_cell
   unfolding cell_at
   cell_short e = simp e
 
-  module _ (len : ℕ) (c : Cursor) (e : varint_at d pos ≡ Value len c) where
+  module _ (len : ℕ) (c : Cursor) (e : varint_at d pos ≡ Some (len, c)) where
     pub cell_empty : len ≡ 0 → cell_at d hints pos ≡ no_cell
     unfolding cell_at
     cell_empty z = simp (e, z)
 
     module _ (some : 0 < len) where
-      pub cell_no_id : varint_at d c.at ≡ Short → cell_at d hints pos ≡ no_cell
+      pub cell_no_id : varint_at d c.at ≡ None → cell_at d hints pos ≡ no_cell
       unfolding cell_at
       cell_no_id e' = simp (e, lt-ltb 0 len some, e')
 
-      module _ (id : ℕ) (c' : Cursor) (e' : varint_at d c.at ≡ Value id c') where
+      module _ (id : ℕ) (c' : Cursor) (e' : varint_at d c.at ≡ Some (id, c')) where
         pub cell_long : length d - c'.at < len → cell_at d hints pos ≡ no_cell
         unfolding cell_at
         cell_long h = simp (e, lt-ltb 0 len some, e', lt-leb len (length d - c'.at) h)
@@ -80,8 +97,8 @@ module _ (d hints : List ℕ) (pos : ℕ) where
       cell_far h = go (varint_at d c.at) refl
         where
           go : (v : Varint) → varint_at d c.at ≡ v → cell_at d hints pos ≡ no_cell
-          go (Value id c') e' = cell_long id c' e' (omega (arith, (varint_lies d c.at id c' e').past))
-          go Short e' = cell_no_id e'
+          go (Some (id, c')) e' = cell_long id c' e' (omega (arith, (varint_lies d c.at id c' e').past))
+          go None e' = cell_no_id e'
 
 never : {C : Type 0} {c : CellRow} → no_cell ≡ cell c → C
 never e = let z : ◌≡◌ {A = ℕ} 0 1 = cc in absurd (omega arith)
@@ -108,8 +125,8 @@ module _ (d hints : List ℕ) (pos : ℕ) (r : CellRow) where
           rw (← z) (record { past = past; some = omega arith; inside = in'; found = rw l f })
 
       with_id : (len from : ℕ) → pos < from → 0 < len → (v : Varint) → varint_at d from ≡ v → id_then d hints len v ≡ cell r → CellFrom d hints pos r
-      with_id len from past some Short f e = never e
-      with_id len from past some (Value id c) f e = go (leb len (length d - c.at)) refl e
+      with_id len from past some None f e = never e
+      with_id len from past some (Some (id, c)) f e = go (leb len (length d - c.at)) refl e
         where
           go : (b : Bool) → leb len (length d - c.at) ≡ b → cond b (record_is c.at len id (attempt_at (take len (drop c.at d)) hints 0)) no_cell ≡ cell r → CellFrom d hints pos r
           go false q e = never e
@@ -118,8 +135,8 @@ module _ (d hints : List ℕ) (pos : ℕ) (r : CellRow) where
               with_record c.at len id (omega (arith, l.past)) some (omega (arith, l.inside, leb-true len (length d - c.at) q)) _ refl e
 
       with_length : (v : Varint) → varint_at d pos ≡ v → length_then d hints v ≡ cell r → CellFrom d hints pos r
-      with_length Short f e = never e
-      with_length (Value len c) f e = go (ltb 0 len) refl e
+      with_length None f e = never e
+      with_length (Some (len, c)) f e = go (ltb 0 len) refl e
         where
           go : (b : Bool) → ltb 0 len ≡ b → cond b (id_then d hints len (varint_at d c.at)) no_cell ≡ cell r → CellFrom d hints pos r
           go false q e = never e
@@ -157,34 +174,34 @@ hits_append spot columns o [] b = refl
 hits_append spot columns o (c ∷ a) b = rw (hits_append spot columns o a b)
 
 -- the places before `pos` are carved
-pub record Looking (d hints : List ℕ) (spot : Spot) (o : ℕ) (lent : Lent) (n₀ : ℕ) (rows₀ cols₀ rows cols : List ℕ) (pos n : ℕ) : Type 0 where
+pub record Looking (d hints : List ℕ) (spot : Spot) (o : ℕ) (s₀ s : Sheet) (pos : ℕ) : Type 0 where
   pub fuel : ℕ
   pub enough : length d ≤ pos + fuel
-  pub along : Along lent n₀ (cell_hits spot (length hints) o (cells_of d hints)) rows₀ cols₀ (cell_hits spot (length hints) o (cells_from fuel d hints pos)) rows cols n
+  pub along : Along s₀ (cell_hits spot (length hints) o (cells_of d hints)) (cell_hits spot (length hints) o (cells_from fuel d hints pos)) s
 
-module _ (d hints : List ℕ) (spot : Spot) (o : ℕ) (lent : Lent) (n₀ : ℕ) (rows₀ cols₀ : List ℕ) where
+module _ (d hints : List ℕ) (spot : Spot) (o : ℕ) (s₀ : Sheet) where
   abbrev whole : List Hit
   whole = cell_hits spot (length hints) o (cells_of d hints)
 
-  pub looking_start : n₀ ≤ lent.room → Looking d hints spot o lent n₀ rows₀ cols₀ rows₀ cols₀ 0 n₀
+  pub looking_start : s₀.n ≤ s₀.room → Looking d hints spot o s₀ s₀ 0
   unfolding cells_of
-  looking_start h = record { fuel = length d; enough = omega arith; along = along_start lent n₀ whole rows₀ cols₀ h }
+  looking_start h = record { fuel = length d; enough = omega arith; along = along_start s₀ whole h }
 
-  module _ (rows cols : List ℕ) (pos n : ℕ) (w : Looking d hints spot o lent n₀ rows₀ cols₀ rows cols pos n) where
-    pub looking_end : length d ≤ pos → Carves lent.width lent.room n₀ whole false rows₀ cols₀ (on n) rows cols
-    looking_end h = along_end lent n₀ whole rows₀ cols₀ rows cols n (rw (cells_end d hints w.fuel pos h) at w.along)
+  module _ (s : Sheet) (pos : ℕ) (w : Looking d hints spot o s₀ s pos) where
+    pub looking_end : length d ≤ pos → Adds whole false s₀ (on s.n) s
+    looking_end h = along_end s₀ whole s (rw (cells_end d hints w.fuel pos h) at w.along)
 
     module _ (inside : pos < length d) where
       abbrev there : List Hit
       there = cell_hits spot (length hints) o (cells_there (cell_at d hints pos))
 
       later : (g : ℕ) × (length d ≤ next_place pos (cell_at d hints pos) + g)
-          × Along lent n₀ whole rows₀ cols₀ (there ++ cell_hits spot (length hints) o (cells_from g d hints (next_place pos (cell_at d hints pos)))) rows cols n
+          × Along s₀ whole (there ++ cell_hits spot (length hints) o (cells_from g d hints (next_place pos (cell_at d hints pos)))) s
       later = go w.fuel w.enough w.along
         where
-          go : (f : ℕ) → length d ≤ pos + f → Along lent n₀ whole rows₀ cols₀ (cell_hits spot (length hints) o (cells_from f d hints pos)) rows cols n
+          go : (f : ℕ) → length d ≤ pos + f → Along s₀ whole (cell_hits spot (length hints) o (cells_from f d hints pos)) s
               → (g : ℕ) × (length d ≤ next_place pos (cell_at d hints pos) + g)
-              × Along lent n₀ whole rows₀ cols₀ (there ++ cell_hits spot (length hints) o (cells_from g d hints (next_place pos (cell_at d hints pos)))) rows cols n
+              × Along s₀ whole (there ++ cell_hits spot (length hints) o (cells_from g d hints (next_place pos (cell_at d hints pos)))) s
           go zero q a = absurd (omega arith)
           go (suc f) q a = (
             f,
@@ -192,23 +209,20 @@ module _ (d hints : List ℕ) (spot : Spot) (o : ℕ) (lent : Lent) (n₀ : ℕ)
             rw (cells_on d hints f pos inside, hits_append spot (length hints) o (cells_there (cell_at d hints pos)) (cells_from f d hints (next_place pos (cell_at d hints pos)))) at a,
           )
 
-      module _ (rows' cols' : List ℕ) where
-        pub looking_on : (next m : ℕ) → next ≡ next_place pos (cell_at d hints pos) → Carves lent.width lent.room n there false rows cols (on m) rows' cols'
-            → Looking d hints spot o lent n₀ rows₀ cols₀ rows' cols' next m
-        looking_on next m e x =
-            rw e (record { fuel = later.0; enough = later.1; along = along_on lent n₀ whole rows₀ cols₀ rows cols n there _ later.2 rows' cols' m x })
+      module _ (s' : Sheet) where
+        pub looking_on : (next : ℕ) → next ≡ next_place pos (cell_at d hints pos) → Adds there false s (on s'.n) s' → Looking d hints spot o s₀ s' next
+        looking_on next e x = rw e (record { fuel = later.0; enough = later.1; along = along_on s₀ whole s there _ later.2 s' x })
 
-        pub looking_full : Carves lent.width lent.room n there false rows cols over rows' cols' → Carves lent.width lent.room n₀ whole false rows₀ cols₀ over rows' cols'
-        looking_full x = along_full lent n₀ whole rows₀ cols₀ rows cols n there _ later.2 rows' cols' x
+        pub looking_full : Adds there false s over s' → Adds whole false s₀ over s'
+        looking_full x = along_full s₀ whole s there _ later.2 s' x
 
 -- ---- one place is carved
-module _ (d hints : List ℕ) (pos : ℕ) (spot : Spot) (o : ℕ) (lent : Lent) (n : ℕ) (rows cols : List ℕ)
-    (ready : Ready (o + length d) (length hints) spot lent n (length rows) (length cols)) where
-  abbrev Carved : Told → List ℕ → List ℕ → Type 0
-  Carved r rows' cols' = Carves lent.width lent.room n (cell_hits spot (length hints) o (cells_there (cell_at d hints pos))) false rows cols r rows' cols'
+module _ (d hints : List ℕ) (pos : ℕ) (spot : Spot) (o : ℕ) (s : Sheet) (ready : Ready (o + length d) (length hints) spot s) where
+  abbrev Carved : Told → Sheet → Type 0
+  Carved r s' = Adds (cell_hits spot (length hints) o (cells_there (cell_at d hints pos))) false s r s'
 
-  pub place_none : cell_at d hints pos ≡ no_cell → Carved (on n) rows cols × (pos + 1 ≡ next_place pos (cell_at d hints pos))
-  place_none e = rw e (carves_none lent.width lent.room n rows cols ready.space.fits, add-one pos)
+  pub place_none : cell_at d hints pos ≡ no_cell → Carved (on s.n) s × (pos + 1 ≡ next_place pos (cell_at d hints pos))
+  place_none e = rw e (adds_none s ready.space.fits, add-one pos)
 
   module _ (start end id : ℕ) (x : Find) (f : CellFound d hints pos start end id x) where
     abbrev taken : List ℕ
@@ -217,12 +231,12 @@ module _ (d hints : List ℕ) (pos : ℕ) (spot : Spot) (o : ℕ) (lent : Lent) 
     taken_long : length taken ≡ end - start
     taken_long = simp (length-take, length-drop) (omega (arith, f.inside))
 
-    pub place_ready : Ready (o + start + length taken) (length hints) spot lent n (length rows) (length cols)
-    place_ready = ready_part (o + length d) (o + start + length taken) (length hints) spot lent n (length rows) (length cols) (omega (arith, taken_long, f.on, f.inside)) ready
+    pub place_ready : Ready (o + start + length taken) (length hints) spot s
+    place_ready = ready_part (o + length d) (o + start + length taken) (length hints) spot s (omega (arith, taken_long, f.on, f.inside)) ready
 
-    pub place_one : (origin : Origin) (r : Told) (rows' cols' : List ℕ) → origin ≡ intra_page (Present id) (share x.matched (length hints))
-        → Carves lent.width lent.room n (hit_of spot (o + start + 0) (o + start) origin (found_at taken 0 x) ∷ []) false rows cols r rows' cols' → Carved r rows' cols'
-    place_one origin r rows' cols' e c = rw f.is (rw (add-zero (o + start), e) at c)
+    pub place_one : (origin : Origin) (r : Told) (s' : Sheet) → origin ≡ intra_page (Some id) (share x.matched (length hints))
+        → Adds (hit_of spot (o + start + 0) (o + start) origin (found_at taken 0 x) ∷ []) false s r s' → Carved r s'
+    place_one origin r s' e c = rw f.is (rw (add-zero (o + start), e) at c)
 
     pub place_next : end ≡ next_place pos (cell_at d hints pos)
     place_next = rw f.is

@@ -2,7 +2,7 @@
 -- Assumes nothing.
 use Prim.Native.Nat.{ℕ, zero, suc, ◌+◌, ◌-◌, ◌*◌, ◌≤◌, ◌<◌}
 use mathlib.Core.Path.{◌≡◌, refl, sym, ap, ◌∙◌, subst}
-use mathlib.Core.Bool.{true, false}
+use mathlib.Core.Bool.{Bool, true, false, cond}
 use mathlib.Core.List.{List, [], ◌∷◌, ◌++◌}
 use mathlib.Core.Logic.{by_cases}
 use native.Mathlib.Decide.{ℕ_discrete}
@@ -12,7 +12,7 @@ use lib.Dec.{eqb}
 use lib.ListN.{length, take, drop, get_or, set}
 use lib.Seq.{sets, length-sets, get_or-set_same, get_or-set_other, take_all}
 use Rattle.cells.specs.Cells.{CellRow, Looked, no_cell, cell, cell_at, cells_from, cells_of, cell_hit, cell_hits, starts_of}
-use Rattle.cells.specs.Inner.{cells_there, next_place, next_row, Standing}
+use Rattle.cells.specs.Inner.{cells_there, next_place, Standing}
 use Rattle.cells.proofs.Looking.{cell_from, cells_none, cells_end, cells_on}
 use Rattle.hit.specs.declared.inner.Spot.{Spot}
 use Rattle.page.specs.Page.{among}
@@ -25,7 +25,8 @@ use Rattle.sheet.specs.Sheet.{rows_words}
 use Rattle.starts.specs.Inner.{is_cell}
 use Rattle.sheet.proofs.Carving.{told_on}
 use Rattle.sheet.specs.Hits.{Hit, rows_of}
-use Rattle.sheet.specs.Inner.{on, Told, Carves}
+use Rattle.sheet.specs.Inner.{on, Told, Adds}
+use Rattle.sheet.specs.declared.inner.Sheet.{Sheet}
 
 -- ---- the records of cells start one behind the other, none before v
 abbrev pub Rising : ℕ → List ℕ → Type 0
@@ -55,6 +56,10 @@ starts_rise d hints (suc f) pos =
 below : (v w : ℕ) (l : List ℕ) → v < w → Rising w l → among v l ≡ false
 below v w [] h r = refl
 below v w (a ∷ bs) h r = simp (ne_eqb v a (λ e. omega (arith, r.0)), below v (suc a) bs (omega (arith, r.0)) r.1)
+
+-- the next row, if a start was passed over
+abbrev pub next_row : ℕ → Bool → ℕ
+next_row k passed = cond passed (suc k) k
 
 -- ---- the next row of a cell decides, if all before v are passed
 module _ (spot : Spot) (o : ℕ) (rows : List ℕ) (cells v : ℕ) where
@@ -117,13 +122,15 @@ standing_kept spot o rows cells m ws h k (a ∷ bs) s = (
   standing_kept spot o rows cells m ws h (suc k) bs s.2,
 )
 
--- THE LAW: rows that are written behind those of the cells leave them where they are
-pub passing_kept : (spot : Spot) (o : ℕ) (S : List ℕ) (rows cols : List ℕ) (cells v k : ℕ) (width room m : ℕ) (hs : List Hit) (r : Told) (rows' cols' : List ℕ) → cells ≤ m
-    → Carves width room m hs false rows cols r rows' cols' → Passing spot o S rows cells v k → Passing spot o S rows' cells v k
-passing_kept spot o S rows cols cells v k width room m hs r rows' cols' h x w =
+-- THE LAW: rows that are added behind those of the cells leave them where they are
+pub passing_kept : (spot : Spot) (o : ℕ) (S : List ℕ) (s : Sheet) (cells v k : ℕ) (hs : List Hit) (r : Told) (s' : Sheet) → cells ≤ s.n → Adds hs false s r s'
+    → Passing spot o S s.rows.now cells v k → Passing spot o S s'.rows.now cells v k
+passing_kept spot o S s cells v k hs r s' h x w =
     record {
       left = w.left;
-      standing = rw x.puts.rows_are (standing_kept spot o rows cells m (rows_words (rows_of (take (room - m) hs))) h k w.left w.standing);
+      standing =
+          rw x.carves.puts.rows_are
+          (standing_kept spot o s.rows.now cells s.n (rows_words (rows_of (take (s.room - s.n) hs))) h k w.left w.standing);
       rising = w.rising;
       same = w.same;
     }
@@ -155,14 +162,14 @@ rows_fit rows cols width zero h = omega arith
 rows_fit rows cols width (suc m) h = omega (arith, room_rows rows cols width m h)
 
 -- THE LAW: where the cells are carved, their rows stand behind those that were there
-pub cells_stand : (spot : Spot) (columns o : ℕ) (cs : List CellRow) (width room n : ℕ) (rows cols : List ℕ) (cells : ℕ) (rows' cols' : List ℕ) → room ≤ room_of (length rows) (length cols) width
-    → Carves width room n (cell_hits spot columns o cs) false rows cols (on cells) rows' cols' → Standing spot o rows' cells n (starts_of cs)
-cells_stand spot columns o cs width room n rows cols cells rows' cols' is x =
-    let t = told_on room n (length (cell_hits spot columns o cs)) cells false x.answer in
+pub cells_stand : (spot : Spot) (columns o : ℕ) (cs : List CellRow) (s s' : Sheet) → s.room ≤ room_of (length s.rows.now) (length s.cols.now) s.width
+    → Adds (cell_hits spot columns o cs) false s (on s'.n) s' → Standing spot o s'.rows.now s'.n s.n (starts_of cs)
+cells_stand spot columns o cs s s' most x =
+    let t = told_on s.room s.n (length (cell_hits spot columns o cs)) s'.n false x.carves.answer in
     let count = hits_count spot columns o cs in
-    let all = take_all (room - n) (cell_hits spot columns o cs) (omega (arith, t.0)) in
-    rw (x.puts.rows_are, all)
-    (written spot columns o cells cs rows n (omega (arith, t.1)) (rows_fit (length rows) (length cols) width cells (omega (arith, t.0, t.1))))
+    let all = take_all (s.room - s.n) (cell_hits spot columns o cs) (omega (arith, t.0)) in
+    let fit = rows_fit (length s.rows.now) (length s.cols.now) s.width s'.n (omega (arith, t.0, t.1)) in
+    rw (x.carves.puts.rows_are, all) (written spot columns o s'.n cs s.rows.now s.n (omega (arith, t.1)) fit)
 
 -- and none is passed where the starts begin
 pub passing_start : (spot : Spot) (o : ℕ) (d hints rows : List ℕ) (cells first : ℕ) → Standing spot o rows cells first (starts_of (cells_of d hints))

@@ -1,17 +1,16 @@
 -- Rows in the payload of a freed block (rules 11.4 to 11.7 and 11.9): whole cells, then records whose header's length is lost.
 -- Assumes nothing.
 use Rattle.std.specs.Prelude.{ℕ, zero, suc, ◌+◌, ◌-◌, Bool, true, false, cond, List, [], ◌∷◌, ◌++◌, ltb, leb, length, take, drop}
+use Rattle.std.specs.Prelude.{None, Some}
 use Rattle.attempt.specs.Attempt.{Found, Tried, miss, hit, attempt_at}
 use Rattle.hit.specs.Hit.{intra_page, hit_of}
 use Rattle.hit.specs.declared.inner.Spot.{Spot}
 use Rattle.page.specs.Page.{among}
 use Rattle.record.specs.Varint.{varint_at}
-use Rattle.record.specs.declared.varint.Varint.{Varint}
-use Rattle.record.specs.declared.varint.Varint.TheVariants.{Value, Short}
+use Rattle.record.specs.Varint.{Varint}
 use Rattle.rebuild.specs.Header.{rebuilt}
 use Rattle.rebuild.specs.declared.rebuilding.Rebuilding.{Rebuilding}
 use Rattle.sheet.specs.Confidence.{share, rebuilt_share}
-use Rattle.sheet.specs.declared.row.RowId.TheVariants.{Absent, Present}
 use Rattle.starts.specs.Starts.{rebuilt_starts}
 use Rattle.sheet.specs.Hits.{Hit}
 
@@ -35,14 +34,14 @@ record_is at len id (hit x) = cell (record { at = at; end = at + len; id = id; f
 
 -- Rule 11.4: behind the length stands the row id, and behind that the record, if the payload has so many bytes left
 abbrev pub id_then : List ℕ → List ℕ → ℕ → Varint → Looked
-id_then d hints len (Value id c) =
+id_then d hints len (Some (id, c)) =
     cond (leb len (length d - c.at)) (record_is c.at len id (attempt_at (take len (drop c.at d)) hints 0)) no_cell
-id_then d hints len Short = no_cell
+id_then d hints len None = no_cell
 
 -- Rule 11.4: a cell begins with its record's length, which is above 0
 abbrev pub length_then : List ℕ → List ℕ → Varint → Looked
-length_then d hints (Value len c) = cond (ltb 0 len) (id_then d hints len (varint_at d c.at)) no_cell
-length_then d hints Short = no_cell
+length_then d hints (Some (len, c)) = cond (ltb 0 len) (id_then d hints len (varint_at d c.at)) no_cell
+length_then d hints None = no_cell
 
 unfoldable pub cell_at : List ℕ → List ℕ → ℕ → Looked
 cell_at d hints pos = length_then d hints (varint_at d pos)
@@ -72,10 +71,10 @@ starts_of (c ∷ cs) = c.at ∷ starts_of cs
 
 -- Rule 11.7: the row at the place o of its page
 abbrev pub cell_hit : Spot → ℕ → ℕ → ℕ → Found → Hit
-cell_hit spot columns o id x = hit_of spot o o (intra_page (Present id) (share x.matched columns)) x
+cell_hit spot columns o id x = hit_of spot o o (intra_page (Some id) (share x.matched columns)) x
 
 abbrev pub rebuilt_hit : Spot → ℕ → ℕ → Found → Hit
-rebuilt_hit spot columns o x = hit_of spot o o (intra_page Absent (rebuilt_share (share x.matched columns))) x
+rebuilt_hit spot columns o x = hit_of spot o o (intra_page None (rebuilt_share (share x.matched columns))) x
 
 -- the payload stands at o in its page
 abbrev pub cell_hits : Spot → ℕ → ℕ → List CellRow → List Hit

@@ -1,28 +1,20 @@
 -- What the code carries between its own functions; nothing that a caller has to believe.
 -- Assumes nothing.
-use Rattle.std.specs.Prelude.{ℕ, suc, ◌+◌, ◌-◌, ◌*◌, ◌≤◌, ◌<◌, ◌≡◌, Bool, cond, List, [], ◌∷◌, length, take, drop, get_or}
+use Rattle.std.specs.Prelude.{ℕ, suc, ◌+◌, ◌-◌, ◌*◌, ◌≤◌, ◌<◌, ◌≡◌, List, [], ◌∷◌, length, take, drop, get_or, Option, Some, None}
 use Rattle.attempt.specs.Attempt.{attempt_at}
 use Rattle.attempt.specs.Inner.{found_at, HitIs}
 use Rattle.attempt.specs.Places.{attempt_places}
 use Rattle.attempt.specs.declared.inner.Find.{Find}
 use Rattle.cells.specs.Cells.{CellRow, Looked, no_cell, cell, cell_at}
 use Rattle.cells.specs.declared.inner.cell.Cell.{Cell}
-use Rattle.cells.specs.declared.inner.cell.Cell.TheVariants.{At, Nothing}
-use Rattle.cells.specs.declared.inner.turn.Turn.{Turn}
-use Rattle.cells.specs.declared.inner.turn.Turn.TheVariants.{On, Full}
 use Rattle.hit.specs.declared.inner.Spot.{Spot}
 use Rattle.sheet.specs.Limits.{words_per_row}
-use Rattle.sheet.specs.Inner.{Told, on, over}
 
 -- ---- one turn of a loop
-abbrev pub turn_as : Turn → Told
-turn_as (On next n) = on n
-turn_as Full = over
-
 -- it goes on there, if it goes on
-abbrev pub GoesTo : ℕ → Turn → Type 0
-GoesTo there (On next n) = next ≡ there
-GoesTo there Full = Unit
+abbrev pub GoesTo : ℕ → Option ℕ → Type 0
+GoesTo there (Some next) = next ≡ there
+GoesTo there None = Unit
 
 -- ---- cells
 abbrev pub record_of : List ℕ → ℕ → ℕ → List ℕ
@@ -37,9 +29,9 @@ pub record CellFound (d hints : List ℕ) (pos start end id : ℕ) (x : Find) : 
   pub found :
       HitIs (record_of d start end) hints 0 (attempt_at (record_of d start end) hints 0) (attempt_places (record_of d start end) 0) x
 
-abbrev pub CellIs : List ℕ → List ℕ → ℕ → Cell → Type 0
-CellIs d hints pos (At start end id x) = CellFound d hints pos start end id x
-CellIs d hints pos Nothing = cell_at d hints pos ≡ no_cell
+abbrev pub CellIs : List ℕ → List ℕ → ℕ → Option Cell → Type 0
+CellIs d hints pos (Some c) = CellFound d hints pos c.start c.end c.id c.find
+CellIs d hints pos None = cell_at d hints pos ≡ no_cell
 
 -- the rows of a place, and where the next cell is looked for
 abbrev pub cells_there : Looked → List CellRow
@@ -51,10 +43,6 @@ next_place pos no_cell = suc pos
 next_place pos (cell c) = c.end
 
 -- ---- rebuilt headers
-
--- the next row, if a start was passed over
-abbrev pub next_row : ℕ → Bool → ℕ
-next_row k passed = cond passed (suc k) k
 
 -- the rows from k to `cells` are those of cells whose records start there; the payload stands at o in its page
 abbrev pub Standing : Spot → ℕ → List ℕ → ℕ → ℕ → List ℕ → Type 0

@@ -1,12 +1,11 @@
 -- The freeblocks of a page, and the rows that are carved out of them (rules 10.1 to 10.4).
 -- Assumes nothing.
-use Rattle.std.specs.Prelude.{ℕ, zero, suc, ◌+◌, min, Bool, cond, ◌||◌, List, [], ◌∷◌, ◌++◌, ltb, eqb, length, drop}
+use Rattle.std.specs.Prelude.{ℕ, zero, suc, ◌+◌, min, Bool, cond, ◌||◌, List, [], ◌∷◌, ◌++◌, ltb, eqb, length, drop, None}
 use Rattle.attempt.specs.Attempt.{Found, Tried, miss, hit, attempt_at}
 use Rattle.hit.specs.Hit.{hit_of}
 use Rattle.hit.specs.declared.inner.Spot.{Spot}
 use Rattle.page.specs.Page.{among, first_freeblock, block_next, block_size, Block, payload_of}
 use Rattle.sheet.specs.Confidence.{share, freed_share}
-use Rattle.sheet.specs.declared.row.RowId.TheVariants.{Absent}
 use Rattle.sheet.specs.declared.row.Source.TheVariants.{Freelist}
 use Rattle.sheet.specs.Hits.{Hit}
 
@@ -55,7 +54,7 @@ first_start payload hints = first_from (min most_starts (length payload)) payloa
 -- Rules 10.3 and 5.4: the row that is found at the place o of a page
 abbrev pub hit_at : Spot → ℕ → ℕ → Found → Hit
 hit_at spot columns o x =
-    hit_of spot o o (record { id = Absent; source = Freelist; confidence = freed_share (share x.matched columns) }) x
+    hit_of spot o o (record { id = None; source = Freelist; confidence = freed_share (share x.matched columns) }) x
 
 abbrev pub first_hits : Spot → ℕ → ℕ → First → List Hit
 first_hits spot columns from nowhere = []

@@ -7,11 +7,11 @@ use mathlib.Core.List.{List, [], ◌++◌}
 use borrow.Author.Tests.{le-leb, lt-leb, le-ltb, lt-ltb}
 use lib.ListN.{length, take, drop}
 use Rattle.gap.specs.Gap.{gap_from, gap_to, has_gap, region_hits, gap_hits, chain, blocks_hits, page_hits}
-use Rattle.hit.specs.declared.inner.Lent.{Lent}
 use Rattle.hit.specs.declared.inner.Spot.{Spot}
 use Rattle.rebuild.specs.declared.rebuilding.Rebuilding.{Rebuilding}
-use Rattle.sheet.proofs.Carving.{carves_more, carves_stop}
-use Rattle.sheet.specs.Inner.{Told, on, over, Carves}
+use Rattle.sheet.proofs.Sheets.{adds_more, adds_stop}
+use Rattle.sheet.specs.Inner.{Told, on, over, Adds}
+use Rattle.sheet.specs.declared.inner.Sheet.{Sheet}
 
 -- ---- a gap from `from` to `to`
 module _ (page : List ℕ) (head : ℕ) (hints : List ℕ) (spot : Spot) (from to : ℕ) (begins : from ≡ gap_from page head) (ends : to ≡ gap_to page head) where
@@ -38,16 +38,10 @@ module _ (how : Rebuilding) (page : List ℕ) (head : ℕ) (hints : List ℕ) (s
   unfolding page_hits
   page_whole h = simp (le-ltb (length page) (head + 8) h)
 
-  module _ (lent : Lent) (n : ℕ) (rows cols rows' cols' : List ℕ) (h : head + 8 ≤ length page) where
-    pub page_full : Carves lent.width lent.room n (gap_hits page head hints spot) false rows cols over rows' cols'
-        → Carves lent.width lent.room n (page_hits how page head hints spot) false rows cols over rows' cols'
-    page_full x =
-        rw (page_whole h)
-        (carves_stop lent.width lent.room n (gap_hits page head hints spot) (blocks_hits how page hints spot (chain page head)) rows cols rows' cols' false false x)
+  module _ (s s' : Sheet) (h : head + 8 ≤ length page) where
+    pub page_full : Adds (gap_hits page head hints spot) false s over s' → Adds (page_hits how page head hints spot) false s over s'
+    page_full x = rw (page_whole h) (adds_stop (gap_hits page head hints spot) (blocks_hits how page hints spot (chain page head)) s s' false false x)
 
-    pub page_more : (m : ℕ) (r : Told) (rows'' cols'' : List ℕ) → Carves lent.width lent.room n (gap_hits page head hints spot) false rows cols (on m) rows' cols'
-        → Carves lent.width lent.room m (blocks_hits how page hints spot (chain page head)) false rows' cols' r rows'' cols''
-        → Carves lent.width lent.room n (page_hits how page head hints spot) false rows cols r rows'' cols''
-    page_more m r rows'' cols'' x y =
-        rw (page_whole h)
-        (carves_more lent.width lent.room n (gap_hits page head hints spot) (blocks_hits how page hints spot (chain page head)) rows cols rows' cols' m false r rows'' cols'' x y)
+    pub page_more : (r : Told) (s'' : Sheet) → Adds (gap_hits page head hints spot) false s (on s'.n) s'
+        → Adds (blocks_hits how page hints spot (chain page head)) false s' r s'' → Adds (page_hits how page head hints spot) false s r s''
+    page_more r s'' x y = rw (page_whole h) (adds_more (gap_hits page head hints spot) (blocks_hits how page hints spot (chain page head)) s s' s'' false r x y)

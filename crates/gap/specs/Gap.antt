@@ -1,6 +1,7 @@
 -- Rows in the free space of a page (rules 11.1 to 11.3 and 11.8): the gap before its content, then its freed blocks.
 -- Assumes nothing.
 use Rattle.std.specs.Prelude.{ℕ, zero, suc, ◌+◌, ◌-◌, ◌*◌, Bool, cond, ◌&&◌, ◌||◌, List, [], ◌∷◌, ◌++◌, ltb, leb, eqb, length, take, drop}
+use Rattle.std.specs.Prelude.{None}
 use Rattle.attempt.specs.Attempt.{Found}
 use Rattle.cells.specs.Cells.{payload_hits}
 use Rattle.hit.specs.Hit.{intra_page, hit_of}
@@ -9,7 +10,6 @@ use Rattle.page.specs.Page.{Block, payload_of, first_freeblock, cell_count, cont
 use Rattle.rebuild.specs.declared.rebuilding.Rebuilding.{Rebuilding}
 use Rattle.scan.specs.Scan.{Run, through, no_room, missed, found, scan_from}
 use Rattle.sheet.specs.Confidence.{share}
-use Rattle.sheet.specs.declared.row.RowId.TheVariants.{Absent}
 use Rattle.sheet.specs.Hits.{Hit}
 
 -- ---- the gap
@@ -30,7 +30,7 @@ gap_of page head = take (gap_to page head - gap_from page head) (drop (gap_from 
 
 -- Rule 11.2: the row at o of a region that begins at `from` in its page
 abbrev pub region_hit : Spot → ℕ → ℕ → ℕ → Found → Hit
-region_hit spot columns from o x = hit_of spot (from + o) from (intra_page Absent (share x.matched columns)) x
+region_hit spot columns from o x = hit_of spot (from + o) from (intra_page None (share x.matched columns)) x
 
 abbrev pub run_hits : Spot → ℕ → ℕ → Run → List Hit
 run_hits spot columns from through = []

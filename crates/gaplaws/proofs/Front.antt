@@ -1,5 +1,6 @@
 -- The first rows that a call on a page writes are those of the gap, whatever comes behind them.
 -- Assumes nothing.
+use Rattle.std.specs.Prelude.{Err, Ok}
 use Prim.Native.Nat.{ℕ, zero, suc, ◌+◌, ◌*◌, ◌<◌}
 use mathlib.Core.Path.{◌≡◌, refl, sym, ap, ◌∙◌}
 use mathlib.Core.Bool.{Bool, true, false, cond}
@@ -29,8 +30,7 @@ use Rattle.sheet.specs.Hits.{Hit, rows_of, group_words, groups_words, RowFilling
 use Rattle.sheet.specs.Limits.{words_per_row, words_per_entry}
 use Rattle.sheet.specs.Refusal.{after_or_kept}
 use Rattle.sheet.specs.Sheet.{overlay, rows_words}
-use Rattle.sheet.specs.declared.refusal.Checked.{Checked}
-use Rattle.sheet.specs.declared.refusal.Checked.TheVariants.{Passed, Refused as Held}
+use Rattle.sheet.specs.Refusal.{Checked}
 
 -- ---- the rows of a page: those of its gap, then others
 module _ (how : Rebuilding) (page : List ℕ) (head : ℕ) (hints : List ℕ) (spot : Spot) where
@@ -100,7 +100,7 @@ front_left a gap rest is wide r e = rw (r, e, is) (go a.checked)
         front_of a.width (length t) (after_or_kept c (overlay (rows_words (rows_of (take room (gap ++ rest)))) a.rows) a.rows)
         (after_or_kept c (overlay (groups_words a.width (take room (gap ++ rest))) a.cols) a.cols)
         ≡ sheet_of_hits a.width t
-    go Passed =
+    go (Ok tt) =
         let t = take room gap in
         let split = taken room gap rest in
         let words = rows_words-length (rows_of t) ∙ ap (λ (k : ℕ). k * words_per_row) (rows_count t) in
@@ -112,4 +112,4 @@ front_left a gap rest is wide r e = rw (r, e, is) (go a.checked)
           front (length t * (words_per_entry * a.width)) (groups_words a.width t) (groups_words a.width split.0) a.cols (wide room),
         )
         refl
-    go (Held r) = rw (zero-mul (words_per_entry * a.width)) refl
+    go (Err r) = rw (zero-mul (words_per_entry * a.width)) refl

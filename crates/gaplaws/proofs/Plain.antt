@@ -1,6 +1,7 @@
 -- What calls leave with and without guesses (rule 11.13), of what they are asked: where the one that brings them returns 0, the other does, too, and
 -- each leaves all its rows.
 -- Assumes nothing.
+use Rattle.std.specs.Prelude.{Err, Ok}
 use Prim.Native.Nat.{ℕ, ◌≤◌}
 use mathlib.Core.Path.{◌≡◌, refl, sym}
 use mathlib.Core.List.{List, ◌∷◌, map}
@@ -25,25 +26,24 @@ use Rattle.sheet.specs.Hits.{Hit, RowFilling, row_room, rows_number, FillsRows}
 use Rattle.sheet.specs.Limits.{most_columns}
 use Rattle.sheet.specs.Refusal.{Check, first_held}
 use Rattle.sheet.specs.Slice.{slice_checks}
-use Rattle.sheet.specs.declared.refusal.Checked.{Checked}
-use Rattle.sheet.specs.declared.refusal.Checked.TheVariants.{Passed, Refused as Held}
+use Rattle.sheet.specs.Refusal.{Checked}
 use Rattle.sheet.specs.declared.refusal.Refusal.TheVariants.{ColumnCount}
 
 -- ---- any call
 module _ (a : RowFilling) where
   -- one that returns 0 has passed its checks, and has room,
-  passed : rows_number a ≡ 0 → (a.checked ≡ Passed) × (length a.hits ≤ row_room a)
+  passed : rows_number a ≡ 0 → (a.checked ≡ (Ok tt)) × (length a.hits ≤ row_room a)
   unfolding rows_number
   passed e = go a.checked refl e
     where
-      go : (c : Checked) → a.checked ≡ c → number_after c (length a.hits) (row_room a) ≡ 0 → (a.checked ≡ Passed) × (length a.hits ≤ row_room a)
-      go (Held r) h e = absurd (omega (arith, (number_range r).0))
-      go Passed h e =
+      go : (c : Checked) → a.checked ≡ c → number_after c (length a.hits) (row_room a) ≡ 0 → (a.checked ≡ (Ok tt)) × (length a.hits ≤ row_room a)
+      go (Err r) h e = absurd (omega (arith, (number_range r).0))
+      go (Ok tt) h e =
           by_order (row_room a) (length a.hits)
           (λ more. let z = rw (lt-ltb (row_room a) (length a.hits) more) at e in absurd (omega arith)) (λ fit. (h, fit))
 
   -- and leaves all its rows
-  pub left : (hits : List Hit) → a.hits ≡ hits → a.checked ≡ Passed → length a.hits ≤ row_room a → FillsRows a (all_rows a.width a.rows a.cols hits)
+  pub left : (hits : List Hit) → a.hits ≡ hits → a.checked ≡ (Ok tt) → length a.hits ≤ row_room a → FillsRows a (all_rows a.width a.rows a.cols hits)
   left hits is c fit =
       let all = take_all (row_room a) a.hits fit in
       rows_filled a (all_rows a.width a.rows a.cols hits) c
@@ -58,7 +58,7 @@ Both a b parts =
 abbrev but : RowFilling → Checked → List Hit → RowFilling
 but a checked hits = record { checked = checked; hits = hits; width = a.width; rows = a.rows; cols = a.cols }
 
-both : (a : RowFilling) (parts : List Part) → a.hits ≡ map hit_in parts → (c : Checked) → (a.checked ≡ Passed → c ≡ Passed)
+both : (a : RowFilling) (parts : List Part) → a.hits ≡ map hit_in parts → (c : Checked) → (a.checked ≡ (Ok tt) → c ≡ (Ok tt))
     → (plain : List Hit) → plain ≡ map hit_in (without_guesses parts) → rows_number a ≡ 0 → Both a (but a c plain) parts
 both a parts is c passes plain less e =
     let p = passed a e in
@@ -74,10 +74,10 @@ most_few Exact = omega arith
 abbrev pub too_many : ℕ → ℕ → Check
 too_many most columns = record { refusal = ColumnCount; holds = ltb most columns }
 
-pub passes : (how : Rebuilding) (columns : ℕ) (cs : List Check) → first_held (too_many (most_by how) columns ∷ cs) ≡ Passed → first_held (too_many most_columns columns ∷ cs) ≡ Passed
+pub passes : (how : Rebuilding) (columns : ℕ) (cs : List Check) → first_held (too_many (most_by how) columns ∷ cs) ≡ (Ok tt) → first_held (too_many most_columns columns ∷ cs) ≡ (Ok tt)
 passes how columns cs e =
     let narrow = (none_holds (too_many (most_by how) columns ∷ cs) e).0 in
-    let rest : first_held cs ≡ Passed = rw narrow at e in
+    let rest : first_held cs ≡ (Ok tt) = rw narrow at e in
     rw (le-ltb most_columns columns (omega (arith, most_few how, ltb-false (most_by how) columns narrow))) rest
 
 module _ (how : Rebuilding) where

@@ -1,5 +1,7 @@
 -- What walks over tables leave with and without guesses (rule 11.13): as `Plain` has it of the calls on a page.
 -- Assumes nothing.
+use Rattle.std.specs.Prelude.{Ok}
+use Rattle.std.specs.Prelude.{Err, Ok}
 use Prim.Native.Nat.{ℕ, ◌≤◌}
 use mathlib.Core.Path.{◌≡◌, refl, sym}
 use mathlib.Core.Bool.{Bool, true, false, cond}
@@ -21,8 +23,7 @@ use Rattle.scanlaws.specs.Listed.{zeros}
 use Rattle.sheet.proofs.Laws.{number_range}
 use Rattle.sheet.specs.Hits.{Hit}
 use Rattle.sheet.specs.Refusal.{refusal_number, after}
-use Rattle.sheet.specs.declared.refusal.Checked.{Checked}
-use Rattle.sheet.specs.declared.refusal.Checked.TheVariants.{Passed, Refused as Held}
+use Rattle.sheet.specs.Refusal.{Checked}
 use Rattle.sheet.specs.declared.refusal.Refusal.TheVariants.{WalkSpace, NoRoom}
 use Rattle.tables.specs.Calls.{Asked, tabled_hits, tabled_walking, tabled_filling, tabled_answer, tabled_number, tabled_written, tabled_rows, tabled_cols, tabled_cleared, TablesPromises}
 use Rattle.walk.specs.Carve.{widest, table_checks}
@@ -31,7 +32,7 @@ use Rattle.walk.specs.declared.walk.Walked.TheVariants.{Done as Walked}
 
 -- one that returns 0 has passed its checks, and has flags, room and stack enough
 record Ended (w : Walking) : Type 0 where
-  checked : w.checked ≡ Passed
+  checked : w.checked ≡ (Ok tt)
   flagged : ltb w.flags w.pages ≡ false
   fits : w.things ≤ w.room
   whole : w.overflow ≡ false
@@ -41,16 +42,16 @@ ended w e = go w.checked refl (ltb w.flags w.pages) refl w.overflow refl e
   where
     go : (c : Checked) → w.checked ≡ c → (few : Bool) → ltb w.flags w.pages ≡ few → (over : Bool) → w.overflow ≡ over
         → after refusal_number c (cond few (refusal_number WalkSpace) (cond (ltb w.room w.things) (refusal_number NoRoom) (cond over (refusal_number WalkSpace) 0))) ≡ 0 → Ended w
-    go (Held r) c few f over o e = absurd (omega (arith, (number_range r).0))
-    go Passed c true f over o e = absurd (omega arith)
-    go Passed c false f over o e = by_order w.room w.things (λ more. let z = rw (lt-ltb w.room w.things more) at e in absurd (omega arith)) (λ fit. fitting fit over o (rw (le-ltb w.room w.things fit) at e))
+    go (Err r) c few f over o e = absurd (omega (arith, (number_range r).0))
+    go (Ok tt) c true f over o e = absurd (omega arith)
+    go (Ok tt) c false f over o e = by_order w.room w.things (λ more. let z = rw (lt-ltb w.room w.things more) at e in absurd (omega arith)) (λ fit. fitting fit over o (rw (le-ltb w.room w.things fit) at e))
       where
         fitting : w.things ≤ w.room → (over : Bool) → w.overflow ≡ over → cond over (refusal_number WalkSpace) 0 ≡ 0 → Ended w
         fitting fit true o e = absurd (omega arith)
         fitting fit false o e = record { checked = c; flagged = f; fits = fit; whole = o }
 
 module _ (w : Walking) (e : Ended w) where
-  answer : walking_answer w ≡ Walked w.things
+  answer : walking_answer w ≡ Ok (Walked w.things)
   answer = rw (e.checked, e.flagged, le-ltb w.room w.things e.fits, e.whole) refl
 
   number : walking_number w ≡ 0

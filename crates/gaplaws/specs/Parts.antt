@@ -1,5 +1,6 @@
 -- The rows of free space once more, each with a mark that says of which part of the rules it is, since its words do not (rule 11.13).
 -- Assumes nothing.
+use Rattle.std.specs.Prelude.{Ok}
 use Rattle.std.specs.Prelude.{ℕ, ◌+◌, ◌≡◌, cond, List, [], ◌∷◌, ◌++◌, map, ltb, length}
 use Rattle.carving.specs.Calls.{page_spot, SliceAsked, slice_asked, NumberedAsked, numbered_asked}
 use Rattle.carving.specs.declared.inner.Carving.{Carving}
@@ -77,13 +78,13 @@ tabled_by how a = asked how a.db a.size a.roots a.counts a.hints a.flags a.stack
 -- what one leaves that has room for all its rows: how many they are, and their words and entries over what the lists held
 abbrev pub all_rows : ℕ → List ℕ → List ℕ → List Hit → RowOutcome
 all_rows width rows cols hits =
-    row_outcome (Done (length hits)) (overlay (rows_words (rows_of hits)) rows) (overlay (groups_words width hits) cols)
+    row_outcome (Ok (Done (length hits))) (overlay (rows_words (rows_of hits)) rows) (overlay (groups_words width hits) cols)
 
 -- and over walks that end, with flags and stack cleared (rule 9.11)
 abbrev pub all_tabled : Asked → List Hit → OnTables
 all_tabled a hits =
     let left = all_rows (widest a.counts) a.rows a.cols hits in
-    on_tables (Walked (length hits)) (zeros (length a.flags)) (zeros (length a.stack)) left.rows left.cols
+    on_tables (Ok (Walked (length hits))) (zeros (length a.flags)) (zeros (length a.stack)) left.rows left.cols
 
 -- Rule 11.13: two calls of which one brings guesses and the other does not, if each leaves all its rows
 pub record Unguessed {A : Type 0} (all : List Hit → A) (parts : List Part) (guessing plain : A) : Type 0 where

@@ -1,5 +1,6 @@
 -- Worked texts as one table that is computed at once: inputs, and all that is printed for them.
 -- Assumes nothing.
+use Rattle.std.specs.Prelude.{Err, Ok}
 use Prim.Native.Nat.{ℕ}
 use mathlib.Core.Path.{◌≡◌, refl}
 use mathlib.Core.List.{List, [], ◌∷◌, ◌++◌, map}
@@ -22,13 +23,12 @@ use Rattle.sheet.specs.Confidence.{share}
 use Rattle.sheet.specs.Limits.{count_fits, hints_known}
 use Rattle.sheet.specs.Row.{row_words}
 use Rattle.sheet.specs.Refusal.{first_held, refusal_number}
-use Rattle.sheet.specs.declared.refusal.Checked.{Checked}
-use Rattle.sheet.specs.declared.refusal.Checked.TheVariants.{Passed, Refused}
+use Rattle.sheet.specs.Refusal.{Checked}
 
 -- what is printed for an input whose rows are one part
 printed_if : List ℕ → Checked → List ℕ
-printed_if s (Refused r) = refusal_line (refusal_number r)
-printed_if s Passed =
+printed_if s (Err r) = refusal_line (refusal_number r)
+printed_if s (Ok tt) =
     let parts = parts_of (region_of s) (hints_of s) in
     heading
     ++ part_text (scan_asked (region_of s) (hints_of s) 0 0 (replicate row_space 0) (replicate col_space 0))

@@ -1,14 +1,16 @@
 -- One part: what the scan found, as the definitions have it.
 -- Assumes nothing.
+use Rattle.std.specs.Prelude.{Err}
 use Prim.Native.Nat.{ℕ, ◌≤◌}
 use mathlib.Core.Path.{◌≡◌, sym, ◌∙◌}
-use mathlib.Core.List.{List}
+use mathlib.Core.List.{List, []}
 use lib.ListN.{length, replicate, length-replicate}
 use Rattle.listing.specs.Part.{row_space, col_space, part_answer, part_text}
 use Rattle.listing.specs.Text.{rows_text}
 use Rattle.scan.proofs.Laws.{scan_bounded, same_answer, Bounded, answers_asked, AnswersAsked}
 use Rattle.scan.specs.Scan.{written_of, scan_asked, ScanOutcome, ScansRegion}
 use Rattle.sheet.specs.Columns.{room_of}
+use Rattle.sheet.specs.declared.refusal.Refusal.{Refusal}
 
 module _ (s hints : List ℕ) (start : ℕ) where
   pub part_bounded : Bounded (length s) start (room_of row_space col_space (length hints)) (part_answer s hints start)
@@ -33,3 +35,8 @@ module _ (s hints : List ℕ) (start : ℕ) where
 
     pub part_room : (n : ℕ) → n ≡ written_of x.answer → n ≤ room_of row_space col_space (length hints)
     part_room n en = rw (en, part_answer_lem) part_bounded.rows_fit
+
+  -- a scan that is refused has no rows, and so no text
+  pub part_none : (rows cols : List ℕ) (r : Refusal) → part_answer s hints start ≡ Err r → part_text (scan_asked s hints 0 start rows cols) ≡ []
+  unfolding part_text rows_text
+  part_none rows cols r e = rw e

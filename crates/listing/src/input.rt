@@ -5,7 +5,7 @@ ghost use Rattle.sheet.specs.Refusal.{first_held};
 
 use record::inner::big_endian;
 use sheet::hint::{hint_count_fits, hints_known};
-use sheet::refusal::{Checked, Refusal};
+use sheet::refusal::Refusal;
 
 // In bytes.
 pub const LARGEST_INPUT: usize = 65_536;
@@ -13,35 +13,30 @@ pub const LARGEST_INPUT: usize = 65_536;
 pub const COUNT_BYTES: usize = 2;
 
 // How many hints there should be; 0 where the count is missing.
+#[tactic(auto, unfolding(crate::specs::Input::count_of))]
 pub fn count_of(input: &[u8]) -> usize
     ensures { result ≡ count_of input.now }
 {
     if input.len() < COUNT_BYTES {
-        return 0;
+        0
+    } else {
+        big_endian(input, 0, COUNT_BYTES) as usize
     }
-    big_endian(input, 0, COUNT_BYTES) as usize
 }
 
 // Whether the input can be scanned.
-pub fn judge(input: &[u8]) -> Checked
+pub fn judge(input: &[u8]) -> Result<(), Refusal>
     ensures { result ≡ first_held (input_checks input.now) }
 {
     if input.len() > LARGEST_INPUT {
-        return Checked::Refused(Refusal::TooLarge);
-    }
-    if input.len() < COUNT_BYTES {
-        return Checked::Refused(Refusal::ColumnCount);
+        return Err(Refusal::TooLarge);
     }
     let count = count_of(input);
     if !hint_count_fits(count) {
-        return Checked::Refused(Refusal::ColumnCount);
+        return Err(Refusal::ColumnCount);
     }
-    if count > input.len() - COUNT_BYTES {
-        return Checked::Refused(Refusal::Malformed);
+    match input.get(COUNT_BYTES..COUNT_BYTES + count) {
+        Some(hints) if hints_known(hints) => Ok(()),
+        _ => Err(Refusal::Malformed),
     }
-    let end = COUNT_BYTES + count;
-    if !hints_known(&input[COUNT_BYTES..end]) {
-        return Checked::Refused(Refusal::Malformed);
-    }
-    Checked::Passed
 }

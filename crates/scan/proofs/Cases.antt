@@ -1,5 +1,6 @@
 -- All of document 01's cases marked P, as one table that is computed at once: those on varints and values, and those on rows, counts and offsets.
 -- Assumes nothing.
+use Rattle.std.specs.Prelude.{Result, Ok}
 use Prim.Native.Nat.{ℕ, ◌+◌}
 use mathlib.Core.Path.{◌≡◌, refl}
 use mathlib.Core.List.{List, [], ◌∷◌, ◌++◌, map}
@@ -13,9 +14,9 @@ use Rattle.record.specs.Varint.{width_of, varint_from, varint_at, read_varint}
 use Rattle.attempt.specs.Attempt.{header_fits, types_from, bodies_from, judged, attempt_at}
 use Rattle.attempt.specs.Hints.{is_integer, is_real, is_text, is_blob, suits}
 use Rattle.attempt.specs.Places.{attempt_places}
-use Rattle.scan.specs.Scan.{scan_from, scan_asked, scan_answer, scan_rows, scan_cols}
+use Rattle.scan.specs.Scan.{done, scan_from, scan_asked, scan_answer, scan_rows, scan_cols}
 use Rattle.scan.specs.declared.schema_sig.Scanned.{Scanned}
-use Rattle.scan.specs.declared.schema_sig.Scanned.TheVariants.{Done}
+use Rattle.sheet.specs.declared.refusal.Refusal.{Refusal}
 use Rattle.sheet.specs.Columns.{column_words, room_of}
 use Rattle.sheet.specs.Confidence.{share}
 use Rattle.sheet.specs.Limits.{count_fits, hints_known}
@@ -24,11 +25,11 @@ use Rattle.sheet.specs.Row.{row_words}
 -- a region that is scanned from 0 with two rows' room in each list, and what comes of it: the answer, the rows and the entries that are written
 data Case : Type 0 where
   below : Below → Case
-  scan : List ℕ → List ℕ → Scanned → List ℕ → List ℕ → Case
+  scan : List ℕ → List ℕ → Result Scanned Refusal → List ℕ → List ℕ → Case
 
 data Answer : Type 0 where
   plain : BelowAnswer → Answer
-  left : Scanned → List ℕ → List ℕ → Answer
+  left : Result Scanned Refusal → List ℕ → List ℕ → Answer
 
 expected : Case → Answer
 expected (below c) = plain (expectedBelow c)
@@ -60,18 +61,18 @@ hipik = 0x68 ∷ 0x69 ∷ 0x70 ∷ 0x69 ∷ 0x6b ∷ []
 
 scans : List Case
 scans =
-    scan (0 ∷ 2 ∷ []) (0x03 ∷ 0x01 ∷ 0x17 ∷ 0x2a ∷ hipik) (Done 1 9 3) (only 0 9 0) (pair 3)
-    ∷ scan (0 ∷ 2 ∷ []) (0x03 ∷ 0x01 ∷ 0x17 ∷ 0x2a ∷ 0x68 ∷ 0x69 ∷ 0x70 ∷ 0x69 ∷ []) (Done 0 8 8) unwritten nothing
-    ∷ scan (0 ∷ []) (0x02 ∷ 0x80 ∷ 0x08 ∷ []) (Done 1 3 3) (only 0 2 1) (0 ∷ 8 ∷ 2 ∷ 0 ∷ replicate 12 0)
-    ∷ scan (0 ∷ 2 ∷ []) (0x05 ∷ 0x03 ∷ 0x01 ∷ 0x17 ∷ 0x2a ∷ hipik) (Done 1 10 8) (only 1 9 0) (pair 4)
-    ∷ scan (0 ∷ 2 ∷ []) (0x05 ∷ 0x03 ∷ 0x01 ∷ 0x17 ∷ 0xaa ∷ hipik) (Done 1 10 9) (only 1 9 0) (pair 4)
+    scan (0 ∷ 2 ∷ []) (0x03 ∷ 0x01 ∷ 0x17 ∷ 0x2a ∷ hipik) (Ok (done 1 9 3)) (only 0 9 0) (pair 3)
+    ∷ scan (0 ∷ 2 ∷ []) (0x03 ∷ 0x01 ∷ 0x17 ∷ 0x2a ∷ 0x68 ∷ 0x69 ∷ 0x70 ∷ 0x69 ∷ []) (Ok (done 0 8 8)) unwritten nothing
+    ∷ scan (0 ∷ []) (0x02 ∷ 0x80 ∷ 0x08 ∷ []) (Ok (done 1 3 3)) (only 0 2 1) (0 ∷ 8 ∷ 2 ∷ 0 ∷ replicate 12 0)
+    ∷ scan (0 ∷ 2 ∷ []) (0x05 ∷ 0x03 ∷ 0x01 ∷ 0x17 ∷ 0x2a ∷ hipik) (Ok (done 1 10 8)) (only 1 9 0) (pair 4)
+    ∷ scan (0 ∷ 2 ∷ []) (0x05 ∷ 0x03 ∷ 0x01 ∷ 0x17 ∷ 0xaa ∷ hipik) (Ok (done 1 10 9)) (only 1 9 0) (pair 4)
     ∷ []
 
 -- the same row with its header's length in two bytes, then with its first type in two
 paddings : List Case
 paddings =
-    scan (0 ∷ 2 ∷ []) (0x80 ∷ 0x04 ∷ 0x01 ∷ 0x17 ∷ 0x2a ∷ hipik) (Done 1 10 4) (only 0 10 1) (pair 4)
-    ∷ scan (0 ∷ 2 ∷ []) (0x04 ∷ 0x80 ∷ 0x01 ∷ 0x17 ∷ 0x2a ∷ hipik) (Done 1 10 4) (only 0 10 1) (pair 4)
+    scan (0 ∷ 2 ∷ []) (0x80 ∷ 0x04 ∷ 0x01 ∷ 0x17 ∷ 0x2a ∷ hipik) (Ok (done 1 10 4)) (only 0 10 1) (pair 4)
+    ∷ scan (0 ∷ 2 ∷ []) (0x04 ∷ 0x80 ∷ 0x01 ∷ 0x17 ∷ 0x2a ∷ hipik) (Ok (done 1 10 4)) (only 0 10 1) (pair 4)
     ∷ []
 
 cases : List Case

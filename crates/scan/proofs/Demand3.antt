@@ -2,6 +2,7 @@
 -- hints, base, start and room, that agree at every header place of the first give the same sheet and the same count, whatever the lists held and
 -- however long they are. The count is the number of header places of the attempts that the scan finished with.
 -- Assumes nothing.
+use Rattle.std.specs.Prelude.{Ok}
 use mathlib.Core.Path.{◌≡◌, sym, ◌∙◌}
 use contract.Lifetimes.{Lfts}
 use denote.Triple.Clauses.{AtExit}
@@ -12,7 +13,6 @@ use Rattle.scan.specs.Sheet.{Sheet, sheet_of, Asked, asked, asked_checked, asked
 use Rattle.scan.proofs.Leaving.{sheet_left, count_left}
 use Rattle.scan.proofs.Laws.{count_passed}
 use Rattle.scan.proofs.SameRun.{same_sheet}
-use Rattle.sheet.specs.declared.refusal.Checked.TheVariants.{Passed}
 use Rattle.scan.proofs.schema_sig.scan_region.Kinds as kinds
 use Rattle.scan.proofs.schema_sig.scan_region.Reads as scan-region
 
@@ -42,5 +42,5 @@ module _ (k : Lfts 4) where
       (first.0 ∙ same.0 ∙ sym second.0, first.1 ∙ same.1 ∙ sym second.1)
 
   pub counts_places : (a : Dens k kinds.ps) (x : (res_t kinds.r k).Denot) (s : AtExit (ended_of 4 kinds.ps kinds.r) k) → scan-region.Post k a x s
-      → asked_checked (question a) ≡ Passed → Counts (question a) (read_of x)
+      → asked_checked (question a) ≡ (Ok tt) → Counts (question a) (read_of x)
   counts_places a x s p e = count_passed (question a) (read_of x) (sheet_is a x s p).1 e

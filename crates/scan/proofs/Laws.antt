@@ -1,5 +1,6 @@
 -- What other crates rest on: they cite these laws and unfold no definition of this one.
 -- Assumes nothing.
+use Rattle.std.specs.Prelude.{Result, Err, Ok}
 use Prim.Native.Nat.{ℕ, zero, suc, ◌+◌, ◌-◌, ◌*◌, ◌≤◌, ◌<◌}
 use mathlib.Core.Path.{◌≡◌, refl, ap, ◌∙◌}
 use mathlib.Core.List.{List}
@@ -9,17 +10,15 @@ use Rattle.attempt.proofs.Laws.{hit_takes}
 use Rattle.attempt.specs.Attempt.{Tried, miss, hit, attempt_at}
 use Rattle.attempt.specs.Places.{most_places}
 use Rattle.record.proofs.Numbers.{by_order}
-use Rattle.scan.specs.Scan.{Run, through, no_room, missed, found, scan_from, row_count, finished_places, tried_offsets, run_number, end_of, answer_of, written_of, place_of, read_of, ScanAsked, scan_asked, call_checked, call_room, scan_run, scan_answer, scan_written, scan_place, scan_count}
+use Rattle.scan.specs.Scan.{Run, through, no_room, missed, found, scan_from, row_count, finished_places, tried_offsets, run_number, done, full, end_of, answer_of, number_of, written_of, place_of, read_of, ScanAsked, scan_asked, call_checked, call_room, scan_run, scan_answer, scan_written, scan_place, scan_count}
 use Rattle.scan.specs.Sheet.{Asked, asked, asked_checked, asked_run, asked_sheet, asked_count, Counts}
 use Rattle.scan.specs.declared.schema_sig.Scanned.{Scanned}
-use Rattle.scan.specs.declared.schema_sig.Scanned.TheVariants.{Full, Refused}
+use Rattle.sheet.specs.declared.refusal.Refusal.{Refusal}
 use Rattle.scan.proofs.Answers.{scan_numbers}
 use Rattle.scan.proofs.Leaving.{sheet_left, count_left}
 pub use Rattle.scan.proofs.Running.{scan_none, scan_missed, scan_found, scan_full, scan_end}
 use Rattle.scan.proofs.SameRun.{finished_few}
-use Rattle.sheet.specs.Refusal.{after}
-use Rattle.sheet.specs.declared.refusal.Checked.{Checked}
-use Rattle.sheet.specs.declared.refusal.Checked.TheVariants.{Passed, Refused as Held}
+use Rattle.sheet.specs.Refusal.{Checked, after}
 
 -- ---- a run
 
@@ -71,19 +70,19 @@ module _ (s hints : List ℕ) (room : ℕ) where
 -- ---- the answer
 
 -- rows fit the room, a place where none was left is past the start and in the region, and the count is small
-pub record Bounded (len start room : ℕ) (a : Scanned) : Type 0 where
+pub record Bounded (len start room : ℕ) (a : Result Scanned Refusal) : Type 0 where
   pub rows_fit : written_of a ≤ room
   pub read_few : read_of a ≤ most_places * len
-  pub past : (rows place read : ℕ) → a ≡ Full rows place read → 0 < room → (start < place) × (place < len)
+  pub past : (rows place read : ℕ) → a ≡ Ok (full rows place read) → 0 < room → (start < place) × (place < len)
 
 module _ (len start room : ℕ) (rows read : ℕ) (fits : rows ≤ room) (few : read ≤ most_places * len) where
-  end_bounded : (t : Run) → (0 < room → FullFrom len (suc start) t) → Bounded len start room (end_of len rows read t)
-  end_bounded through p = record { rows_fit = fits; read_few = few; past = λ n q r e. absurd (let z : ◌≡◌ {A = ℕ} 0 1 = cc in omega arith) }
+  end_bounded : (t : Run) → (0 < room → FullFrom len (suc start) t) → Bounded len start room (Ok (end_of len rows read t))
+  end_bounded through p = record { rows_fit = fits; read_few = few; past = λ n q r e. absurd (let z = ap number_of e in omega arith) }
   end_bounded (no_room o) p =
       record {
         rows_fit = fits;
         read_few = few;
-        past = λ n q r e some. let z : o ≡ q = cc in rw z at (p some);
+        past = λ n q r e some. let z = ap place_of e in rw z at (p some);
       }
   end_bounded (missed o t) p = end_bounded t p
   end_bounded (found o x t) p = end_bounded t p
@@ -93,13 +92,13 @@ pub scan_bounded : (a : ScanAsked) → Bounded (length a.region) a.start (call_r
 unfolding scan_answer
 scan_bounded a = go a.region a.hints a.start (call_checked a) (call_room a)
   where
-    go : (s hints : List ℕ) (start : ℕ) (c : Checked) (room : ℕ) → Bounded (length s) start room (after Refused c (answer_of s (scan_from (length s) s hints room start 0)))
-    go s hints start Passed room =
+    go : (s hints : List ℕ) (start : ℕ) (c : Checked) (room : ℕ) → Bounded (length s) start room (after Err c (Ok (answer_of s (scan_from (length s) s hints room start 0))))
+    go s hints start (Ok tt) room =
         let t = scan_from (length s) s hints room start 0 in
         let g = goes s hints room (length s) start 0 0 (omega arith) (omega arith) in
         end_bounded (length s) start room (row_count t) (length (finished_places s t)) (omega (arith, g.rows_fit))
         (omega (arith, g.few, finished_few s t)) t (λ r. goes_past s hints room (length s) start r)
-    go s hints start (Held r) room =
+    go s hints start (Err r) room =
         record { rows_fit = omega arith; read_few = omega arith; past = λ n q k e. absurd (let z : ◌≡◌ {A = ℕ} 0 1 = cc in omega arith) }
 
 -- THE LAW: what the lists hold is no matter to the answer, only how long they are
@@ -109,14 +108,14 @@ unfolding scan_answer
 same_answer s hints base start rows cols rows' cols' e f = rw (e, f)
 
 -- ---- an answer, by what the call is asked: it leaves no more to find unless it says that there was no room
-pub record AnswersAsked (q : Asked) (x : Scanned) : Type 0 where
+pub record AnswersAsked (q : Asked) (x : Result Scanned Refusal) : Type 0 where
   pub written : written_of x ≡ (asked_sheet q).written
   pub place : place_of x ≡ (asked_sheet q).place
   pub count : read_of x ≡ asked_count q
-  pub settled : ((rows place read : ℕ) → x ≡ Full rows place read → ⊥) → asked_checked q ≡ Passed → run_number (asked_run q) ≡ 0
+  pub settled : ((rows place read : ℕ) → x ≡ Ok (full rows place read) → ⊥) → asked_checked q ≡ (Ok tt) → run_number (asked_run q) ≡ 0
 
 module _ (len rows read : ℕ) where
-  end_settled : (t : Run) → ((n p r : ℕ) → end_of len rows read t ≡ Full n p r → ⊥) → run_number t ≡ 0
+  end_settled : (t : Run) → ((n p r : ℕ) → end_of len rows read t ≡ full n p r → ⊥) → run_number t ≡ 0
   end_settled through none = refl
   end_settled (no_room o) none = absurd (none rows o read refl)
   end_settled (missed o t) none = end_settled t none
@@ -132,11 +131,11 @@ answers_asked a =
       written = n.1 ∙ ap (λ x. x.written) left;
       place = n.2 ∙ ap (λ x. x.place) left;
       count = n.3 ∙ count_left a.region a.hints a.base a.start a.rows a.cols;
-      settled = λ none e. end_settled _ _ _ (scan_run a) (rw e at none);
+      settled = λ none e. end_settled _ _ _ (scan_run a) (λ n p r d. none n p r (rw e (ap Ok d)));
     }
 
 -- ---- the count of a call that no check refuses
-pub count_passed : (a : Asked) (count : ℕ) → count ≡ asked_count a → asked_checked a ≡ Passed → Counts a count
+pub count_passed : (a : Asked) (count : ℕ) → count ≡ asked_count a → asked_checked a ≡ (Ok tt) → Counts a count
 unfolding asked_count
 count_passed a count is e =
     let n : count ≡ length (finished_places a.region (asked_run a)) = rw e at is in

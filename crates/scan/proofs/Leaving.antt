@@ -1,5 +1,6 @@
 -- What a call leaves at the front of its lists is the sheet of its rules.
 -- Assumes nothing.
+use Rattle.std.specs.Prelude.{Err, Ok}
 use Prim.Native.Nat.{ℕ, ◌*◌}
 use mathlib.Core.Path.{◌≡◌, refl, ap, ◌∙◌}
 use mathlib.Core.List.{List}
@@ -15,8 +16,7 @@ use Rattle.sheet.specs.Columns.{room_of}
 use Rattle.sheet.specs.Limits.{words_per_row, words_per_entry}
 use Rattle.sheet.specs.Refusal.{refusal_number, after, after_or0, after_or_kept}
 use Rattle.sheet.specs.Sheet.{overlay, rows_words}
-use Rattle.sheet.specs.declared.refusal.Checked.{Checked}
-use Rattle.sheet.specs.declared.refusal.Checked.TheVariants.{Passed, Refused as Held}
+use Rattle.sheet.specs.Refusal.{Checked}
 
 -- what was written is the front of what the list holds
 front : (n : ℕ) (ws old : List ℕ) → length ws ≡ n → take n (overlay ws old) ≡ ws
@@ -40,12 +40,12 @@ module _ (s hints : List ℕ) (base start : ℕ) (rows cols : List ℕ) where
           sheet_of (length hints) (after refusal_number c (run_number t)) (after_or0 c (row_count t)) (after_or0 c (run_place (length s) t))
           (after_or_kept c (overlay (rows_words (rows_of base (length hints) t)) rows) rows) (after_or_kept c (overlay (entries_of t) cols) cols)
           ≡ after empty_sheet c (run_sheet (length s) base (length hints) t)
-      go Passed =
+      go (Ok tt) =
           rw (
             front (row_count t * words_per_row) (rows_words (rows_of base (length hints) t)) rows (rows_words-length (rows_of base (length hints) t) ∙ ap (λ (k : ℕ). k * words_per_row) (rows_count base (length hints) t)),
             front (row_count t * (words_per_entry * length hints)) (entries_of t) cols (run_reads s hints (length s) (room_of (length rows) (length cols) (length hints)) start 0).words,
           )
-      go (Held r) = rw (zero-mul (words_per_entry * length hints))
+      go (Err r) = rw (zero-mul (words_per_entry * length hints))
 
   -- THE LAW: and the count is theirs
   pub count_left : scan_count call ≡ asked_count (asked s hints base start rows cols)

@@ -1,6 +1,7 @@
 -- Values read back, of the public calls: the entries that a scan or one attempt writes lie in the region, and read over it, one after the other,
 -- as the values of the rows' types, each at its place: the row's offset and header length, and the lengths before it.
 -- Assumes nothing.
+use Rattle.std.specs.Prelude.{Err, Ok}
 use Prim.Native.Nat.{ℕ, ◌*◌}
 use mathlib.Core.Path.{◌≡◌, refl}
 use mathlib.Core.List.{List, []}
@@ -20,8 +21,7 @@ use Rattle.sheet.specs.Columns.{room_of}
 use Rattle.sheet.specs.Filled.{filled_written}
 use Rattle.sheet.specs.Refusal.{after_or0, after_or_kept}
 use Rattle.sheet.specs.Sheet.{overlay}
-use Rattle.sheet.specs.declared.refusal.Checked.{Checked}
-use Rattle.sheet.specs.declared.refusal.Checked.TheVariants.{Passed, Refused as Held}
+use Rattle.sheet.specs.Refusal.{Checked}
 use Rattle.scan.proofs.schema_sig.scan_region.Kinds as scan-kinds
 use Rattle.scan.proofs.schema_sig.scan_region.Reads as scan-region
 use Rattle.scan.proofs.schema_sig.try_parse_record.Kinds as once-kinds
@@ -29,8 +29,8 @@ use Rattle.scan.proofs.schema_sig.try_parse_record.Reads as try-parse-record
 
 left : (s : List ℕ) (columns : ℕ) (t : Run) (cols : List ℕ) → RunReads s columns t → (c : Checked)
     → ReadBack s (after_or0 c (row_count t) * columns) (after_or_kept c (overlay (entries_of t) cols) cols) (after_or_kept c (run_values s t) [])
-left s columns t cols r Passed = r.back (drop (length (entries_of t)) cols)
-left s columns t cols r (Held k) = nothing_read s columns cols
+left s columns t cols r (Ok tt) = r.back (drop (length (entries_of t)) cols)
+left s columns t cols r (Err k) = nothing_read s columns cols
 
 pub scan_reads_back : (k : Lfts 4) (a : Dens k scan-kinds.ps) (x : (res_t scan-kinds.r k).Denot) (s : AtExit (ended_of 4 scan-kinds.ps scan-kinds.r) k) → scan-region.Post k a x s
     → ReadBack a.0.now (written_of x * length a.1.0.now) s.1.1.1.1.1.0.now

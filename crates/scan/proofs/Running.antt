@@ -1,26 +1,27 @@
 -- A scan, attempt by attempt: what has been found so far, with what is still to come, comes to the whole.
 -- Assumes nothing.
+use Rattle.std.specs.Prelude.{Ok}
 use Prim.Native.Nat.{ℕ, zero, suc, zero-le, ◌+◌, ◌-◌, ◌*◌, ◌≤◌, ◌<◌}
 use mathlib.Core.Path.{◌≡◌, refl, sym, ap, ◌∙◌}
 use mathlib.Core.List.{List, []}
 use native.Mathlib.Nat.{add-mul, one-mul, suc-mul, zero-mul}
 use native.Mathlib.Omega.{arith}
 use lib.ListN.{length, length-append}
-use lib.Seq.{sets}
+use lib.Seq.{sets, length-sets}
 use borrow.Author.Tests.{lt-ltb, le-ltb}
 use Rattle.attempt.specs.Attempt.{Found, miss, hit, attempt_at}
 use Rattle.filter.proofs.Laws.{misses_keep}
 use Rattle.filter.specs.Inner.{MissBetween, ThroughIs}
 use Rattle.record.proofs.Numbers.{by_order}
-use Rattle.scan.specs.Inner.{Ran}
+use Rattle.scan.specs.Inner.{Written, Ran}
 use Rattle.attempt.specs.Places.{attempt_places}
-use Rattle.scan.specs.Scan.{Run, through, no_room, missed, found, scan_from, row_of, rows_of, row_count, entries_of, finished_places, end_of, scan_outcome}
+use Rattle.scan.specs.Scan.{Run, through, no_room, missed, found, scan_from, row_of, rows_of, row_count, entries_of, finished_places, end_of, done, full, scan_outcome}
 use Rattle.sheet.specs.Sheet.{columns_words}
 use Rattle.scan.specs.declared.schema_sig.Scanned.{Scanned}
-use Rattle.scan.specs.declared.schema_sig.Scanned.TheVariants.{Done, Full}
 use Rattle.sheet.proofs.Laws.{columns_words-length, row_words-length, rows_words-length, sets_append, room_rows, room_cols, laid_over}
 use Rattle.sheet.specs.Columns.{room_of}
 use Rattle.sheet.specs.Limits.{words_per_row, words_per_entry}
+use Rattle.sheet.specs.declared.inner.Sheet.{Sheet}
 use Rattle.sheet.specs.Row.{row_words}
 use Rattle.sheet.specs.Sheet.{rows_words}
 
@@ -124,6 +125,13 @@ room_all rows cols width zero h = (zero-le, let z : 0 * (words_per_entry * width
 room_all rows cols width (suc n) h =
     (rw suc-mul (room_rows rows cols width n h), rw (suc-mul n (words_per_entry * width)) (room_cols rows cols width n h))
 
+-- a row that is written keeps both lists as long as they were
+pub written_long : (base o : ℕ) (x : Found) (s s' : Sheet) → Written base o x s s' → (length s'.rows.now ≡ length s.rows.now) × (length s'.cols.now ≡ length s.cols.now)
+written_long base o x s s' w = (
+  rw w.rows_are (length-sets s.rows.now (s.n * words_per_row) (row_words (row_of base s.width o x))),
+  rw w.cols_are (length-sets s.cols.now (s.n * (words_per_entry * s.width)) (columns_words x.columns)),
+)
+
 -- ---- with fuel for what is left
 
 pub On : (s hints : List ℕ) (base start room : ℕ) (rows₀ cols₀ rows cols : List ℕ) (o n read : ℕ) → Type 0
@@ -164,7 +172,7 @@ module _ (s hints : List ℕ) (base start room : ℕ) (rows₀ cols₀ rows cols
     -- nothing is left to come
     ran : (t : Run) (a : Scanned) → rows_of base (length hints) t ≡ [] → entries_of t ≡ [] → row_count t ≡ 0 → length (finished_places s t) ≡ 0 → end_of (length s) n read t ≡ a
         → Going s base (length hints) (words_per_entry * length hints) (scan_from (length s) s hints room start 0) rows₀ cols₀ t rows cols n read
-        → Ran s hints base start room rows₀ cols₀ (scan_outcome a rows cols)
+        → Ran s hints base start room rows₀ cols₀ (scan_outcome (Ok a) rows cols)
     ran t a er ec z r d g =
         let t₀ = scan_from (length s) s hints room start 0 in
         let c : row_count t₀ ≡ n = omega (arith, g.counts) in
@@ -175,20 +183,20 @@ module _ (s hints : List ℕ) (base start room : ℕ) (rows₀ cols₀ rows cols
         let rr : rows ≡ sets rows₀ 0 (rows_words (rows_of base (length hints) t₀)) = rw er at g.rows_are in
         let rc : cols ≡ sets cols₀ 0 (entries_of t₀) = rw ec at g.cols_are in
         record {
-          answer = rw (c, p) (sym d ∙ sym (g.ends n read));
+          answer = ap Ok (rw (c, p) (sym d ∙ sym (g.ends n read)));
           rows_are = rr ∙ laid_over (rows_words (rows_of base (length hints) t₀)) rows₀ (omega arith);
           cols_are = rc ∙ laid_over (entries_of t₀) cols₀ (omega (arith, g.words));
         }
 
-    pub on_end : length s - 2 ≤ o → On s hints base start room rows₀ cols₀ rows cols o n read → Ran s hints base start room rows₀ cols₀ (scan_outcome (Done n (length s) read) rows cols)
+    pub on_end : length s - 2 ≤ o → On s hints base start room rows₀ cols₀ rows cols o n read → Ran s hints base start room rows₀ cols₀ (scan_outcome (Ok (done n (length s) read)) rows cols)
     unfolding On
-    on_end h (f, q, g) = ran through (Done n (length s) read) refl refl refl refl refl (rw (scan_end f s hints room o n h) at g)
+    on_end h (f, q, g) = ran through (done n (length s) read) refl refl refl refl refl (rw (scan_end f s hints room o n h) at g)
 
     pub on_full : (x : Found) → o < length s - 2 → attempt_at s hints o ≡ hit x → room ≤ n → On s hints base start room rows₀ cols₀ rows cols o n read
-        → Ran s hints base start room rows₀ cols₀ (scan_outcome (Full n o read) rows cols)
+        → Ran s hints base start room rows₀ cols₀ (scan_outcome (Ok (full n o read)) rows cols)
     unfolding On
     on_full x h e m (zero, q, g) = absurd (omega arith)
-    on_full x h e m (suc f, q, g) = ran (no_room o) (Full n o read) refl refl refl refl refl (rw (scan_full f s hints room o n h x e m) at g)
+    on_full x h e m (suc f, q, g) = ran (no_room o) (full n o read) refl refl refl refl refl (rw (scan_full f s hints room o n h x e m) at g)
 
 -- ---- offsets that are passed over are attempts that failed
 module _ (s hints : List ℕ) (base start room : ℕ) (rows₀ cols₀ rows cols : List ℕ) (o n read last r : ℕ) (e : last ≡ length s - 2)

@@ -1,5 +1,6 @@
 -- Demand 3 of the definitions: a scan looks at its header places alone, and counts them.
 -- Assumes nothing.
+use Rattle.std.specs.Prelude.{Err, Ok}
 use Prim.Native.Nat.{ℕ, zero, suc, zero-le, ◌+◌, ◌-◌, ◌*◌, ◌≤◌, ◌<◌}
 use mathlib.Core.Path.{◌≡◌, refl, sym, ◌∙◌}
 use mathlib.Core.List.{List, []}
@@ -15,8 +16,7 @@ use Rattle.scan.specs.Scan.{Run, through, no_room, missed, found, scan_from, all
 use Rattle.scan.specs.Sheet.{Asked, asked_checked, asked_run, run_sheet, empty_sheet, asked_sheet, asked_count, asked_places, Alike}
 use Rattle.scan.proofs.Running.{scan_none, scan_missed, scan_found, scan_full, scan_end}
 use Rattle.sheet.specs.Refusal.{after, after_or0, after_or_kept}
-use Rattle.sheet.specs.declared.refusal.Checked.{Checked}
-use Rattle.sheet.specs.declared.refusal.Checked.TheVariants.{Passed, Refused as Held}
+use Rattle.sheet.specs.Refusal.{Checked}
 
 module _ (x y : List ℕ) (same : length x ≡ length y) where
   -- ---- the same run
@@ -68,10 +68,10 @@ same_sheet a b e =
         let t = scan_from (length a.region) b.region a.hints a.room a.start 0 in
         (after empty_sheet c (run_sheet (length a.region) a.base (length a.hints) (asked_run a)) ≡ after empty_sheet c (run_sheet (length a.region) a.base (length a.hints) t))
         × (after_or0 c (length (finished_places a.region (asked_run a))) ≡ after_or0 c (length (finished_places b.region t)))
-    go Passed h =
+    go (Ok tt) h =
         let r = run_same a.region b.region e.length_same (length a.region) a.hints a.room a.start 0 h in
         (rw r, rw (r, finished_same a.region b.region e.length_same (asked_run a) h))
-    go (Held r) h = (refl, refl)
+    go (Err r) h = (refl, refl)
 
 -- ---- the count
 

@@ -6,10 +6,8 @@ use Rattle.scan.proofs.Answers.{scan_fixed}
 use Rattle.scan.specs.Scan.{scan_outcome}
 use Rattle.sheet.proofs.Filling.{rows_fixed}
 use Rattle.sheet.specs.Hits.{row_outcome}
-use Rattle.scan.proofs.schema_sig.Scanned.number.Reads as scanned-number
-use Rattle.scan.proofs.schema_sig.Scanned.place.Reads as scanned-place
-use Rattle.scan.proofs.schema_sig.Scanned.read.Reads as scanned-read
-use Rattle.scan.proofs.schema_sig.Scanned.written.Reads as scanned-written
+use Rattle.scan.proofs.schema_sig.ScannedAnswer.number.Reads as scanned-number
+use Rattle.scan.proofs.schema_sig.ScannedAnswer.written.Reads as scanned-written
 use Rattle.scan.proofs.schema_sig.scan_region.Reads as scan-region
 use Rattle.scan.proofs.schema_sig.try_parse_record.Reads as try-parse-record
 
@@ -26,9 +24,3 @@ scanned_number_fixed k a x y s t p q = p ∙ sym q
 
 pub scanned_written_fixed : Fixes scanned-written.Post
 scanned_written_fixed k a x y s t p q = p ∙ sym q
-
-pub scanned_place_fixed : Fixes scanned-place.Post
-scanned_place_fixed k a x y s t p q = p ∙ sym q
-
-pub scanned_read_fixed : Fixes scanned-read.Post
-scanned_read_fixed k a x y s t p q = p ∙ sym q

@@ -1,20 +1,20 @@
 -- The region scan (rules 4.8 to 4.11).
 -- Assumes nothing.
-use Rattle.std.specs.Prelude.{ℕ, zero, suc, ◌+◌, ◌-◌, ◌≡◌, cond, List, [], ◌∷◌, ◌++◌, length, ltb}
+use Rattle.std.specs.Prelude.{ℕ, zero, suc, ◌+◌, ◌-◌, ◌≡◌, cond, List, [], ◌∷◌, ◌++◌, length, ltb, None, Result, Ok, Err}
 use Rattle.attempt.specs.Attempt.{Found, Tried, miss, hit, attempt_at}
 use Rattle.attempt.specs.Places.{attempt_places}
 use Rattle.scan.specs.declared.schema_sig.Scanned.{Scanned}
-use Rattle.scan.specs.declared.schema_sig.Scanned.TheVariants.{Done, Full, Refused}
+use Rattle.sheet.specs.Answer.{end_number, end_written}
 use Rattle.sheet.specs.Columns.{room_of}
 use Rattle.sheet.specs.Confidence.{share}
-use Rattle.sheet.specs.Refusal.{first_held, refusal_number, after, after_or0, after_or_kept}
+use Rattle.sheet.specs.Refusal.{Checked, first_held, refusal_number, after, after_or0, after_or_kept}
 use Rattle.sheet.specs.Sheet.{overlay, rows_words, columns_words}
 use Rattle.sheet.specs.Slice.{slice_checks}
-use Rattle.sheet.specs.declared.refusal.Checked.{Checked}
+use Rattle.sheet.specs.declared.filled.Filled.TheVariants.{Done, Full}
 use Rattle.sheet.specs.declared.refusal.Refusal.TheVariants.{NoRoom}
+use Rattle.sheet.specs.declared.refusal.Refusal.{Refusal}
 use Rattle.sheet.specs.declared.row.Mode.TheVariants.{Plain}
 use Rattle.sheet.specs.declared.row.Row.{Row}
-use Rattle.sheet.specs.declared.row.RowId.TheVariants.{Absent}
 use Rattle.sheet.specs.declared.row.Source.TheVariants.{Scan}
 
 -- the attempts of a scan, one after the other: it is through; a row at an offset finds no room; an attempt at an offset fails, or finds a
@@ -44,7 +44,7 @@ row_of base columns o x =
     record {
       offset = base + o;
       consumed = x.consumed;
-      id = Absent;
+      id = None;
       source = Scan;
       confidence = share x.matched columns;
       mode = Plain;
@@ -103,9 +103,16 @@ run_number (no_room o) = refusal_number NoRoom
 run_number (missed o t) = run_number t
 run_number (found o x t) = run_number t
 
+-- all rows are written, or a row at `place` found no room
+abbrev pub done : ℕ → ℕ → ℕ → Scanned
+done rows place read = record { rows = Done rows; place = place; read = read }
+
+abbrev pub full : ℕ → ℕ → ℕ → Scanned
+full rows place read = record { rows = Full rows; place = place; read = read }
+
 abbrev pub end_of : ℕ → ℕ → ℕ → Run → Scanned
-end_of len rows read through = Done rows len read
-end_of len rows read (no_room o) = Full rows o read
+end_of len rows read through = done rows len read
+end_of len rows read (no_room o) = full rows o read
 end_of len rows read (missed o t) = end_of len rows read t
 end_of len rows read (found o x t) = end_of len rows read t
 
@@ -118,25 +125,21 @@ abbrev pub scan_checked : List ℕ → List ℕ → ℕ → Checked
 scan_checked s hints base = first_held (slice_checks (length s) hints base)
 
 -- the paper's number of an answer, with 0 for none, then rows written, place and count
-abbrev pub number_of : Scanned → ℕ
-number_of (Done rows place read) = 0
-number_of (Full rows place read) = refusal_number NoRoom
-number_of (Refused r) = refusal_number r
+abbrev pub number_of : Result Scanned Refusal → ℕ
+number_of (Ok x) = end_number x.rows
+number_of (Err r) = refusal_number r
 
-abbrev pub written_of : Scanned → ℕ
-written_of (Done rows place read) = rows
-written_of (Full rows place read) = rows
-written_of (Refused r) = 0
+abbrev pub written_of : Result Scanned Refusal → ℕ
+written_of (Ok x) = end_written x.rows
+written_of (Err r) = 0
 
-abbrev pub place_of : Scanned → ℕ
-place_of (Done rows place read) = place
-place_of (Full rows place read) = place
-place_of (Refused r) = 0
+abbrev pub place_of : Result Scanned Refusal → ℕ
+place_of (Ok x) = x.place
+place_of (Err r) = 0
 
-abbrev pub read_of : Scanned → ℕ
-read_of (Done rows place read) = read
-read_of (Full rows place read) = read
-read_of (Refused r) = 0
+abbrev pub read_of : Result Scanned Refusal → ℕ
+read_of (Ok x) = x.read
+read_of (Err r) = 0
 
 -- what it is asked: a region, hints, where the region lies, where to start, and what the lists hold
 pub record ScanAsked : Type 0 where
@@ -162,8 +165,8 @@ abbrev pub scan_run : ScanAsked → Run
 scan_run a = scan_from (length a.region) a.region a.hints (call_room a) a.start 0
 
 -- what it answers,
-unfoldable pub scan_answer : ScanAsked → Scanned
-scan_answer a = after Refused (call_checked a) (answer_of a.region (scan_run a))
+unfoldable pub scan_answer : ScanAsked → Result Scanned Refusal
+scan_answer a = after Err (call_checked a) (Ok (answer_of a.region (scan_run a)))
 
 -- the four numbers by the rules, with no answer between,
 unfoldable pub scan_number : ScanAsked → ℕ
@@ -188,11 +191,11 @@ scan_cols a = after_or_kept (call_checked a) (overlay (entries_of (scan_run a)) 
 
 -- what it comes to: its answer, and what the lists hold at exit
 pub record ScanOutcome : Type 0 where
-  pub answer : Scanned
+  pub answer : Result Scanned Refusal
   pub rows : List ℕ
   pub cols : List ℕ
 
-abbrev pub scan_outcome : Scanned → List ℕ → List ℕ → ScanOutcome
+abbrev pub scan_outcome : Result Scanned Refusal → List ℕ → List ℕ → ScanOutcome
 scan_outcome r rows cols = record { answer = r; rows = rows; cols = cols }
 
 -- what it promises

@@ -11,7 +11,7 @@ use Rattle.sheet.specs.Columns.{room_of}
 use Rattle.sheet.specs.Limits.{words_per_row, words_per_entry}
 use Rattle.sheet.specs.Refusal.{refusal_number, after, after_or0, after_or_kept}
 use Rattle.sheet.specs.Sheet.{rows_words}
-use Rattle.sheet.specs.declared.refusal.Checked.{Checked}
+use Rattle.sheet.specs.Refusal.{Checked}
 use Rattle.sheet.specs.declared.refusal.Refusal.{Refusal}
 
 -- Rule 4.14: the row words and the entry words that are written, the answer (its number, and how many rows), and the place

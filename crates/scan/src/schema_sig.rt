@@ -1,174 +1,112 @@
 // One attempt as a call, and the region scan.
-ghost use Rattle.std.specs.Prelude.{◌≡◌, ◌+◌, ◌*◌, ◌≤◌, length};
-ghost use Rattle.std.proofs.lemmas.List.Edits.{sets};
+ghost use Rattle.std.specs.Prelude.{Ok, ◌≡◌, ◌+◌, ◌≤◌, length};
 ghost use Rattle.attempt.specs.Attempt.{kinds};
 ghost use Rattle.attempt.specs.Inner.{sizes, find_types, Headed, found_at};
-ghost use Rattle.scan.specs.Inner.{Fit, RoomFor, Ran};
+ghost use Rattle.scan.specs.Inner.{Fit, RoomFor, Written, EmptyFor, SameLists, Ran};
 ghost use Rattle.scan.specs.Once.{once_hits, once_filling};
-ghost use Rattle.scan.specs.Scan.{row_of, number_of, written_of, place_of, read_of, scan_asked, scan_outcome, ScansRegion};
-ghost use Rattle.sheet.specs.Columns.{room_of};
+ghost use Rattle.scan.specs.Scan.{scan_asked, scan_outcome, ScansRegion};
+ghost use Rattle.sheet.specs.Answer.{end_number, end_written};
 ghost use Rattle.sheet.specs.Hits.{FillsRows, row_outcome};
 ghost use Rattle.sheet.specs.Inner.{FilledIs};
-ghost use Rattle.sheet.specs.Limits.{words_per_row, words_per_entry, most_columns, largest_region, largest_base};
-ghost use Rattle.sheet.specs.Row.{row_words};
-ghost use Rattle.sheet.specs.Sheet.{columns_words};
+ghost use Rattle.sheet.specs.Limits.{most_columns, largest_region, largest_base};
 
-use attempt::inner::{Find, Verdict, attempt, put_columns};
-use filter::inner::{High, Next, last_of, next_row};
+use attempt::inner::{Find, attempt, put_columns};
+use filter::inner::{High, last_of, next_row};
 use sheet::WORDS_PER_ENTRY;
+use sheet::answer::Answer;
 use sheet::columns::room;
 use sheet::confidence::suited_share;
 use sheet::filled::Filled;
-use sheet::inner::put_row;
-use sheet::refusal::{Checked, FULL, Refusal, number};
-use sheet::row::{Mode, Row, RowId, Source};
+use sheet::inner::{Sheet, put_row};
+use sheet::refusal::Refusal;
+use sheet::row::{Mode, Row, Source};
 use sheet::slice::check_slice;
 
-#[derive(Clone, Copy)]
-pub enum Scanned {
-    Done {
-        rows: usize,
-        place: usize,
-        read: usize,
-    },
-    // A row at `place` found no room.
-    Full {
-        rows: usize,
-        place: usize,
-        read: usize,
-    },
-    Refused(Refusal),
+// What a scan comes to: its rows, where it ended, which is at the row that found no room or behind the region, and the header bytes that
+// were read at the offsets that it finished with.
+#[derive(Clone, Copy, Debug, PartialEq, Eq)]
+pub struct Scanned {
+    pub rows: Filled,
+    pub place: usize,
+    pub read: usize,
 }
 
-impl Scanned {
-    pub fn number(self) -> u64
-        ensures { result ≡ number_of self }
-    {
-        match self {
-            Scanned::Done { .. } => 0,
-            Scanned::Full { .. } => FULL,
-            Scanned::Refused(refusal) => number(refusal),
-        }
+impl Answer for Scanned {
+    ghost number_of = { λ x. end_number x.rows };
+
+    ghost written_of = { λ x. end_written x.rows };
+
+    fn number(self) -> u64 {
+        self.rows.number()
     }
 
-    pub fn written(self) -> usize
-        ensures { result ≡ written_of self }
-    {
-        match self {
-            Scanned::Done { rows, .. } => rows,
-            Scanned::Full { rows, .. } => rows,
-            Scanned::Refused(_) => 0,
-        }
-    }
-
-    pub fn place(self) -> usize
-        ensures { result ≡ place_of self }
-    {
-        match self {
-            Scanned::Done { place, .. } => place,
-            Scanned::Full { place, .. } => place,
-            Scanned::Refused(_) => 0,
-        }
-    }
-
-    pub fn read(self) -> usize
-        ensures { result ≡ read_of self }
-    {
-        match self {
-            Scanned::Done { read, .. } => read,
-            Scanned::Full { read, .. } => read,
-            Scanned::Refused(_) => 0,
-        }
+    fn written(self) -> u64 {
+        self.rows.written()
     }
 }
 
-// Writes the row at o as the row n, and its entries from k on.
-fn put_found(
-    bytes: &[u8],
-    columns: usize,
-    base: u64,
-    o: usize,
-    find: Find,
-    n: usize,
-    k: usize,
-    rows: &mut [u64],
-    cols: &mut [u64],
-)
-    requires limits_kept { (columns ≤ most_columns) × (base ≤ largest_base) × (length bytes.now ≤ largest_region) }
+// Writes the row at o as the next of the sheet.
+fn put_found(bytes: &[u8], base: u64, o: usize, find: Find, sheet: &mut Sheet<'_>)
+    requires limits_kept { (sheet.old.width ≤ most_columns) × (base ≤ largest_base) × (length bytes.now ≤ largest_region) }
     requires headed { Headed bytes.now o find.head find.from }
     requires find_in_bounds { o + find.head + sizes (kinds (find_types bytes.now o find)) ≤ length bytes.now }
-    requires find_len { length (kinds (find_types bytes.now o find)) ≡ columns }
-    requires room_for { RoomFor n k columns (length rows.old) (length cols.old) }
-    ensures rows { rows.new ≡ sets rows.old (n * words_per_row)
-        (row_words (row_of base columns o (found_at bytes.now o find))) }
-    ensures cols { cols.new ≡ sets cols.old k
-        (columns_words (found_at bytes.now o find).columns) }
+    requires find_len { length (kinds (find_types bytes.now o find)) ≡ sheet.old.width }
+    requires room_for { RoomFor sheet.old }
+    ensures { Written base o (found_at bytes.now o find) sheet.old sheet.new }
 {
+    let n = sheet.n;
+    let columns = sheet.width;
     let row = Row {
         offset: base + o as u64,
         consumed: find.consumed as u64,
-        id: RowId::Absent,
+        id: None,
         source: Source::Scan,
         confidence: suited_share(find.matched, columns as u16),
         mode: Mode::Plain,
         table: 0,
         padded: find.padded,
     };
-    put_row(rows, n, row);
-    put_columns(bytes, o, find.head, find.from, 0, cols, k);
+    let k = n * (WORDS_PER_ENTRY * columns);
+    put_row(sheet.rows, n, row);
+    put_columns(bytes, o, find.head, find.from, 0, sheet.cols, k);
+    sheet.n = n + 1;
 }
 
-fn run(
-    bytes: &[u8],
-    hints: &[u8],
-    base: u64,
-    start: usize,
-    room: usize,
-    rows: &mut [u64],
-    cols: &mut [u64],
-) -> Scanned
+fn run(bytes: &[u8], hints: &[u8], base: u64, start: usize, sheet: &mut Sheet<'_>) -> Scanned
     requires fit { Fit bytes.now hints.now base }
-    requires room_value { room ≡ room_of (length rows.old) (length cols.old) (length hints.now) }
-    ensures { Ran
-        bytes.now hints.now base start room rows.old cols.old
-        (scan_outcome result rows.new cols.new) }
+    requires empty { EmptyFor (length hints.now) sheet.old }
+    ensures same_lists { SameLists sheet.old sheet.new }
+    ensures ran { Ran
+        bytes.now hints.now base start sheet.old.room sheet.old.rows.now sheet.old.cols.now
+        (scan_outcome (Ok result) sheet.new.rows.now sheet.new.cols.now) }
 {
     let last = last_of(bytes.len());
     let mut o = start;
-    let mut n: usize = 0;
     let mut read: usize = 0;
     let mut met = High { from: 0, to: 0 };
     loop {
-        match next_row(bytes, hints, o, last, met) {
-            Next::Through(r) => {
-                return Scanned::Done {
-                    rows: n,
-                    place: bytes.len(),
-                    read: read + r,
-                };
-            }
-            Next::Row {
-                at,
-                find,
-                read: r,
-                run: high,
-            } => {
-                read = read + r;
-                if n >= room {
-                    return Scanned::Full {
-                        rows: n,
-                        place: at,
-                        read,
-                    };
-                }
-                let k = n * (WORDS_PER_ENTRY * hints.len());
-                put_found(bytes, hints.len(), base, at, find, n, k, rows, cols);
-                n = n + 1;
-                read = read + find.read;
-                o = at + find.consumed;
-                met = high;
-            }
+        let next = next_row(bytes, hints, o, last, met);
+        read += next.read;
+        let Some(row) = next.row else {
+            return Scanned {
+                rows: Filled::Done(sheet.n),
+                place: bytes.len(),
+                read,
+            };
+        };
+        let at = row.at;
+        if sheet.n >= sheet.room {
+            return Scanned {
+                rows: Filled::Full(sheet.n),
+                place: at,
+                read,
+            };
         }
+        let find = row.find;
+        put_found(bytes, base, at, find, sheet);
+        read += find.read;
+        o = at + find.consumed;
+        met = row.run;
     }
 }
 
@@ -179,46 +117,44 @@ pub fn scan_region(
     start: usize,
     rows: &mut [u64],
     cols: &mut [u64],
-) -> Scanned
+) -> Result<Scanned, Refusal>
     ensures { ScansRegion
         (scan_asked region.now hints.now base start rows.old cols.old)
         (scan_outcome result rows.new cols.new) }
 {
-    match check_slice(region.len(), hints, base) {
-        Checked::Refused(refusal) => Scanned::Refused(refusal),
-        Checked::Passed => {
-            let room = room(rows.len(), cols.len(), hints.len());
-            run(region, hints, base, start, room, rows, cols)
-        }
-    }
+    check_slice(region.len(), hints, base)?;
+    let width = hints.len();
+    let room = room(rows.len(), cols.len(), width);
+    let mut sheet = Sheet {
+        rows,
+        cols,
+        width,
+        room,
+        n: 0,
+    };
+    Ok(run(region, hints, base, start, &mut sheet))
 }
 
-// One attempt at o; its row, if there is one, is the first of both lists.
-fn once(
-    bytes: &[u8],
-    hints: &[u8],
-    base: u64,
-    o: usize,
-    room: usize,
-    rows: &mut [u64],
-    cols: &mut [u64],
-) -> Filled
+// One attempt at o; its row, if there is one, is the first of the sheet. What calls it and what calls `run` repeat the checks and the
+// sheet: of a sheet that a function makes of two lent lists a proof knows only how long they are.
+fn once(bytes: &[u8], hints: &[u8], base: u64, o: usize, sheet: &mut Sheet<'_>) -> Filled
     requires fit { Fit bytes.now hints.now base }
-    requires room_value { room ≡ room_of (length rows.old) (length cols.old) (length hints.now) }
-    ensures { FilledIs
-        (once_hits bytes.now hints.now base o) (length hints.now) rows.old
-        cols.old (row_outcome result rows.new cols.new) }
+    requires empty { EmptyFor (length hints.now) sheet.old }
+    ensures same_lists { SameLists sheet.old sheet.new }
+    ensures filled { FilledIs
+        (once_hits bytes.now hints.now base o) (length hints.now) sheet.old.rows.now
+        sheet.old.cols.now (row_outcome (Ok result) sheet.new.rows.now sheet.new.cols.now) }
 {
     if o > bytes.len() {
         return Filled::Done(0);
     }
-    let Verdict::Hit(find) = attempt(bytes, hints, o) else {
+    let Ok(find) = attempt(bytes, hints, o) else {
         return Filled::Done(0);
     };
-    if room == 0 {
+    if sheet.room == 0 {
         return Filled::Full(0);
     }
-    put_found(bytes, hints.len(), base, o, find, 0, 0, rows, cols);
+    put_found(bytes, base, o, find, sheet);
     Filled::Done(1)
 }
 
@@ -229,16 +165,20 @@ pub fn try_parse_record(
     offset: usize,
     rows: &mut [u64],
     cols: &mut [u64],
-) -> Filled
+) -> Result<Filled, Refusal>
     ensures { FillsRows
         (once_filling region.now hints.now base offset rows.old cols.old)
         (row_outcome result rows.new cols.new) }
 {
-    match check_slice(region.len(), hints, base) {
-        Checked::Refused(refusal) => Filled::Refused(refusal),
-        Checked::Passed => {
-            let room = room(rows.len(), cols.len(), hints.len());
-            once(region, hints, base, offset, room, rows, cols)
-        }
-    }
+    check_slice(region.len(), hints, base)?;
+    let width = hints.len();
+    let room = room(rows.len(), cols.len(), width);
+    let mut sheet = Sheet {
+        rows,
+        cols,
+        width,
+        room,
+        n: 0,
+    };
+    Ok(once(region, hints, base, offset, &mut sheet))
 }

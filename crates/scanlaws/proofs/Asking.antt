@@ -1,6 +1,7 @@
 -- Resuming adds up (rule 4.16), of what a scan is asked: its sheet, its count and its values are those of two that go one behind the other, also
 -- where a check refuses; so are those of any number of them.
 -- Assumes nothing.
+use Rattle.std.specs.Prelude.{Err, Ok}
 use Prim.Native.Nat.{ℕ, ◌+◌, ◌≤◌}
 use mathlib.Core.Path.{◌≡◌, refl, sym, ap, ◌∙◌}
 use mathlib.Core.List.{List, [], ◌∷◌, ◌++◌}
@@ -12,8 +13,7 @@ use Rattle.scanlaws.proofs.Resuming.{resumes}
 use Rattle.scanlaws.proofs.Room.{more_room, any_room}
 use Rattle.scanlaws.specs.Joined.{joined, joined_sheet, with_room, asked_from, asked_next, InTwo, AnsweredAlike, Settled, all_rooms, all_sheets, all_counts}
 use Rattle.sheet.specs.Refusal.{after, after_or0}
-use Rattle.sheet.specs.declared.refusal.Checked.{Checked}
-use Rattle.sheet.specs.declared.refusal.Checked.TheVariants.{Passed, Refused as Held}
+use Rattle.sheet.specs.Refusal.{Checked}
 use Rattle.sheet.specs.declared.refusal.Refusal.{Refusal}
 
 module _ (q : Asked) (a b : ℕ) where
@@ -31,9 +31,9 @@ module _ (q : Asked) (a b : ℕ) where
       → ((r : Refusal) → refused r ≡ join (refused r) (refused r)) → ((t u : Run) → of (joined t u) ≡ join (of t) (of u))
       → (c : Checked) → let second = asked_run (asked_from q (after empty_sheet c (sheet first)).place b) in
       after refused c (of whole) ≡ join (after refused c (of first)) (after refused c (of second))
-  checked refused of join twice over Passed =
+  checked refused of join twice over (Ok tt) =
       ap of (resumes q.region q.hints a b q.start) ∙ over first (asked_run (asked_from q (run_place (length q.region) first) b))
-  checked refused of join twice over (Held r) = twice r
+  checked refused of join twice over (Err r) = twice r
 
   -- THE LAWS
   pub sheets_join : asked_sheet (with_room q (a + b)) ≡ joined_sheet (asked_sheet (with_room q a)) (asked_sheet (asked_next (with_room q a) b))
@@ -59,8 +59,8 @@ module _ (q : Asked) (a b : ℕ) where
       go : (c : Checked) → asked_checked q ≡ c →
           (after empty_sheet c (sheet whole) ≡ after empty_sheet c (sheet first))
           × (after_or0 c (length (finished_places q.region whole)) ≡ after_or0 c (length (finished_places q.region first)))
-      go Passed e = rw (more_room q.region q.hints a b q.start (h e)) (refl, refl)
-      go (Held r) e = (refl, refl)
+      go (Ok tt) e = rw (more_room q.region q.hints a b q.start (h e)) (refl, refl)
+      go (Err r) e = (refl, refl)
 
 -- THE LAW: room for as many rows as there are bytes is enough
 pub enough_room : (q : Asked) (room : ℕ) → length q.region ≤ room → AnsweredAlike (with_room q room) (with_room q (length q.region))

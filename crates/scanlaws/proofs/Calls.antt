@@ -1,5 +1,6 @@
 -- The laws of the public call `scan_region`, by its postcondition, whatever the lists held and however long they are.
 -- Assumes nothing.
+use Rattle.std.specs.Prelude.{Ok}
 use Prim.Native.Nat.{◌+◌}
 use mathlib.Core.Path.{◌≡◌}
 use contract.Lifetimes.{Lfts}
@@ -14,7 +15,6 @@ use Rattle.scanlaws.proofs.Asking.{as_left}
 use Rattle.scanlaws.proofs.Leaving.{leaves_first, leaves_all}
 use Rattle.scanlaws.specs.Joined.{joined_sheet, InTwo}
 use Rattle.scanlaws.specs.Listed.{LeavesFirst, LeavesAll}
-use Rattle.sheet.specs.declared.refusal.Checked.TheVariants.{Passed}
 
 module _ (k : Lfts 4) (a b c : Dens k kinds.ps) (x y z : (res_t kinds.r k).Denot) (s t u : AtExit (ended_of 4 kinds.ps kinds.r) k) where
   -- THE LAW (rule 4.16): one call leaves the sheets of two one behind the other, the second from the place that the first returned, and counts
@@ -30,5 +30,5 @@ module _ (k : Lfts 4) (a : Dens k kinds.ps) (x : (res_t kinds.r k).Denot) (s : A
   call_leaves_all z p = leaves_all (question k a) first (sheet_is k a x s p).0 z
 
   -- and one that no check refuses as many rows of it as there is room for
-  pub call_leaves_first : asked_checked (question k a) ≡ Passed → scan-region.Post k a x s → LeavesFirst (question k a) (sheet k a x s)
+  pub call_leaves_first : asked_checked (question k a) ≡ (Ok tt) → scan-region.Post k a x s → LeavesFirst (question k a) (sheet k a x s)
   call_leaves_first c p = leaves_first (question k a) first (sheet_is k a x s p).0 c

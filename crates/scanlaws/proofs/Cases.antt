@@ -1,6 +1,7 @@
 -- Resuming adds up (rule 4.16), case by case: room for none first, behind, or both times; a first call that was done; a start behind the last
 -- offset; a refusal; three calls.
 -- Assumes nothing.
+use Rattle.std.specs.Prelude.{Err, Ok}
 use Prim.Native.Nat.{ℕ, zero, suc, ◌+◌, ◌-◌, ◌≤◌, ◌<◌}
 use mathlib.Core.Path.{◌≡◌, refl, sym, ap, ◌∙◌}
 use mathlib.Core.List.{List, [], ◌++◌, append-nil, append_assoc}
@@ -17,8 +18,7 @@ use Rattle.scanlaws.proofs.Asking.{sheets_join, counts_add, settled_same}
 use Rattle.scanlaws.proofs.Resuming.{run_end}
 use Rattle.scanlaws.specs.Joined.{joined_sheet, with_room, asked_from, asked_next, nothing_more}
 use Rattle.sheet.specs.Refusal.{after}
-use Rattle.sheet.specs.declared.refusal.Checked.{Checked}
-use Rattle.sheet.specs.declared.refusal.Checked.TheVariants.{Passed, Refused as Held}
+use Rattle.sheet.specs.Refusal.{Checked}
 use Rattle.sheet.specs.declared.refusal.Refusal.{Refusal}
 
 -- a run with room for none has no rows to come before others
@@ -40,8 +40,8 @@ unfolding asked_sheet
 none_asked q y = go (asked_checked q)
   where
     go : (c : Checked) → joined_sheet (after empty_sheet c (run_sheet (length q.region) q.base (length q.hints) (asked_run (with_room q 0)))) y ≡ y
-    go Passed = none_before q.region q.hints q.base (length q.region) q.start y
-    go (Held r) = rw (zero-add y.written)
+    go (Ok tt) = none_before q.region q.hints q.base (length q.region) q.start y
+    go (Err r) = rw (zero-add y.written)
 
 -- a sheet behind another that makes no other of it
 nothing_behind : (xs ys : List ℕ) → xs ≡ xs ++ ys → ys ≡ []
@@ -90,13 +90,13 @@ module _ (q : Asked) where
       (no_sheet_behind (asked_sheet (with_room q a)) (asked_sheet (asked_next (with_room q a) b)) (sym same.0 ∙ sheets_join q a b), omega (arith, same.1, counts_add q a b))
 
   -- a start behind the last offset: nothing is read, and the place is the region's end
-  pub start_behind : length q.region - 2 ≤ q.start → asked_checked q ≡ Passed
+  pub start_behind : length q.region - 2 ≤ q.start → asked_checked q ≡ (Ok tt)
       → (asked_sheet q ≡ record { rows = []; entries = []; number = 0; written = 0; place = length q.region }) × (asked_count q ≡ 0)
   unfolding asked_sheet asked_count
   start_behind h p = rw (p, run_end q.region q.hints q.room q.start h) (refl, refl)
 
   -- a refusal: the same, wherever it starts and with any room
-  pub refused_each : (r : Refusal) → asked_checked q ≡ Held r → (start room : ℕ)
+  pub refused_each : (r : Refusal) → asked_checked q ≡ Err r → (start room : ℕ)
       → (asked_sheet (asked_from q start room) ≡ empty_sheet r) × (asked_count (asked_from q start room) ≡ 0)
   unfolding asked_sheet asked_count
   refused_each r e start room = rw e (refl, refl)

@@ -1,5 +1,6 @@
 -- What a scan from 0 leaves (rule 4.17), of what it is asked: the sheet of the one list of its region, as many rows of it as there is room for.
 -- Assumes nothing.
+use Rattle.std.specs.Prelude.{Err, Ok}
 use Prim.Native.Nat.{◌<◌}
 use mathlib.Core.Path.{◌≡◌, refl, sym, ap, ◌∙◌}
 use mathlib.Core.List.{List, [], ◌∷◌}
@@ -15,8 +16,7 @@ use Rattle.scanlaws.specs.Listed.{number_before, list_sheet, LeavesAll, LeavesFi
 use Rattle.scanlaws.specs.Only.{Placed, Only}
 use Rattle.sheet.proofs.Laws.{number_range, slice_fits}
 use Rattle.sheet.specs.Refusal.{refusal_number, after}
-use Rattle.sheet.specs.declared.refusal.Checked.{Checked}
-use Rattle.sheet.specs.declared.refusal.Checked.TheVariants.{Passed, Refused as Held}
+use Rattle.sheet.specs.Refusal.{Checked}
 use Rattle.sheet.specs.declared.refusal.Refusal.TheVariants.{NoRoom}
 
 -- where a row found no room, it is refused with 9
@@ -25,17 +25,17 @@ some_left [] h = absurd (omega arith)
 some_left (p ∷ ps) h = refl
 
 -- a scan that answers 0 was refused by no check
-done_passed : (q : Asked) → (asked_sheet q).number ≡ 0 → asked_checked q ≡ Passed
+done_passed : (q : Asked) → (asked_sheet q).number ≡ 0 → asked_checked q ≡ (Ok tt)
 unfolding asked_sheet
 done_passed q = go (asked_checked q)
   where
-    go : (c : Checked) → (after empty_sheet c (run_sheet (length q.region) q.base (length q.hints) (asked_run q))).number ≡ 0 → c ≡ Passed
-    go Passed z = refl
-    go (Held r) z = absurd (omega (arith, z, number_range r))
+    go : (c : Checked) → (after empty_sheet c (run_sheet (length q.region) q.base (length q.hints) (asked_run q))).number ≡ 0 → c ≡ (Ok tt)
+    go (Ok tt) z = refl
+    go (Err r) z = absurd (omega (arith, z, number_range r))
 
 module _ (q : Asked) (first : q.start ≡ 0) where
   -- THE LAW: of any list that has the properties
-  pub sheet_listed : asked_checked q ≡ Passed → (ps : List Placed) → Only q.region q.hints ps → asked_sheet q ≡ list_sheet q (take q.room ps) (drop q.room ps)
+  pub sheet_listed : asked_checked q ≡ (Ok tt) → (ps : List Placed) → Only q.region q.hints ps → asked_sheet q ≡ list_sheet q (take q.room ps) (drop q.room ps)
   unfolding asked_sheet
   sheet_listed passed ps o =
       let t = run q.region q.hints q.room 0 in
@@ -45,7 +45,7 @@ module _ (q : Asked) (first : q.start ≡ 0) where
       rw (passed, is, rows.0, rows.1, rows.2, l.0, l.1, l.2) refl
 
   -- THE LAWS, of a sheet that a scan leaves: with any room
-  pub leaves_first : {x : Sheet} → x ≡ asked_sheet q → asked_checked q ≡ Passed → LeavesFirst q x
+  pub leaves_first : {x : Sheet} → x ≡ asked_sheet q → asked_checked q ≡ (Ok tt) → LeavesFirst q x
   leaves_first e passed =
       let only = the_only q.region q.hints (slice_fits (length q.region) q.hints q.base passed).few in
       let ps = only.list in

@@ -1,5 +1,6 @@
 -- A region of zeros has no rows (rule 4.18): a byte 0 is a header length of 0, so every attempt fails, and the empty list is the only one.
 -- Assumes nothing.
+use Rattle.std.specs.Prelude.{Some}
 use Prim.Native.Nat.{ℕ, ◌+◌, ◌-◌, ◌<◌}
 use mathlib.Core.Path.{◌≡◌}
 use mathlib.Core.Bool.{false}
@@ -12,7 +13,6 @@ use Rattle.attempt.specs.Attempt.{miss, attempt_at}
 use Rattle.record.proofs.Laws.{varint_low}
 use Rattle.record.specs.Varint.{varint_at}
 use Rattle.record.specs.declared.varint.Cursor.{Cursor}
-use Rattle.record.specs.declared.varint.Varint.TheVariants.{Value}
 use Rattle.scan.specs.Scan.{run_number, run_place}
 use Rattle.scanlaws.proofs.Resuming.{run}
 use Rattle.scanlaws.proofs.ScanList.{only_list}
@@ -27,7 +27,7 @@ module _ (n : ℕ) (hints : List ℕ) where
   fails o lt =
       let z : get_or s o 0 ≡ 0 = get_or-replicate n o 0 0 (omega (arith, length-replicate {A = ℕ} n 0)) in
       let behind : Cursor = record { at = o + 1; padded = false } in
-      let read : varint_at s o ≡ Value 0 behind = rw z at (varint_low s o (omega arith) (omega arith)) in
+      let read : varint_at s o ≡ Some (0, behind) = rw z at (varint_low s o (omega arith) (omega arith)) in
       (attempt_bad s hints o 0 behind read (fits_not (length s) o 0 (λ p q r. omega arith))).misses
 
   none_only : Only s hints []

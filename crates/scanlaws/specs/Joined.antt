@@ -1,9 +1,8 @@
 -- Scans that go on where another stopped (rule 4.16).
 -- Assumes nothing.
-use Rattle.std.specs.Prelude.{ℕ, ◌+◌, ◌≡◌, List, [], ◌∷◌, ◌++◌}
+use Rattle.std.specs.Prelude.{ℕ, ◌+◌, ◌≡◌, List, [], ◌∷◌, ◌++◌, Ok}
 use Rattle.scan.specs.Scan.{Run, through, no_room, missed, found, run_number}
 use Rattle.scan.specs.Sheet.{Sheet, Asked, asked_checked, asked_run, asked_sheet, asked_count}
-use Rattle.sheet.specs.declared.refusal.Checked.TheVariants.{Passed}
 
 -- a run that goes on: the second comes where the first was through, or found no room
 abbrev pub joined : Run → Run → Run
@@ -50,7 +49,7 @@ AnsweredAlike p q = (asked_sheet p ≡ asked_sheet q) × (asked_count p ≡ aske
 
 -- no row of it finds no room: it is through, or a check refuses it
 abbrev pub Settled : Asked → Type 0
-Settled q = asked_checked q ≡ Passed → run_number (asked_run q) ≡ 0
+Settled q = asked_checked q ≡ (Ok tt) → run_number (asked_run q) ≡ 0
 
 -- a question and then as many more as there are rooms, each from the place that the one before returned: their rooms, their sheets and
 -- their counts together

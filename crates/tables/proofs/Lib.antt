@@ -1,5 +1,4 @@
 mod Callers
 mod Cases
-mod Lists
 pub mod ReadBack
 pub mod Unique

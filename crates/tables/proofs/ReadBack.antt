@@ -1,6 +1,7 @@
 -- Values read back, of the calls over tables: the entries lie in the database, and read over it as the values of the tables' rows, in groups as wide as
 -- the widest table. Said once, whatever the way of carving, and by that of each public call.
 -- Assumes nothing.
+use Rattle.std.specs.Prelude.{Ok}
 use Prim.Native.Nat.{ℕ, suc, ◌*◌, ◌/◌, ◌≤◌, ◌<◌, min}
 use mathlib.Core.Path.{◌≡◌, refl, sym, ap, ◌∙◌}
 use mathlib.Core.Bool.{Bool, true, false, cond}
@@ -25,7 +26,6 @@ use Rattle.sheet.proofs.Laws.{none_holds, filled_numbers}
 use Rattle.sheet.proofs.ReadBack.{ReadBack, AllFit, all_fit, fit_append, rows_read}
 use Rattle.sheet.specs.Hits.{Hit, RowFilling, row_room, rows_answer, rows_number, rows_written, rows_left, entries_left, row_outcome, FillsRows}
 use Rattle.sheet.specs.Refusal.{after_or0}
-use Rattle.sheet.specs.declared.refusal.Checked.TheVariants.{Passed}
 use Rattle.tables.specs.Calls.{Asked, asked, table_checks_by, tabled_checked, tabled_carver, tabled_hits, tabled_walking, tabled_filling, tabled_cols, tabled_written, OnTables, TablesPromises}
 use Rattle.tables.specs.Values.{values_from, tables_values, carved_values}
 use Rattle.tables.proofs.freeblocks.recover_freeblocks.Kinds as freeblocks-kinds
@@ -68,7 +68,7 @@ module _ (how : Carving) (db : List ℕ) (size width : ℕ) (sized : 0 < size) (
         later false r = r
 
 -- THE LAW: the rows of tables that have passed the checks, over the database
-pub tables_read : (a : Asked) → tabled_checked a ≡ Passed
+pub tables_read : (a : Asked) → tabled_checked a ≡ (Ok tt)
     → AllFit a.db (widest a.counts) (tabled_hits a) (tables_values a.how a.db a.size a.roots a.counts a.hints (length a.stack))
 unfolding tables_values
 tables_read a e =

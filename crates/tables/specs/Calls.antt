@@ -1,13 +1,14 @@
 -- The calls that carve the leaves of tables, by the way in which one page is carved (rules 9.14, 10.5 and 11.8).
 -- Assumes nothing.
-use Rattle.std.specs.Prelude.{ℕ, ◌≡◌, Bool, List, ◌∷◌, length}
+use Rattle.std.specs.Prelude.{ℕ, ◌≡◌, Bool, List, ◌∷◌, length, Result}
 use Rattle.carving.specs.Calls.{too_wide, leaf_hits}
 use Rattle.carving.specs.declared.inner.Carving.{Carving}
 use Rattle.page.specs.Page.{whole_pages}
 use Rattle.sheet.specs.Columns.{room_of}
 use Rattle.sheet.specs.Hits.{Hit, RowFilling, rows_left, entries_left}
 use Rattle.sheet.specs.Refusal.{Check, first_held}
-use Rattle.sheet.specs.declared.refusal.Checked.{Checked}
+use Rattle.sheet.specs.Refusal.{Checked}
+use Rattle.sheet.specs.declared.refusal.Refusal.{Refusal}
 use Rattle.walk.specs.Carve.{Carver, widest, table_checks, tables_hits, tables_overflow}
 use Rattle.walk.specs.Collect.{Walking, walking_answer, walking_number, walking_written, walking_things, walking_cleared}
 use Rattle.walk.specs.Collect.{walked_number, walked_written}
@@ -72,7 +73,7 @@ tabled_walking a =
       room = room_of (length a.rows) (length a.cols) (widest a.counts);
     }
 
-unfoldable pub tabled_answer : Asked → Walked
+unfoldable pub tabled_answer : Asked → Result Walked Refusal
 tabled_answer a = walking_answer (tabled_walking a)
 
 unfoldable pub tabled_number : Asked → ℕ
@@ -104,13 +105,13 @@ tabled_cleared a old = walking_cleared (tabled_walking a) old
 
 -- what a call leaves: its answer, and what the lists hold at exit
 pub record OnTables : Type 0 where
-  pub answer : Walked
+  pub answer : Result Walked Refusal
   pub flags : List ℕ
   pub stack : List ℕ
   pub rows : List ℕ
   pub cols : List ℕ
 
-abbrev pub on_tables : Walked → List ℕ → List ℕ → List ℕ → List ℕ → OnTables
+abbrev pub on_tables : Result Walked Refusal → List ℕ → List ℕ → List ℕ → List ℕ → OnTables
 on_tables r flags stack rows cols = record { answer = r; flags = flags; stack = stack; rows = rows; cols = cols }
 
 -- what it promises

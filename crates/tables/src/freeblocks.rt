@@ -4,6 +4,7 @@ ghost use Rattle.tables.specs.Calls.{TablesPromises, asked, on_tables};
 
 use crate::tables::carve_tables;
 use carving::inner::Carving;
+use sheet::refusal::Refusal;
 use walk::walk::Walked;
 
 pub fn recover_freeblocks(
@@ -16,7 +17,7 @@ pub fn recover_freeblocks(
     stack: &mut [u64],
     rows: &mut [u64],
     cols: &mut [u64],
-) -> Walked
+) -> Result<Walked, Refusal>
     ensures { TablesPromises (asked Freeblocks db.now size roots.now counts.now hints.now flags.old stack.old rows.old cols.old)
         (on_tables result flags.new stack.new rows.new cols.new) }
 {

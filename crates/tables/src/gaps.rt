@@ -5,6 +5,7 @@ ghost use Rattle.tables.specs.Calls.{TablesPromises, asked, on_tables};
 use crate::tables::carve_tables;
 use carving::inner::Carving;
 use rebuild::rebuilding::Rebuilding;
+use sheet::refusal::Refusal;
 use walk::walk::Walked;
 
 pub fn scan_page_gaps(
@@ -18,7 +19,7 @@ pub fn scan_page_gaps(
     stack: &mut [u64],
     rows: &mut [u64],
     cols: &mut [u64],
-) -> Walked
+) -> Result<Walked, Refusal>
     ensures { TablesPromises
         (asked (Gaps rebuilding) db.now size roots.now counts.now hints.now
         flags.old stack.old rows.old cols.old)

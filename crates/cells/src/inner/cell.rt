@@ -1,69 +1,50 @@
 // Cells that stand whole in a payload, one behind the other.
 ghost use Rattle.std.specs.Prelude.{false, ◌+◌, ◌≤◌, ◌<◌, length};
 ghost use Rattle.cells.specs.Cells.{cell_at, cell_hits, cells_of};
-ghost use Rattle.cells.specs.Inner.{CellIs, cells_there, next_place, turn_as, GoesTo};
+ghost use Rattle.cells.specs.Inner.{CellIs, cells_there, next_place, GoesTo};
 ghost use Rattle.hit.specs.Inner.{Ready};
 ghost use Rattle.sheet.specs.Limits.{largest_region};
-ghost use Rattle.sheet.specs.Inner.{carved_as, Carves};
+ghost use Rattle.sheet.specs.Inner.{told_by, Adds};
 
-use crate::inner::turn::Turn;
-use attempt::inner::{Find, Verdict, attempt};
-use hit::inner::{Lent, Spot, add_found, intra_page};
-use record::varint::{Cursor, Varint};
+use attempt::inner::{Find, attempt};
+use hit::inner::{Spot, add_found, intra_page};
+use record::varint::Cursor;
 use sheet::confidence::suited_share;
-use sheet::inner::Carved;
-use sheet::row::RowId;
+use sheet::inner::Sheet;
 
 // A cell whose record is a row: where the record starts and ends, its row id, and the row.
-#[derive(Clone, Copy)]
-pub enum Cell {
-    At {
-        start: usize,
-        end: usize,
-        id: u64,
-        find: Find,
-    },
-    Nothing,
+#[derive(Clone, Copy, Debug)]
+pub struct Cell {
+    pub start: usize,
+    pub end: usize,
+    pub id: u64,
+    pub find: Find,
 }
 
 // The length of a record, its row id, and the record.
-fn cell_at(payload: &[u8], hints: &[u8], pos: usize) -> Cell
+fn cell_at(payload: &[u8], hints: &[u8], pos: usize) -> Option<Cell>
     requires { length payload.now ≤ largest_region }
     ensures { CellIs payload.now hints.now pos result }
 {
-    let c = Cursor {
-        at: pos,
-        padded: false,
-    };
-    let Varint::Value(len, next) = c.often_short(payload) else {
-        return Cell::Nothing;
-    };
-    if len == 0 {
-        return Cell::Nothing;
-    }
-    let at = next.at;
+    let (len, next) = Cursor::new(pos).often_short(payload)?;
     // Most numbers that are no lengths are too large even with no row id.
-    if len > (payload.len() - at) as u64 {
-        return Cell::Nothing;
+    if len == 0 || len > (payload.len() - next.at) as u64 {
+        return None;
     }
-    let Varint::Value(id, behind) = next.often_short(payload) else {
-        return Cell::Nothing;
-    };
+    let (id, behind) = next.often_short(payload)?;
     let start = behind.at;
     // Compared with what is left, since the record's end may pass what a u64 holds.
     if len > (payload.len() - start) as u64 {
-        return Cell::Nothing;
+        return None;
     }
     let end = start + len as usize;
-    let Verdict::Hit(find) = attempt(&payload[start..end], hints, 0) else {
-        return Cell::Nothing;
-    };
-    Cell::At {
+    let find = attempt(&payload[start..end], hints, 0).ok()?;
+    Some(Cell {
         start,
         end,
         id,
         find,
-    }
+    })
 }
 
 // One place: the row of the cell there, if there is one, and where the next is looked for.
@@ -73,27 +54,23 @@ fn carve_place(
     pos: usize,
     spot: Spot,
     o: usize,
-    lent: Lent,
-    n: usize,
-    rows: &mut [u64],
-    cols: &mut [u64],
-) -> Turn
+    sheet: &mut Sheet<'_>,
+) -> Option<usize>
     requires pos_in_bounds { pos < length payload.now }
-    requires ready { Ready (o + length payload.now) (length hints.now) spot lent n (length rows.old) (length cols.old) }
-    ensures rows { Carves lent.width lent.room n
-        (cell_hits spot (length hints.now) o (cells_there (cell_at payload.now hints.now pos))) false
-        rows.old cols.old (turn_as result) rows.new cols.new }
+    requires ready { Ready (o + length payload.now) (length hints.now) spot sheet.old }
+    ensures rows { Adds (cell_hits spot (length hints.now) o (cells_there (cell_at payload.now hints.now pos))) false
+        sheet.old (told_by result sheet.new) sheet.new }
     ensures next { GoesTo (next_place pos (cell_at payload.now hints.now pos)) result }
 {
-    let Cell::At {
+    let Some(cell) = cell_at(payload, hints, pos) else {
+        return Some(pos + 1);
+    };
+    let Cell {
         start,
         end,
         id,
         find,
-    } = cell_at(payload, hints, pos)
-    else {
-        return Turn::On { next: pos + 1, n };
-    };
+    } = cell;
     // By its fields: passed on whole, it would be copied at each place, found or not.
     let find = Find {
         head: find.head,
@@ -105,8 +82,8 @@ fn carve_place(
     };
     let columns = hints.len();
     let confidence = suited_share(find.matched, columns as u16);
-    let origin = intra_page(RowId::Present(id), confidence);
-    let Carved::On(m) = add_found(
+    let origin = intra_page(Some(id), confidence);
+    add_found(
         &payload[start..end],
         0,
         find,
@@ -114,14 +91,9 @@ fn carve_place(
         origin,
         columns,
         spot,
-        lent,
-        n,
-        rows,
-        cols,
-    ) else {
-        return Turn::Full;
-    };
-    Turn::On { next: end, n: m }
+        sheet,
+    )?;
+    Some(end)
 }
 
 // The cells of a payload that stands at o in its page.
@@ -130,24 +102,15 @@ pub fn carve_cells(
     hints: &[u8],
     spot: Spot,
     o: usize,
-    lent: Lent,
-    n: usize,
-    rows: &mut [u64],
-    cols: &mut [u64],
-) -> Carved
-    requires { Ready (o + length payload.now) (length hints.now) spot lent n (length rows.old) (length cols.old) }
-    ensures { Carves lent.width lent.room n (cell_hits spot (length hints.now) o (cells_of payload.now hints.now)) false
-        rows.old cols.old (carved_as result) rows.new cols.new }
+    sheet: &mut Sheet<'_>,
+) -> Option<()>
+    requires { Ready (o + length payload.now) (length hints.now) spot sheet.old }
+    ensures { Adds (cell_hits spot (length hints.now) o (cells_of payload.now hints.now)) false sheet.old
+        (told_by result sheet.new) sheet.new }
 {
     let mut pos = 0;
-    let mut m = n;
     while pos < payload.len() {
-        let Turn::On { next, n: k } = carve_place(payload, hints, pos, spot, o, lent, m, rows, cols)
-        else {
-            return Carved::Full;
-        };
-        pos = next;
-        m = k;
+        pos = carve_place(payload, hints, pos, spot, o, sheet)?;
     }
-    Carved::On(m)
+    Some(())
 }

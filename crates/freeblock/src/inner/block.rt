@@ -4,42 +4,33 @@ ghost use Rattle.freeblock.specs.Freeblock.{most_starts, first_start, first_hits
 ghost use Rattle.freeblock.specs.Inner.{Starts};
 ghost use Rattle.hit.specs.Inner.{Ready};
 ghost use Rattle.sheet.specs.Limits.{largest_region};
-ghost use Rattle.sheet.specs.Inner.{carved_as, Carves};
+ghost use Rattle.sheet.specs.Inner.{told_by, Adds};
 
-use attempt::inner::{Find, Verdict, attempt};
-use hit::inner::{Lent, Origin, Spot, add_found};
+use attempt::inner::{Find, attempt};
+use hit::inner::{Origin, Spot, add_found};
 use sheet::confidence::{freed, suited_share};
-use sheet::inner::Carved;
-use sheet::row::{RowId, Source};
-
-// The first start at which there is a row, and the row.
-#[derive(Clone, Copy)]
-pub enum Start {
-    At { v: usize, find: Find },
-    Nothing,
-}
+use sheet::inner::Sheet;
+use sheet::row::Source;
 
 const MOST_STARTS: usize = 20;
 
 fn starts_of(len: usize) -> usize
     ensures { result ≡ min most_starts len }
 {
-    if len < MOST_STARTS { len } else { MOST_STARTS }
+    len.min(MOST_STARTS)
 }
 
-fn first_start(payload: &[u8], hints: &[u8]) -> Start
+// The first start at which there is a row, and the row.
+fn first_start(payload: &[u8], hints: &[u8]) -> Option<(usize, Find)>
     requires { length payload.now ≤ largest_region }
     ensures { Starts payload.now hints.now result }
 {
-    let starts = starts_of(payload.len());
-    let mut v = 0;
-    while v < starts {
-        if let Verdict::Hit(find) = attempt(&payload[v..], hints, 0) {
-            return Start::At { v, find };
+    for v in 0..starts_of(payload.len()) {
+        if let Ok(find) = attempt(&payload[v..], hints, 0) {
+            return Some((v, find));
         }
-        v = v + 1;
     }
-    Start::Nothing
+    None
 }
 
 // Carves a payload that is at o in its page.
@@ -48,17 +39,14 @@ fn carve_payload(
     o: usize,
     hints: &[u8],
     spot: Spot,
-    lent: Lent,
-    n: usize,
-    rows: &mut [u64],
-    cols: &mut [u64],
-) -> Carved
-    requires { Ready (o + length payload.now) (length hints.now) spot lent n (length rows.old) (length cols.old) }
-    ensures { Carves lent.width lent.room n (first_hits spot (length hints.now) o (first_start payload.now hints.now)) false
-        rows.old cols.old (carved_as result) rows.new cols.new }
+    sheet: &mut Sheet<'_>,
+) -> Option<()>
+    requires { Ready (o + length payload.now) (length hints.now) spot sheet.old }
+    ensures { Adds (first_hits spot (length hints.now) o (first_start payload.now hints.now)) false sheet.old
+        (told_by result sheet.new) sheet.new }
 {
-    let Start::At { v, find } = first_start(payload, hints) else {
-        return Carved::On(n);
+    let Some((v, find)) = first_start(payload, hints) else {
+        return Some(());
     };
     // By its fields: passed on whole, it would be copied at each start, found or not.
     let find = Find {
@@ -71,23 +59,11 @@ fn carve_payload(
     };
     let columns = hints.len();
     let origin = Origin {
-        id: RowId::Absent,
+        id: None,
         source: Source::Freelist,
         confidence: freed(suited_share(find.matched, columns as u16)),
     };
-    add_found(
-        &payload[v..],
-        0,
-        find,
-        o + v,
-        origin,
-        columns,
-        spot,
-        lent,
-        n,
-        rows,
-        cols,
-    )
+    add_found(&payload[v..], 0, find, o + v, origin, columns, spot, sheet)
 }
 
 // Carves the block of so many bytes at a place of a page.
@@ -97,17 +73,14 @@ pub fn carve_block(
     size: usize,
     hints: &[u8],
     spot: Spot,
-    lent: Lent,
-    n: usize,
-    rows: &mut [u64],
-    cols: &mut [u64],
-) -> Carved
+    sheet: &mut Sheet<'_>,
+) -> Option<()>
     requires le_size { (4 ≤ size) × (at + size ≤ length page.now) }
-    requires ready { Ready (length page.now) (length hints.now) spot lent n (length rows.old) (length cols.old) }
-    ensures { Carves lent.width lent.room n (block_hits page.now hints.now spot (record { at = at; size = size })) false
-        rows.old cols.old (carved_as result) rows.new cols.new }
+    requires ready { Ready (length page.now) (length hints.now) spot sheet.old }
+    ensures { Adds (block_hits page.now hints.now spot (record { at = at; size = size })) false sheet.old
+        (told_by result sheet.new) sheet.new }
 {
     let from = at + 4;
     let end = at + size;
-    carve_payload(&page[from..end], from, hints, spot, lent, n, rows, cols)
+    carve_payload(&page[from..end], from, hints, spot, sheet)
 }

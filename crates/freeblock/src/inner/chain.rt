@@ -6,48 +6,35 @@ ghost use Rattle.sheet.specs.Limits.{largest_region};
 
 use page::inner::{block_next, block_size, first_freeblock};
 
-#[derive(Clone, Copy)]
-pub enum Counted {
-    Ended(usize),
-    // The chain is as long as the page, so it may go round.
-    Unsure,
-}
-
 // Whether the chain ends at a place, wherever it has been.
+#[tactic(auto, unfolding(crate::specs::Freeblock::chain_ends))]
 fn chain_ends(page: &[u8], head: usize, at: usize) -> bool
     requires head_le_largest_region { head ≤ largest_region }
     requires at_bound { at < 65536 }
     ensures { result ≡ chain_ends page.now head at }
 {
     // 0 is below the header's end, too.
-    if at < head + 8 {
-        return true;
-    }
-    if at + 4 > page.len() {
+    if at < head + 8 || at + 4 > page.len() {
         return true;
     }
     let size = block_size(page, at);
-    if size < 4 {
-        return true;
-    }
-    at + size > page.len()
+    size < 4 || at + size > page.len()
 }
 
-// A chain that comes to an end has not been anywhere twice, since from there it would go round.
-fn plain_length(page: &[u8], head: usize) -> Counted
+// A chain that comes to an end has not been anywhere twice, since from there it would go round. None of one that is as long as the page,
+// so it may go round.
+fn plain_length(page: &[u8], head: usize) -> Option<usize>
     requires { head ≤ largest_region }
     ensures { CountedIs page.now head result }
 {
     let mut at = first_freeblock(page, head);
-    let mut n = 0;
-    while n < page.len() {
+    for n in 0..page.len() {
         if chain_ends(page, head, at) {
-            return Counted::Ended(n);
+            return Some(n);
         }
         at = block_next(page, at);
-        n = n + 1;
     }
-    Counted::Unsure
+    None
 }
 
 // Any chain, with a mark for each place that a block may have.
@@ -57,19 +44,14 @@ fn marked_length(page: &[u8], head: usize) -> usize
 {
     let mut marks = [0u8; 65536];
     let mut at = first_freeblock(page, head);
-    let mut n = 0;
-    while n < page.len() {
-        if chain_ends(page, head, at) {
-            return n;
-        }
-        if marks[at] != 0 {
+    for n in 0..page.len() {
+        if chain_ends(page, head, at) || marks[at] != 0 {
             return n;
         }
         marks[at] = 1;
         at = block_next(page, at);
-        n = n + 1;
     }
-    n
+    page.len()
 }
 
 // The marks cost more than most chains, so they are made only for those that do not end.
@@ -77,8 +59,8 @@ pub fn chain_length(page: &[u8], head: usize) -> usize
     requires { head ≤ largest_region }
     ensures { result ≡ length (freeblocks page.now head) }
 {
-    let Counted::Ended(n) = plain_length(page, head) else {
-        return marked_length(page, head);
-    };
-    n
+    match plain_length(page, head) {
+        Some(n) => n,
+        None => marked_length(page, head),
+    }
 }

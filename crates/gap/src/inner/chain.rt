@@ -5,26 +5,24 @@ ghost use Rattle.gap.specs.Inner.{larger};
 ghost use Rattle.hit.specs.Inner.{Ready};
 ghost use Rattle.page.specs.Page.{block_next};
 ghost use Rattle.rebuild.specs.Header.{most_by};
-ghost use Rattle.sheet.specs.Inner.{carved_as, Carves};
+ghost use Rattle.sheet.specs.Inner.{told_by, Adds};
 
 use cells::inner::carve_payload;
-use hit::inner::{Lent, Spot};
+use hit::inner::Spot;
 use page::inner::{block_next, block_size, first_freeblock};
 use rebuild::rebuilding::Rebuilding;
-use sheet::inner::Carved;
+use sheet::inner::Sheet;
 
 // No more places than this are gone to.
 const MOST_STEPS: usize = 1_024;
 
 // No block is at 0, and none whose four bytes pass the page.
+#[tactic(auto, unfolding(crate::specs::Gap::chain_ends))]
 fn chain_ends(page: &[u8], at: usize) -> bool
     requires { at < 65536 }
     ensures { result ≡ chain_ends page.now at }
 {
-    if at == 0 {
-        return true;
-    }
-    at + 4 > page.len()
+    at == 0 || at + 4 > page.len()
 }
 
 // Where the chain goes on; 0, which ends it, where the next place is not larger.
@@ -44,37 +42,21 @@ fn carve_block(
     at: usize,
     hints: &[u8],
     spot: Spot,
-    lent: Lent,
-    n: usize,
-    rows: &mut [u64],
-    cols: &mut [u64],
-) -> Carved
+    sheet: &mut Sheet<'_>,
+) -> Option<()>
     requires at_in_bounds { at + 4 ≤ length page.now }
     requires hints_len_bound { length hints.now ≤ most_by how }
-    requires ready { Ready (length page.now) (length hints.now) spot lent n (length rows.old) (length cols.old) }
-    ensures { Carves lent.width lent.room n (blocks_hits how page.now hints.now spot (block_then page.now at [])) false
-        rows.old cols.old (carved_as result) rows.new cols.new }
+    requires ready { Ready (length page.now) (length hints.now) spot sheet.old }
+    ensures { Adds (blocks_hits how page.now hints.now spot (block_then page.now at [])) false sheet.old
+        (told_by result sheet.new) sheet.new }
 {
     let size = block_size(page, at);
-    if size < 4 {
-        return Carved::On(n);
-    }
     let from = at + 4;
     let end = at + size;
-    if end > page.len() {
-        return Carved::On(n);
+    if size < 4 || end > page.len() {
+        return Some(());
     }
-    carve_payload(
-        how,
-        &page[from..end],
-        hints,
-        spot,
-        from,
-        lent,
-        n,
-        rows,
-        cols,
-    )
+    carve_payload(how, &page[from..end], hints, spot, from, sheet)
 }
 
 // Carves the blocks of a page whose b-tree header stands at `head`.
@@ -84,30 +66,21 @@ pub fn carve_blocks(
     head: usize,
     hints: &[u8],
     spot: Spot,
-    lent: Lent,
-    n: usize,
-    rows: &mut [u64],
-    cols: &mut [u64],
-) -> Carved
+    sheet: &mut Sheet<'_>,
+) -> Option<()>
     requires head_in_bounds { head + 8 ≤ length page.now }
     requires hints_len_bound { length hints.now ≤ most_by how }
-    requires ready { Ready (length page.now) (length hints.now) spot lent n (length rows.old) (length cols.old) }
-    ensures { Carves lent.width lent.room n (blocks_hits how page.now hints.now spot (chain page.now head)) false
-        rows.old cols.old (carved_as result) rows.new cols.new }
+    requires ready { Ready (length page.now) (length hints.now) spot sheet.old }
+    ensures { Adds (blocks_hits how page.now hints.now spot (chain page.now head)) false sheet.old
+        (told_by result sheet.new) sheet.new }
 {
     let mut at = first_freeblock(page, head);
-    let mut left = MOST_STEPS;
-    let mut m = n;
-    while left > 0 {
+    for _ in 0..MOST_STEPS {
         if chain_ends(page, at) {
-            return Carved::On(m);
+            break;
         }
-        let Carved::On(next) = carve_block(how, page, at, hints, spot, lent, m, rows, cols) else {
-            return Carved::Full;
-        };
-        m = next;
+        carve_block(how, page, at, hints, spot, sheet)?;
         at = next_place(page, at);
-        left = left - 1;
     }
-    Carved::On(m)
+    Some(())
 }

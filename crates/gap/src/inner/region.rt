@@ -3,14 +3,13 @@ ghost use Rattle.std.specs.Prelude.{◌≡◌, false, ◌+◌, ◌≤◌, length
 ghost use Rattle.gap.specs.Gap.{gap_from, gap_to, region_hits, gap_hits};
 ghost use Rattle.hit.specs.Inner.{Ready};
 ghost use Rattle.page.specs.Inner.{farthest};
-ghost use Rattle.sheet.specs.Inner.{carved_as, Carves};
+ghost use Rattle.sheet.specs.Inner.{told_by, Adds};
 
-use filter::inner::{High, Next, last_of, next_row};
-use hit::inner::{Lent, Spot, add_found, intra_page};
+use filter::inner::{High, last_of, next_row};
+use hit::inner::{Spot, add_found, intra_page};
 use page::inner::{cell_count, content_start};
 use sheet::confidence::suited_share;
-use sheet::inner::Carved;
-use sheet::row::RowId;
+use sheet::inner::Sheet;
 
 // What a content start of 0 stands for, since two bytes cannot say it.
 const LARGEST_PAGE: usize = 65_536;
@@ -21,35 +20,25 @@ fn carve_region(
     from: usize,
     hints: &[u8],
     spot: Spot,
-    lent: Lent,
-    n: usize,
-    rows: &mut [u64],
-    cols: &mut [u64],
-) -> Carved
-    requires { Ready (from + length bytes.now) (length hints.now) spot lent n (length rows.old) (length cols.old) }
-    ensures { Carves lent.width lent.room n (region_hits spot from bytes.now hints.now) false
-        rows.old cols.old (carved_as result) rows.new cols.new }
+    sheet: &mut Sheet<'_>,
+) -> Option<()>
+    requires { Ready (from + length bytes.now) (length hints.now) spot sheet.old }
+    ensures { Adds (region_hits spot from bytes.now hints.now) false sheet.old
+        (told_by result sheet.new) sheet.new }
 {
     let last = last_of(bytes.len());
+    let columns = hints.len();
     let mut o = 0;
-    let mut m = n;
     let mut met = High { from: 0, to: 0 };
-    loop {
-        let Next::Row { at, find, run, .. } = next_row(bytes, hints, o, last, met) else {
-            return Carved::On(m);
-        };
-        let columns = hints.len();
+    while let Some(next) = next_row(bytes, hints, o, last, met).row {
+        let find = next.find;
         let confidence = suited_share(find.matched, columns as u16);
-        let origin = intra_page(RowId::Absent, confidence);
-        let Carved::On(next) = add_found(
-            bytes, at, find, from, origin, columns, spot, lent, m, rows, cols,
-        ) else {
-            return Carved::Full;
-        };
-        m = next;
-        o = at + find.consumed;
-        met = run;
+        let origin = intra_page(None, confidence);
+        add_found(bytes, next.at, find, from, origin, columns, spot, sheet)?;
+        o = next.at + find.consumed;
+        met = next.run;
     }
+    Some(())
 }
 
 // The gap begins where the cells' pointers end.
@@ -75,23 +64,17 @@ pub fn carve_gap(
     head: usize,
     hints: &[u8],
     spot: Spot,
-    lent: Lent,
-    n: usize,
-    rows: &mut [u64],
-    cols: &mut [u64],
-) -> Carved
+    sheet: &mut Sheet<'_>,
+) -> Option<()>
     requires head_in_bounds { head + 8 ≤ length page.now }
-    requires ready { Ready (length page.now) (length hints.now) spot lent n (length rows.old) (length cols.old) }
-    ensures { Carves lent.width lent.room n (gap_hits page.now head hints.now spot) false
-        rows.old cols.old (carved_as result) rows.new cols.new }
+    requires ready { Ready (length page.now) (length hints.now) spot sheet.old }
+    ensures { Adds (gap_hits page.now head hints.now spot) false sheet.old
+        (told_by result sheet.new) sheet.new }
 {
     let from = gap_from(page, head);
     let to = gap_to(page, head);
-    if from >= to {
-        return Carved::On(n);
+    if from >= to || to > page.len() {
+        return Some(());
     }
-    if to > page.len() {
-        return Carved::On(n);
-    }
-    carve_region(&page[from..to], from, hints, spot, lent, n, rows, cols)
+    carve_region(&page[from..to], from, hints, spot, sheet)
 }

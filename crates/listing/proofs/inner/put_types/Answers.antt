@@ -1,23 +1,16 @@
 -- `listing::inner::put_types` meets its contract.
 -- Assumes nothing.
-use mathlib.Core.Path.{◌≡◌, refl, ◌∙◌}
-use native.Mathlib.Omega.{arith}
-use borrow.Author.Rules.{rules}
-use Rattle.digits.proofs.Laws.{put_none, put_more}
+use Rattle.std.proofs.Common.{arith}
+use Rattle.digits.proofs.Laws.{puts_none, puts_more}
 use Rattle.listing.proofs.Texts.{types_none, types_more}
 use Rattle.listing.proofs.inner.put_types.Goals as goal
 
 pub loop-k-init : goal.loop-k-init
-loop-k-init c = (search rules, refl, search rules, rw types_none (put_none _ _))
+loop-k-init c = record { put = rw types_none (puts_none _); near = omega arith }
+
+pub put_type-requires : goal.put_type-requires
+put_type-requires c = omega (arith, c.loop-k.invariant.put.room)
 
 pub loop-k-preserved : goal.loop-k-preserved
 loop-k-preserved c =
-    (search rules, c.put_type-to.auto.out ∙ c.loop-k.invariant.1, omega arith, rw types_more (put_more c.loop-k.invariant.3 c.put_type-to.ensures.put))
-
-pub shape_of-out : goal.shape_of-out
-shape_of-out c = c.loop-k.invariant.1
-
-pub returns : goal.returns
-returns c =
-    let e : c.loop-k.k ≡ c.args.width = omega arith in
-    record { put = rw e at c.loop-k.invariant.3; near = rw e at c.loop-k.invariant.2 }
+    record { put = rw types_more (puts_more c.loop-k.invariant.put c.put_type.ensures.put); near = omega arith }

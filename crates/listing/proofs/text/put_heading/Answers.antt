@@ -1,10 +1,9 @@
 -- `listing::text::put_heading` meets its contract.
 -- Assumes nothing.
-use borrow.Author.Rules.{rules}
-use Rattle.io.proofs.Counting.{prefix_len_of_le}
+use Rattle.digits.proofs.Laws.{puts_first}
 use Rattle.listing.specs.Text.{heading}
 use Rattle.listing.proofs.text.put_heading.Goals as goal
 
-pub returns : goal.returns
+pub returns-clause-put : goal.returns-clause-put
 unfolding heading
-returns c = record { put = c.put_bytes.ensures; prefix_len = prefix_len_of_le _ _ (search rules) }
+returns-clause-put c = puts_first c.new-text.ensures.starts c.put_bytes.ensures

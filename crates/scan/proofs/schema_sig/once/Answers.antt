@@ -1,7 +1,7 @@
 -- `scan::schema_sig::once` meets its contract: each way out is a law of `proofs/OneAttempt.antt`.
 -- Assumes nothing.
 use Prim.Native.Nat.{◌<◌}
-use mathlib.Core.Path.{sym, ◌∙◌}
+use mathlib.Core.Path.{◌≡◌, sym, ◌∙◌}
 use native.Mathlib.Nat.{zero-mul}
 use native.Mathlib.Omega.{arith}
 use Rattle.attempt.specs.Attempt.{attempt_at}
@@ -11,41 +11,38 @@ use Rattle.attempt.proofs.Laws.{attempt_beyond}
 use Rattle.scan.proofs.OneAttempt.{once_missed, once_full, once_found}
 use Rattle.sheet.proofs.Laws.{room_rows, room_cols}
 use Rattle.scan.proofs.schema_sig.once.Goals as goal
-use Rattle.scan.proofs.schema_sig.once.Goals.{In-Hit}
+use Rattle.scan.proofs.schema_sig.once.Goals.{In-Ok}
 
-pub returns-then-o-bytes : goal.returns-then-o-bytes
-returns-then-o-bytes c = once_missed _ _ _ _ _ _ (attempt_beyond _ _ _ (omega arith))
+pub returns-then-o-bytes-clause-filled : goal.returns-then-o-bytes-clause-filled
+returns-then-o-bytes-clause-filled c = once_missed _ _ _ _ _ _ (attempt_beyond _ _ _ (omega arith))
 
-pub returns-in_default : goal.returns-in_default
-returns-in_default c =
+pub returns-in_default-clause-filled : goal.returns-in_default-clause-filled
+returns-in_default-clause-filled c =
     let m = rw c.in_default.is at c.attempt.ensures in
     once_missed _ _ _ _ _ _ m.misses
 
 -- what an attempt that found a row says
-found : (c : In-Hit) →
-    HitIs c.args.bytes.now c.args.hints.now c.args.o (attempt_at c.args.bytes.now c.args.hints.now c.args.o) (attempt_places c.args.bytes.now c.args.o) c.in-Hit.find
-found c = rw c.in-Hit.is at c.attempt.ensures
+found : (c : In-Ok) →
+    HitIs c.args.bytes.now c.args.hints.now c.args.o (attempt_at c.args.bytes.now c.args.hints.now c.args.o) (attempt_places c.args.bytes.now c.args.o) c.in-Ok.find
+found c = rw c.in-Ok.is at c.attempt.ensures
 
-pub returns-then-room-eq0 : goal.returns-then-room-eq0
-returns-then-room-eq0 c =
-    once_full _ _ _ _ _ _ _ (found (goal.at.returns-then-room-eq0 c).In-Hit).hits (sym c.requires.room_value ∙ c.if-room-eq0.true)
+pub returns-then-sheet-eq0-clause-filled : goal.returns-then-sheet-eq0-clause-filled
+returns-then-sheet-eq0-clause-filled c =
+    once_full _ _ _ _ _ _ _ (found (goal.at.returns-then-sheet-eq0-clause-filled c).In-Ok).hits (sym c.requires.empty.room_is ∙ c.if-sheet-eq0.true)
 
-pub put_found-requires : goal.put_found-requires
-put_found-requires c =
-    let h = found (goal.at.put_found-requires c).In-Hit in
-    let n : 0 < c.args.room = omega (arith, c.if-room-eq0.false) in record {
-      limits_kept = (c.requires.fit.few, c.requires.fit.near, c.requires.fit.small);
-      headed = h.headed;
-      find_in_bounds = omega (arith, h.bodies, h.inside);
-      find_len = h.columns;
-      room_for = record {
-        row = room_rows _ _ _ _ (rw c.requires.room_value at n);
-        group = rw zero-mul at (room_cols _ _ _ 0 (rw c.requires.room_value at n));
-      };
+pub put_found-requires-clause-room_for : goal.put_found-requires-clause-room_for
+put_found-requires-clause-room_for c =
+    let n : 0 < c.args.sheet.now.room = omega (arith, c.if-sheet-eq0.false) in
+    let e = c.requires.empty in
+    record {
+      row = rw e.n_is (room_rows _ _ _ _ (rw e.room_is at n));
+      group = rw (e.n_is, e.width_is) (room_cols _ _ _ 0 (rw e.room_is at n));
     }
 
-pub returns : goal.returns
-returns c =
-    let h = found (goal.at.returns c).In-Hit in
-    let n : 0 < c.args.room = omega (arith, c.if-room-eq0.false) in
-    once_found _ _ _ _ _ _ _ h.hits _ _ (rw c.requires.room_value at n) c.put_found.ensures.rows c.put_found.ensures.cols
+pub returns-clause-filled : goal.returns-clause-filled
+returns-clause-filled c =
+    let h = found (goal.at.returns-clause-filled c).In-Ok in
+    let n : 0 < c.args.sheet.now.room = omega (arith, c.if-sheet-eq0.false) in
+    let e = c.requires.empty in
+    let w = c.put_found.ensures in
+    once_found _ _ _ _ _ _ _ h.hits _ _ (rw e.room_is at n) (rw (e.n_is, e.width_is) at w.rows_are) (rw (e.n_is, e.width_is, zero-mul) at w.cols_are)

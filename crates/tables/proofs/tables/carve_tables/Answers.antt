@@ -5,6 +5,7 @@ use mathlib.Core.Bool.{false}
 use borrow.Author.Tests.{ltb-false}
 use lib.Dec.{ltb}
 use lib.ListN.{length}
+use Rattle.std.proofs.lemmas.Result.{err_from_is_err_and}
 use Rattle.carving.proofs.Callers.{wide_refuses, narrow_on}
 use Rattle.carving.specs.Calls.{width_by}
 use Rattle.sheet.specs.Refusal.{first_held}
@@ -31,14 +32,20 @@ others : (c : Else-refuses) →
 others c =
     narrow_on c.args.how (widest c.args.counts.now) (table_checks (length c.args.db.now) c.args.size c.args.roots.now c.args.counts.now c.args.hints.now) (narrow c)
 
+pub returns-in_err-check : goal.returns-in_err-check
+returns-in_err-check c =
+    let p = err_from_is_err_and c.from_residual.result c.from_residual.ensures.1 in
+    rw (p.1, p.2) (tables_refused _ _ (others (goal.at.returns-in_err-check c).Else-refuses ∙ sym c.check.ensures ∙ c.in_err-check.was))
+
 pub carve_checked-answer-requires : goal.carve_checked-answer-requires
 carve_checked-answer-requires c =
-    record { taken_by_mode = ltb-false _ _ (narrow (goal.at.carve_checked-answer-requires c).Else-refuses); tables_fit = tables_fit (length c.args.db.now) c.args.size c.args.roots.now c.args.counts.now c.args.hints.now (sym c.check.ensures ∙ c.in-Passed.is) }
+    record {
+      taken_by_mode = ltb-false _ _ (narrow (goal.at.carve_checked-answer-requires c).Else-refuses);
+      tables_fit = tables_fit (length c.args.db.now) c.args.size c.args.roots.now c.args.counts.now c.args.hints.now (sym c.check.ensures ∙ c.in_ok-check.was);
+    }
 
-pub returns-in-Refused : goal.returns-in-Refused
-returns-in-Refused c = tables_refused _ _ (others (goal.at.returns-in-Refused c).Else-refuses ∙ sym c.check.ensures ∙ c.in-Refused.is)
-
-pub returns-in-Passed : goal.returns-in-Passed
-returns-in-Passed c =
-    rw (c.clear_flags.ensures, c.clear_stack.ensures, c.carve_checked-answer.auto.flags, c.carve_checked-answer.auto.stack)
-    (tables_passed (asked c.args.how c.args.db.now c.args.size c.args.roots.now c.args.counts.now c.args.hints.now c.args.flags.now c.args.stack.now c.args.rows.now c.args.cols.now) _ _ _ (others (goal.at.returns-in-Passed c).Else-refuses ∙ sym c.check.ensures ∙ c.in-Passed.is) c.carve_checked-answer.ensures)
+pub returns : goal.returns
+returns c =
+    rw (c.fill.ensures.after (λ y h. h), c.fill-2.ensures.after (λ y h. h), c.carve_checked-answer.auto.flags, c.carve_checked-answer.auto.stack)
+    (tables_passed (asked c.args.how c.args.db.now c.args.size c.args.roots.now c.args.counts.now c.args.hints.now c.args.flags.now c.args.stack.now c.args.rows.now c.args.cols.now) _ _ _
+    (others (goal.at.returns c).Else-refuses ∙ sym c.check.ensures ∙ c.in_ok-check.was) c.carve_checked-answer.ensures)

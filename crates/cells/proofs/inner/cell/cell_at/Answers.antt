@@ -1,55 +1,58 @@
 -- `cells::inner::cell::cell_at` meets its contract: each way out is a law of `proofs/Looking.antt`.
 -- Assumes nothing.
-use Prim.Native.Nat.{◌<◌}
-use mathlib.Core.Path.{◌≡◌, sym, ◌∙◌}
+use Rattle.std.specs.Prelude.{Some, ◌≡◌, ◌<◌}
+use mathlib.Core.Path.{sym, ◌∙◌}
 use native.Mathlib.Omega.{arith}
-use Rattle.cells.proofs.Looking.{cell_short, cell_empty, cell_far, cell_no_id, cell_long, cell_miss, cell_found}
+use Rattle.cells.proofs.Looking.{cell_short, cell_empty, cell_far, cell_no_id, cell_long, cell_miss, cell_found, missed, told_hit}
 use Rattle.record.proofs.Laws.{varint_lies}
 use Rattle.record.specs.Varint.{varint_at}
-use Rattle.record.specs.declared.varint.Varint.TheVariants.{Value}
 use Rattle.cells.proofs.inner.cell.cell_at.Goals as goal
-use Rattle.cells.proofs.inner.cell.cell_at.Goals.{Else-len-eq0, In-Value, In-Value-often_short}
+use Rattle.cells.proofs.inner.cell.cell_at.Goals.{In_ok-len, In_ok-id, then-len-eq0-via-then-len-eq0, then-len-eq0-via-else-len-eq0+then-len-payload}
 
-pub returns-in_default : goal.returns-in_default
-returns-in_default c = cell_short _ _ _ (sym c.often_short.ensures ∙ c.in_default.is)
+pub returns-in_err-len : goal.returns-in_err-len
+returns-in_err-len c = rw c.from_residual.ensures (cell_short _ _ _ (rw c.new.ensures at (sym c.often_short.ensures ∙ c.in_err-len.was)))
 
 -- the length that was read
-length_read : (c : In-Value) →
-    varint_at c.args.payload.now c.args.pos ≡ Value c.in-Value.len c.in-Value.next
-length_read c = sym c.often_short.ensures ∙ c.in-Value.is
-
-above : (c : Else-len-eq0) → 0 < c.in-Value.len
-above c = omega (arith, c.if-len-eq0.false)
-
-pub returns-then-len-eq0 : goal.returns-then-len-eq0
-returns-then-len-eq0 c = cell_empty _ _ _ _ _ (length_read (goal.at.returns-then-len-eq0 c).In-Value) c.if-len-eq0.true
+length_read : (c : In_ok-len) → varint_at c.args.payload.now c.args.pos ≡ Some (c.in_ok-len.len, c.in_ok-len.next)
+length_read c = rw c.new.ensures at (sym c.often_short.ensures ∙ c.in_ok-len.was)
 
 pub overflow_sub-payload : goal.overflow_sub-payload
-overflow_sub-payload c = (varint_lies _ _ _ _ (length_read (goal.at.overflow_sub-payload c).In-Value)).inside
+overflow_sub-payload c = (varint_lies _ _ _ _ (length_read (goal.at.overflow_sub-payload c).In_ok-len)).inside
 
-pub returns-then-len-payload : goal.returns-then-len-payload
-returns-then-len-payload c = cell_far _ _ _ _ _ (length_read (goal.at.returns-then-len-payload c).In-Value) (above (goal.at.returns-then-len-payload c).Else-len-eq0) c.if-len-payload.true
+pub returns-then-len-eq0 : goal.returns-then-len-eq0
+returns-then-len-eq0 c =
+    let e = length_read (goal.at.returns-then-len-eq0 c).In_ok-len in
+    elim c.then-len-eq0.branch [
+      | then-len-eq0-via-then-len-eq0 w ↦ cell_empty _ _ _ _ _ e w.if-len-eq0.true
+      | then-len-eq0-via-else-len-eq0+then-len-payload w ↦ cell_far _ _ _ _ _ e (omega (arith, w.if-len-eq0.false)) w.if-len-payload.true
+    ]
 
-pub returns-in_default-often_short : goal.returns-in_default-often_short
-returns-in_default-often_short c = cell_no_id _ _ _ _ _ (length_read (goal.at.returns-in_default-often_short c).In-Value) (above (goal.at.returns-in_default-often_short c).Else-len-eq0) (sym c.often_short-2.ensures ∙ c.in_default-often_short.is)
+pub returns-in_err-id : goal.returns-in_err-id
+returns-in_err-id c =
+    let e = length_read (goal.at.returns-in_err-id c).In_ok-len in
+    rw c.from_residual-in_err-id.ensures (cell_no_id _ _ _ _ _ e (omega (arith, c.if-len-eq0.false)) (sym c.often_short-2.ensures ∙ c.in_err-id.was))
 
 -- the row id that was read
-id_read : (c : In-Value-often_short) →
-    varint_at c.args.payload.now c.in-Value.next.at ≡ Value c.in-Value-often_short.id c.in-Value-often_short.behind
-id_read c = sym c.often_short-2.ensures ∙ c.in-Value-often_short.is
+id_read : (c : In_ok-id) → varint_at c.args.payload.now c.in_ok-len.next.at ≡ Some (c.in_ok-id.id, c.in_ok-id.behind)
+id_read c = sym c.often_short-2.ensures ∙ c.in_ok-id.was
 
 pub overflow_sub-payload-2 : goal.overflow_sub-payload-2
-overflow_sub-payload-2 c = (varint_lies _ _ _ _ (id_read c)).inside
+overflow_sub-payload-2 c = (varint_lies _ _ _ _ (id_read (goal.at.overflow_sub-payload-2 c).In_ok-id)).inside
 
 pub returns-then-len-payload-2 : goal.returns-then-len-payload-2
-returns-then-len-payload-2 c = cell_long _ _ _ _ _ (length_read (goal.at.returns-then-len-payload-2 c).In-Value) (above (goal.at.returns-then-len-payload-2 c).Else-len-eq0) _ _ (id_read (goal.at.returns-then-len-payload-2 c).In-Value-often_short) c.if-len-payload-2.true
+returns-then-len-payload-2 c =
+    let here = goal.at.returns-then-len-payload-2 c in
+    cell_long _ _ _ _ _ (length_read here.In_ok-len) (omega (arith, c.if-len-eq0.false)) _ _ (id_read here.In_ok-id) c.if-len-payload-2.true
 
-pub returns-in_default-attempt : goal.returns-in_default-attempt
-returns-in_default-attempt c =
-    cell_miss _ _ _ _ _ (length_read (goal.at.returns-in_default-attempt c).In-Value) (above (goal.at.returns-in_default-attempt c).Else-len-eq0) _ _ (id_read (goal.at.returns-in_default-attempt c).In-Value-often_short) c.if-len-payload-2.false
-    (rw c.in_default-attempt.is at c.attempt.ensures).misses
+pub returns-in_err-find : goal.returns-in_err-find
+returns-in_err-find c =
+    let here = goal.at.returns-in_err-find c in
+    rw c.from_residual-in_err-find.ensures
+    (cell_miss _ _ _ _ _ (length_read here.In_ok-len) (omega (arith, c.if-len-eq0.false)) _ _ (id_read here.In_ok-id) c.if-len-payload-2.false
+    (missed _ _ _ _ _ _ (sym c.ok.ensures.value ∙ c.in_err-find.was) c.attempt.ensures))
 
 pub returns : goal.returns
 returns c =
-    cell_found _ _ _ _ _ (length_read (goal.at.returns c).In-Value) (above (goal.at.returns c).Else-len-eq0) _ _ (id_read (goal.at.returns c).In-Value-often_short) c.if-len-payload-2.false _
-    (rw c.in-Hit.is at c.attempt.ensures)
+    let here = goal.at.returns c in
+    cell_found _ _ _ _ _ (length_read here.In_ok-len) (omega (arith, c.if-len-eq0.false)) _ _ (id_read here.In_ok-id) c.if-len-payload-2.false _
+    (told_hit _ _ _ _ _ _ _ (sym c.ok.ensures.value ∙ c.in_ok-find.was) c.attempt.ensures)

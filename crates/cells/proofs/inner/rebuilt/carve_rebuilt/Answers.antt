@@ -1,66 +1,73 @@
 -- `cells::inner::rebuilt::carve_rebuilt` meets its contract: what the loop has carved are the starts so far (`Starting`).
 -- Assumes nothing.
-use Prim.Native.Nat.{◌+◌}
-use mathlib.Core.Path.{◌∙◌}
+use Rattle.std.specs.Prelude.{◌+◌, length}
 use native.Mathlib.Nat.{le_trans}
 use native.Mathlib.Omega.{arith}
-use lib.ListN.{length}
-use Rattle.cells.proofs.Along.{along_ready, along_long}
+use Rattle.cells.proofs.Along.{along_ready}
 use Rattle.cells.proofs.Skipping.{rows_fit}
-use Rattle.cells.proofs.Starting.{Starting, starting_start, starting_passed, starting_on, starting_full, starting_end}
+use Rattle.cells.proofs.Starting.{Starting, passed_is, starting_start, starting_passed, starting_cell, starting_row, starting_full, starting_end}
 use Rattle.hit.specs.Inner.{Ready}
+use Rattle.starts.proofs.Laws.{cell_below}
 use Rattle.cells.proofs.inner.rebuilt.carve_rebuilt.Goals as goal
-use Rattle.cells.proofs.inner.rebuilt.carve_rebuilt.Goals.{After-next_start-at, At-loop-how}
+use Rattle.cells.proofs.inner.rebuilt.carve_rebuilt.Goals.{At-loop-how, After-next_start-at, then-eq, else-eq+in_ok-carve_start}
 
 -- what is ready at the call is ready in each turn
-ready : (c : At-loop-how) →
-    Ready (c.args.o + length c.args.payload.now) (length c.args.hints.now) c.args.spot c.args.lent c.loop-how.m (length c.loop-how.rows) (length c.loop-how.cols)
-ready c = along_ready _ _ _ _ _ _ _ _ _ _ _ _ c.loop-how.invariant.2.along c.requires.ready
+ready : (c : At-loop-how) → Ready (c.args.o + length c.args.payload.now) (length c.args.hints.now) c.args.spot c.loop-how.sheet
+ready c = along_ready _ _ _ _ _ _ _ c.loop-how.invariant.2.along c.requires.ready
 
 -- the starts up to the next are passed over
-there : (c : After-next_start-at) →
-    Starting c.args.how c.args.payload.now c.args.hints.now c.args.spot c.args.o c.args.lent c.args.cells c.starts_of-starts.result c.args.rows.now c.args.cols.now c.loop-how.rows c.loop-how.cols c.next_start-at.result c.loop-how.k c.loop-how.m
-there c = starting_passed _ _ _ _ _ _ _ _ _ _ _ _ _ _ (along_ready _ _ _ _ _ _ _ _ _ _ _ _ c.loop-how.invariant.2.along c.requires.ready).space.fits _ _ c.next_start-at.ensures c.loop-how.invariant.2
+there : (c : After-next_start-at)
+    → Starting c.args.how c.args.payload.now c.args.hints.now c.args.spot c.args.o c.starts_of-starts.result c.args.sheet.now c.loop-how.sheet
+    c.next_start-at.result c.loop-how.k
+there c =
+    let fits = (along_ready _ _ _ _ _ _ _ c.loop-how.invariant.2.along c.requires.ready).space.fits in
+    starting_passed _ _ _ _ _ _ _ _ _ fits _ _ (rw c.next_cell-next.ensures at c.next_start-at.ensures) c.loop-how.invariant.2
 
 pub loop-how-init : goal.loop-how-init
-loop-how-init c = (c.starts_of-starts.ensures, omega arith, starting_start _ _ _ _ _ _ _ _ _ _ _ c.requires.ready.space.fits c.requires.standing)
+loop-how-init c = (c.starts_of-starts.ensures, omega arith, starting_start _ _ _ _ _ _ _ _ c.requires.ready.space.fits c.requires.standing)
 
-pub next_start-at-requires : goal.next_start-at-requires
-next_start-at-requires c =
-    let r = ready c in
-    record { payload_len_bound = (omega (arith, r.inside), r.some, c.requires.hints_len_bound); v_le_starts = (c.loop-how.invariant.1, omega (arith, c.loop-how.invariant.0)); rows_there = rows_fit _ (length c.loop-how.cols) _ _ (le_trans (le_trans c.loop-how.invariant.2.behind r.space.fits) r.space.room_most) }
-
-pub shape_of-rows-then-at-starts : goal.shape_of-rows-then-at-starts
-shape_of-rows-then-at-starts c = (along_long _ _ _ _ _ _ _ _ _ c.loop-how.invariant.2.along).0
-
-pub shape_of-cols-then-at-starts : goal.shape_of-cols-then-at-starts
-shape_of-cols-then-at-starts c = (along_long _ _ _ _ _ _ _ _ _ c.loop-how.invariant.2.along).1
+pub next_cell-next-requires : goal.next_cell-next-requires
+next_cell-next-requires c =
+    let r = ready (goal.at.next_cell-next-requires c).At-loop-how in
+    rows_fit _ (length c.loop-how.sheet.cols.now) c.loop-how.sheet.width _
+    (le_trans (le_trans c.loop-how.invariant.2.behind r.space.fits) r.space.room_most)
 
 pub returns-then-at-starts : goal.returns-then-at-starts
-returns-then-at-starts c = rw c.loop-how.invariant.0 at (starting_end _ _ _ _ _ _ _ _ _ _ _ _ _ _ _ (there (goal.at.returns-then-at-starts c).After-next_start-at) c.if-at-starts.true)
+returns-then-at-starts c =
+    rw c.loop-how.invariant.0 at
+    (starting_end _ _ _ _ _ _ _ _ _ _ (there (goal.at.returns-then-at-starts c).After-next_start-at) c.if-at-starts.true)
 
-pub carve_start-requires : goal.carve_start-requires
-carve_start-requires c =
-    record { v_in_bounds = (omega (arith, c.loop-how.invariant.0, c.if-at-starts.false), c.loop-how.invariant.2.behind, c.requires.hints_len_bound); ready = ready (goal.at.carve_start-requires c).At-loop-how }
+pub overflow_add-k : goal.overflow_add-k
+overflow_add-k c =
+    let passed = passed_is _ _ _ c.args.spot.base c.args.o _ _ _ _ c.next_cell-next.ensures c.eq.ensures c.if-eq.true in
+    omega (arith, cell_below _ _ _ _ passed)
 
-pub shape_of-rows-in_default : goal.shape_of-rows-in_default
-shape_of-rows-in_default c = c.carve_start.auto.rows ∙ ((along_long _ _ _ _ _ _ _ _ _ c.loop-how.invariant.2.along).0)
+pub carve_start-requires-clause-ready : goal.carve_start-requires-clause-ready
+carve_start-requires-clause-ready c = ready (goal.at.carve_start-requires-clause-ready c).At-loop-how
 
-pub shape_of-cols-in_default : goal.shape_of-cols-in_default
-shape_of-cols-in_default c = c.carve_start.auto.cols ∙ ((along_long _ _ _ _ _ _ _ _ _ c.loop-how.invariant.2.along).1)
-
-pub returns-in_default : goal.returns-in_default
-returns-in_default c =
-    let x = rw c.in_default.is at c.carve_start.ensures in
-    rw c.loop-how.invariant.0 at (starting_full _ _ _ _ _ _ _ _ _ _ _ _ _ _ _ (there (goal.at.returns-in_default c).After-next_start-at) c.if-at-starts.false _ _ x.rows)
-
-pub overflow_add-v : goal.overflow_add-v
-overflow_add-v c = omega (arith, c.if-at-starts.false, c.loop-how.invariant.0, c.requires.ready.inside)
-
-pub loop-how-smaller : goal.loop-how-smaller
-loop-how-smaller c = omega (arith, c.next_start-at.ensures.on, c.if-at-starts.false)
+pub returns-in_err-carve_start : goal.returns-in_err-carve_start
+returns-in_err-carve_start c =
+    let passed = passed_is _ _ _ c.args.spot.base c.args.o _ _ _ _ c.next_cell-next.ensures c.eq.ensures c.if-eq.false in
+    rw c.from_residual.ensures
+    (rw c.loop-how.invariant.0 at
+    (starting_full _ _ _ _ _ _ _ _ _ _ (there (goal.at.returns-in_err-carve_start c).After-next_start-at) c.if-at-starts.false passed _
+    c.in_err-carve_start.ensures))
 
 pub loop-how-preserved : goal.loop-how-preserved
 loop-how-preserved c =
-    let x = rw c.in-On.is at c.carve_start.ensures in
-    (c.loop-how.invariant.0, omega (arith, c.if-at-starts.false), starting_on _ _ _ _ _ _ _ _ _ _ _ _ _ _ _ (there (goal.at.loop-how-preserved c).After-next_start-at) c.if-at-starts.false _ _ _ _ x.next x.rows)
+    let here = goal.at.loop-how-preserved c in
+    let on = there here.After-next_start-at in
+    elim c.if-eq.branch [
+      | then-eq w ↦
+          let passed = passed_is _ _ _ c.args.spot.base c.args.o _ _ _ _ c.next_cell-next.ensures c.eq.ensures w.if-eq.true in (
+            c.loop-how.invariant.0,
+            omega (arith, c.if-at-starts.false),
+            rw (w.sheet-is, w.k-is) (starting_cell _ _ _ _ _ _ _ _ _ _ on c.if-at-starts.false passed (ready here.At-loop-how).space.fits),
+          )
+      | else-eq+in_ok-carve_start w ↦
+          let passed = passed_is _ _ _ c.args.spot.base c.args.o _ _ _ _ c.next_cell-next.ensures c.eq.ensures w.if-eq.false in (
+            c.loop-how.invariant.0,
+            omega (arith, c.if-at-starts.false),
+            rw (w.sheet-is, w.k-is) (starting_row _ _ _ _ _ _ _ _ _ _ on c.if-at-starts.false passed _ w.in_ok-carve_start.ensures),
+          )
+    ]

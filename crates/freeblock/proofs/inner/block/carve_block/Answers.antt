@@ -6,5 +6,4 @@ use Rattle.freeblock.proofs.inner.block.carve_block.Goals as goal
 
 pub returns : goal.returns
 unfolding block_hits
-returns c =
-    rw (payload_is c.args.page.now c.args.at c.args.size) at c.carve_payload.ensures
+returns c = rw (payload_is c.args.page.now c.args.at c.args.size) at c.carve_payload.ensures

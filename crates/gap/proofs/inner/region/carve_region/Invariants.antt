@@ -6,8 +6,8 @@ use Rattle.filter.specs.Inner.{IsHigh}
 use Rattle.gap.proofs.Regions.{Scanning}
 use Rattle.gap.proofs.inner.region.carve_region.Given as goal
 
-abbrev pub invariant-loop-at : goal.invariant-loop-at
-invariant-loop-at l = Scanning l.bytes l.from l.hints l.spot l.lent l.n l.initial.rows l.initial.cols l.rows l.cols l.o l.m × IsHigh l.bytes l.met
+abbrev pub invariant-loop-next : goal.invariant-loop-next
+invariant-loop-next l = record { scanning : Scanning l.bytes l.from l.hints l.spot l.initial.sheet l.sheet l.o; high : IsHigh l.bytes l.met }
 
-abbrev pub decreases-loop-at : goal.decreases-loop-at
-decreases-loop-at l = length l.bytes - l.o
+abbrev pub decreases-loop-next : goal.decreases-loop-next
+decreases-loop-next l = length l.bytes - l.o

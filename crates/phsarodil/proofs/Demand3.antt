@@ -1,6 +1,7 @@
 -- Demand 3 of `phs_scan_region`: what it returns and leaves is the sheet and the count of the scan rule, so two regions that agree at the header
 -- places of the first give the same ones here, too.
 -- Assumes nothing.
+use Rattle.std.specs.Prelude.{Ok}
 use Prim.Native.Nat.{ℕ}
 use mathlib.Core.Path.{◌≡◌, sym, ap, ◌∙◌}
 use contract.Lifetimes.{Lfts}
@@ -11,7 +12,6 @@ use Rattle.scan.proofs.Laws.{count_passed}
 use Rattle.scan.proofs.Leaving.{sheet_left, count_left}
 use Rattle.scan.proofs.SameRun.{same_sheet}
 use Rattle.scan.specs.Sheet.{Sheet, sheet_of, Asked, asked, asked_checked, asked_sheet, asked_count, Alike, Counts}
-use Rattle.sheet.specs.declared.refusal.Checked.TheVariants.{Passed}
 use Rattle.phsarodil.specs.Returns.{scanned_rows}
 use Rattle.phsarodil.proofs.rows.phs_scan_region.Kinds as kinds
 use Rattle.phsarodil.proofs.rows.phs_scan_region.Reads as phs-scan-region
@@ -48,5 +48,5 @@ module _ (k : Lfts 5) where
       (first.0 ∙ same.0 ∙ sym second.0, first.1 ∙ same.1 ∙ sym second.1)
 
   pub counts_places : (a : Dens k kinds.ps) (x : (res_t kinds.r k).Denot) (s : AtExit (ended_of 5 kinds.ps kinds.r) k) → phs-scan-region.Post k a x s
-      → asked_checked (question a) ≡ Passed → Counts (question a) (word s 2)
+      → asked_checked (question a) ≡ (Ok tt) → Counts (question a) (word s 2)
   counts_places a x s p e = count_passed (question a) (word s 2) (sheet_is a x s p).1 e

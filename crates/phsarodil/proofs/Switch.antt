@@ -1,6 +1,7 @@
 -- No guesses unless asked (rule 11.13), of the C calls: where one whose code brings guesses returns 0, the same call with the code 0 returns 0, too,
 -- and leaves its rows less the guesses, in the same order.
 -- Assumes nothing.
+use Rattle.std.specs.Prelude.{Some}
 use Prim.Native.Nat.{ℕ}
 use mathlib.Core.Path.{◌≡◌, refl, sym, ap, subst, ◌∙◌}
 use mathlib.Core.List.{List}
@@ -26,11 +27,10 @@ use Rattle.phsarodil.proofs.gaps.phs_scan_single_page_gap.Reads as phs-scan-sing
 use Rattle.rebuild.specs.Ways.{named}
 use Rattle.rebuild.specs.declared.rebuilding.Rebuilding.{Rebuilding}
 use Rattle.rebuild.specs.declared.rebuilding.Rebuilding.TheVariants.{NoGuesses}
-use Rattle.rebuild.specs.declared.ways.Way.TheVariants.{By}
 use Rattle.sheet.specs.Hits.{RowFilling, RowOutcome, rows_number, FillsRows}
 use Rattle.tables.specs.Calls.{Asked, asked, OnTables, tabled_number, TablesPromises}
 
-zero_named : (code : ℕ) → code ≡ 0 → named code ≡ By NoGuesses
+zero_named : (code : ℕ) → code ≡ 0 → named code ≡ Some NoGuesses
 zero_named code e = rw e refl
 
 -- ---- as C has it
@@ -51,7 +51,7 @@ module _ (k : Lfts 5) (how : Rebuilding) where
   slice_return x s = row_return x s.1.1.1.1.1.1.1.0.now s.1.1.1.1.1.0.now s.1.1.1.1.1.1.0.now
 
   -- THE LAW
-  pub slice_plain : (a b : Dens k slice-kinds.ps) → named a.0 ≡ By how → b.0 ≡ 0 → slice_question k NoGuesses b ≡ sliced_by (Gaps NoGuesses) (slice_question k how a)
+  pub slice_plain : (a b : Dens k slice-kinds.ps) → named a.0 ≡ Some how → b.0 ≡ 0 → slice_question k NoGuesses b ≡ sliced_by (Gaps NoGuesses) (slice_question k how a)
       → (x y : (res_t slice-kinds.r k).Denot) (s t : AtExit (ended_of 5 slice-kinds.ps slice-kinds.r) k)
       → phs-scan-single-page-gap.Post k a x s → phs-scan-single-page-gap.Post k b y t → (slice_return x s).number ≡ 0 →
       let q = slice_question k how a in
@@ -70,7 +70,7 @@ module _ (k : Lfts 5) (how : Rebuilding) where
   payload_return x s = row_return x s.1.1.1.1.1.1.0.now s.1.1.1.1.0.now s.1.1.1.1.1.0.now
 
   -- THE LAW
-  pub payload_plain : (a b : Dens k payload-kinds.ps) → named a.0 ≡ By how → b.0 ≡ 0 → payload_question NoGuesses b ≡ sliced_by (Payload NoGuesses) (payload_question how a)
+  pub payload_plain : (a b : Dens k payload-kinds.ps) → named a.0 ≡ Some how → b.0 ≡ 0 → payload_question NoGuesses b ≡ sliced_by (Payload NoGuesses) (payload_question how a)
       → (x y : (res_t payload-kinds.r k).Denot) (s t : AtExit (ended_of 5 payload-kinds.ps payload-kinds.r) k)
       → phs-parse-cells-from-freeblock.Post k a x s → phs-parse-cells-from-freeblock.Post k b y t → (payload_return x s).number ≡ 0 →
       let q = payload_question how a in
@@ -86,7 +86,7 @@ module _ (k : Lfts 5) (how : Rebuilding) where
   page_return x s = row_return x s.1.1.1.1.1.1.1.0.now s.1.1.1.1.1.0.now s.1.1.1.1.1.1.0.now
 
   -- THE LAW
-  pub page_plain : (a b : Dens k page-kinds.ps) → named a.0 ≡ By how → b.0 ≡ 0 → page_question k NoGuesses b ≡ numbered_by (Gaps NoGuesses) (page_question k how a)
+  pub page_plain : (a b : Dens k page-kinds.ps) → named a.0 ≡ Some how → b.0 ≡ 0 → page_question k NoGuesses b ≡ numbered_by (Gaps NoGuesses) (page_question k how a)
       → (x y : (res_t page-kinds.r k).Denot) (s t : AtExit (ended_of 5 page-kinds.ps page-kinds.r) k)
       → phs-scan-page-gap.Post k a x s → phs-scan-page-gap.Post k b y t → (page_return x s).number ≡ 0 →
       let q = page_question k how a in
@@ -118,7 +118,7 @@ module _ (k : Lfts 9) (how : Rebuilding) where
       s.1.1.1.1.1.1.1.1.1.0.now
 
   -- THE LAW
-  pub tables_plain : (a b : Dens k tables-kinds.ps) → named a.0 ≡ By how → b.0 ≡ 0 → tables_question NoGuesses b ≡ tabled_by (Gaps NoGuesses) (tables_question how a)
+  pub tables_plain : (a b : Dens k tables-kinds.ps) → named a.0 ≡ Some how → b.0 ≡ 0 → tables_question NoGuesses b ≡ tabled_by (Gaps NoGuesses) (tables_question how a)
       → (x y : (res_t tables-kinds.r k).Denot) (s t : AtExit (ended_of 9 tables-kinds.ps tables-kinds.r) k)
       → phs-scan-page-gaps.Post k a x s → phs-scan-page-gaps.Post k b y t → (tables_return_lem x s).number ≡ 0 →
       let q = tables_question how a in Unguessed (λ hits. tables_return_of (all_tabled q hits)) (tabled_parts how q) (tables_return_lem x s) (tables_return_lem y t)

@@ -4,6 +4,7 @@ ghost use Rattle.modes.specs.Modes.{modes_filling};
 ghost use Rattle.phsarodil.specs.Returns.{row_return, filled_rows};
 
 use modes::carver::carve_freeblock;
+use sheet::answer::Answer;
 
 #[unsafe(no_mangle)]
 pub extern "C" fn phs_carve_freeblock(

@@ -6,6 +6,7 @@ ghost use Rattle.phsarodil.specs.Returns.{row_return, filled_rows, tables_return
 ghost use Rattle.tables.specs.Calls.{asked};
 
 use carving::freeblocks::{recover_page_freeblocks, recover_slice_freeblocks};
+use sheet::answer::Answer;
 use tables::freeblocks::recover_freeblocks;
 
 #[unsafe(no_mangle)]

@@ -10,7 +10,9 @@ ghost use Rattle.tables.specs.Calls.{asked};
 ghost use Rattle.walk.specs.Carve.{counts_fit};
 
 use carving::gaps::{parse_cells_from_freeblock, scan_page_gap, scan_single_page_gap};
-use rebuild::ways::{Way, named, unnamed};
+use rebuild::rebuilding::Rebuilding;
+use rebuild::ways::unnamed;
+use sheet::answer::Answer;
 use sheet::hint::hint_count_fits;
 use tables::gaps::scan_page_gaps;
 use walk::inner::checks::counts_fit;
@@ -33,9 +35,9 @@ pub extern "C" fn phs_scan_page_gaps(
         (λ how. carved_tables (asked (Gaps how) db.now size roots.now counts.now hints.now flags.old stack.old rows.old cols.old))
         (refused_tables (unnamed_number (counts_fit counts.now)) flags.old stack.old rows.old cols.old) }
 {
-    let Way::By(how) = named(rebuilding) else {
+    let Ok(how) = Rebuilding::try_from(rebuilding) else {
         *out = [0];
-        return unnamed(counts_fit(counts));
+        return unnamed(counts_fit(counts)).number();
     };
     let walked = scan_page_gaps(
         how, db, size, roots, counts, hints, flags, stack, rows, cols,
@@ -60,9 +62,9 @@ pub extern "C" fn phs_scan_page_gap(
         (numbered_asked (Gaps how) db.now size page hints.now rows.old cols.old)))
         (refused_rows (unnamed_number (count_fits (length hints.now))) rows.old cols.old) }
 {
-    let Way::By(how) = named(rebuilding) else {
+    let Ok(how) = Rebuilding::try_from(rebuilding) else {
         *out = [0];
-        return unnamed(hint_count_fits(hints.len()));
+        return unnamed(hint_count_fits(hints.len())).number();
     };
     let filled = scan_page_gap(how, db, size, page, hints, rows, cols);
     *out = [filled.written()];
@@ -85,9 +87,9 @@ pub extern "C" fn phs_scan_single_page_gap(
         (slice_asked (Gaps how) page.now head base hints.now rows.old cols.old)))
         (refused_rows (unnamed_number (count_fits (length hints.now))) rows.old cols.old) }
 {
-    let Way::By(how) = named(rebuilding) else {
+    let Ok(how) = Rebuilding::try_from(rebuilding) else {
         *out = [0];
-        return unnamed(hint_count_fits(hints.len()));
+        return unnamed(hint_count_fits(hints.len())).number();
     };
     let filled = scan_single_page_gap(how, page, head, base, hints, rows, cols);
     *out = [filled.written()];
@@ -109,9 +111,9 @@ pub extern "C" fn phs_parse_cells_from_freeblock(
         (slice_asked (Payload how) payload.now 0 base hints.now rows.old cols.old)))
         (refused_rows (unnamed_number (count_fits (length hints.now))) rows.old cols.old) }
 {
-    let Way::By(how) = named(rebuilding) else {
+    let Ok(how) = Rebuilding::try_from(rebuilding) else {
         *out = [0];
-        return unnamed(hint_count_fits(hints.len()));
+        return unnamed(hint_count_fits(hints.len())).number();
     };
     let filled = parse_cells_from_freeblock(how, payload, base, hints, rows, cols);
     *out = [filled.written()];

@@ -5,6 +5,7 @@ ghost use Rattle.phsarodil.specs.Returns.{list_return, filled_list, row_return, 
 ghost use Rattle.unalloc.specs.Learned.{learned_filling};
 
 use learn::learn::learn_signatures;
+use sheet::answer::Answer;
 use unalloc::unalloc::carve_unallocated;
 
 #[unsafe(no_mangle)]

@@ -8,6 +8,7 @@ ghost use Rattle.statement.specs.Statement.{statement_filling};
 
 use readings::statement::column_hints;
 use search::search::boyer_moore_search;
+use sheet::answer::Answer;
 use statement::statement::from_create_sql;
 
 #[unsafe(no_mangle)]

@@ -5,8 +5,8 @@ ghost use Rattle.phsarodil.specs.Door.{paged_words};
 ghost use Rattle.phsarodil.specs.Returns.{leaves_return, collected_leaves};
 ghost use Rattle.walk.specs.Collect.{leaves_asked};
 
-use page::btree::{Paged, get_page_data};
-use sheet::refusal::number;
+use page::btree::get_page_data;
+use sheet::answer::Answer;
 use walk::walk::collect_leaf_pages;
 
 #[unsafe(no_mangle)]
@@ -15,13 +15,13 @@ pub extern "C" fn phs_get_page_data(db: &[u8], size: u64, page: u64, out: &mut [
     ensures out { out.new ≡ paged_words (page_answer (length db.now) size page) }
 {
     match get_page_data(db, size, page) {
-        Paged::At { start, len, head } => {
-            *out = [start as u64, len as u64, head as u64];
+        Ok(page) => {
+            *out = [page.start as u64, page.len as u64, page.head as u64];
             0
         }
-        Paged::Refused(refusal) => {
+        Err(refusal) => {
             *out = [0, 0, 0];
-            number(refusal)
+            refusal.number()
         }
     }
 }

@@ -7,15 +7,23 @@ ghost use Rattle.scan.specs.Scan.{scan_asked};
 
 use attempt::schema_sig::is_compatible;
 use scan::schema_sig::{scan_region, try_parse_record};
+use sheet::answer::Answer;
 
 #[unsafe(no_mangle)]
 pub extern "C" fn phs_is_compatible(hint: u8, kind: u64, out: &mut [u64; 1]) -> u64
     ensures number { result ≡ compatible_number hint }
     ensures out { out.new ≡ compatible_word hint kind ∷ [] }
 {
-    let answer = is_compatible(hint, kind);
-    *out = [answer.word()];
-    answer.number()
+    match is_compatible(hint, kind) {
+        Ok(suits) => {
+            *out = [suits as u64];
+            0
+        }
+        Err(refusal) => {
+            *out = [0];
+            refusal.number()
+        }
+    }
 }
 
 #[unsafe(no_mangle)]
@@ -49,10 +57,15 @@ pub extern "C" fn phs_scan_region(
     ensures { row_return result out.new rows.new cols.new ≡ scanned_rows
         (scan_asked region.now hints.now base start rows.old cols.old) }
 {
-    let answer = scan_region(region, hints, base, start, rows, cols);
-    let written = answer.written() as u64;
-    let place = answer.place() as u64;
-    let read = answer.read() as u64;
-    *out = [written, place, read];
-    answer.number()
+    match scan_region(region, hints, base, start, rows, cols) {
+        Ok(scanned) => {
+            let rows = scanned.rows;
+            *out = [rows.written(), scanned.place as u64, scanned.read as u64];
+            rows.number()
+        }
+        Err(refusal) => {
+            *out = [0, 0, 0];
+            refusal.number()
+        }
+    }
 }

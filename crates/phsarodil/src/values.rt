@@ -5,9 +5,9 @@ ghost use Rattle.record.specs.Entry.{read_entry, refusal_of, entry_bytes};
 ghost use Rattle.record.specs.Value.{body_length, decode_at};
 ghost use Rattle.record.specs.Varint.{read_varint};
 
-use record::entry::{Entry, EntryRead};
-use record::record::{Decoded, Length, body_length, decode_serial_type};
-use record::varint::{Read, read_varint};
+use record::entry::Entry;
+use record::record::{body_length, decode_serial_type};
+use record::varint::read_varint;
 use tagged::inner::{bits_of, number_of, tag_of};
 
 #[unsafe(no_mangle)]
@@ -15,11 +15,10 @@ pub extern "C" fn phs_read_varint(bytes: &[u8], offset: usize, out: &mut [u64; 4
     ensures number { result ≡ 0 }
     ensures out { out.new ≡ varint_words (read_varint bytes.now offset) }
 {
-    let Read::Number(value, n, padded) = read_varint(bytes, offset) else {
-        *out = [0, 0, 0, 0];
-        return 0;
+    *out = match read_varint(bytes, offset) {
+        Some(n) => [1, n.value, n.len as u64, n.padded as u64],
+        None => [0, 0, 0, 0],
     };
-    *out = [1, value, n as u64, padded as u64];
     0
 }
 
@@ -28,11 +27,10 @@ pub extern "C" fn phs_body_length(kind: u64, out: &mut [u64; 2]) -> u64
     ensures number { result ≡ 0 }
     ensures out { out.new ≡ length_words (body_length kind) }
 {
-    let Length::Bytes(n) = body_length(kind) else {
-        *out = [0, 0];
-        return 0;
+    *out = match body_length(kind) {
+        Some(n) => [1, n as u64],
+        None => [0, 0],
     };
-    *out = [1, n as u64];
     0
 }
 
@@ -46,7 +44,7 @@ pub extern "C" fn phs_decode_serial_type(
     ensures number { result ≡ 0 }
     ensures out { out.new ≡ decoded_words bytes.now offset (decode_at kind bytes.now offset) }
 {
-    let Decoded::Of(value, n) = decode_serial_type(kind, bytes, offset) else {
+    let Some((value, n)) = decode_serial_type(kind, bytes, offset) else {
         *out = [0, 0, 0, 0];
         return 0;
     };
@@ -76,9 +74,9 @@ pub extern "C" fn phs_read_entry(
         start,
         len: length,
     };
-    let EntryRead::Of(value) = entry.read(bytes) else {
+    let Some(value) = entry.read(bytes) else {
         *out = [0, 0, 0, 0];
-        return number_of(EntryRead::Refused);
+        return number_of(None);
     };
     let tag = tag_of(value);
     let bits = bits_of(value, bytes, start as usize);

@@ -1,15 +1,14 @@
 -- `phs_scan_page_gaps` meets its contract: a code that names no way changes nothing, and otherwise number, word and lists are those of the tables.
 -- Assumes nothing.
-use mathlib.Core.Path.{sym, ◌∙◌}
 use Rattle.phsarodil.proofs.Returning.{tables_returned}
 use Rattle.phsarodil.proofs.gaps.phs_scan_page_gaps.Goals as goal
 
 pub returns-in_default : goal.returns-in_default
 returns-in_default c =
-    rw (sym c.named.ensures ∙ c.in_default.is)
-    (rw (c.unnamed.ensures, c.counts_fit.ensures))
+    rw (rw c.in_default.is at c.try_from.ensures)
+    (rw (c.number.ensures, c.unnamed.ensures, c.counts_fit.ensures))
 
 pub returns : goal.returns
 returns c =
-    rw (sym c.named.ensures ∙ c.in-By.is)
-    (tables_returned _ _ _ _ c.scan_page_gaps-walked.ensures c.number.ensures c.written.ensures)
+    rw (rw c.in-Ok.is at c.try_from.ensures)
+    (tables_returned _ _ _ _ c.scan_page_gaps-walked.ensures c.number-2.ensures c.written.ensures)

@@ -3,8 +3,8 @@
 use mathlib.Core.Path.{refl, sym, ◌∙◌}
 use Rattle.phsarodil.proofs.values.phs_body_length.Goals as goal
 
-pub returns-in_default : goal.returns-in_default
-returns-in_default c = record { number = refl; out = rw (sym c.body_length.ensures ∙ c.in_default.is) }
+pub returns-in-Some : goal.returns-in-Some
+returns-in-Some c = record { number = refl; out = rw (sym c.body_length.ensures ∙ c.in-Some.is) }
 
-pub returns : goal.returns
-returns c = record { number = refl; out = rw (sym c.body_length.ensures ∙ c.in-Bytes.is) }
+pub returns-in-None : goal.returns-in-None
+returns-in-None c = record { number = refl; out = rw (sym c.body_length.ensures ∙ c.in-None.is) }

@@ -29,6 +29,7 @@ fn answer(said: Output, case: &[u8], bytes: &mut [u8], words: &mut [u64]) -> Out
 }
 
 fn main(rt: HostRuntime) {
+    // Lists as long as a case may ask: nothing is allocated.
     let mut bytes = [0; CELLS];
     let mut words = [0; CELLS];
     say_cases(rt, b"answers", |said, case| {

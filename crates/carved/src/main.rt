@@ -40,6 +40,7 @@ fn carve(said: Output, case: &[u8], lent: &mut Lent) -> Output {
 }
 
 fn main(rt: HostRuntime) {
+    // Lists as long as a case may ask: nothing is allocated.
     let mut rows = [0; CELLS];
     let mut cols = [0; CELLS];
     say_cases(rt, b"carved", |said, case| {

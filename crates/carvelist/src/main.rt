@@ -17,6 +17,7 @@ use streams::{Output, fail, has_word, read_whole, say_aside};
 // One byte more than is taken, which tells a longer input.
 const INPUT_SPACE: usize = LARGEST_INPUT + 1;
 
+// Nothing is allocated, so the spaces are as long as what they hold may be.
 fn input_space() -> [u8; INPUT_SPACE]
     ensures { largest_input + 1 ≡ length result }
 {

@@ -1,4 +1,5 @@
-// The calls on gaps and the blocks behind them: of a page slice, of a page by its number, and of one block's payload.
+// The calls on gaps and the blocks behind them: of a page slice, of a page by its number, and of one block's payload. Slices and
+// lists stay apart, as the C interface lends them.
 ghost use Rattle.carving.specs.Calls.{slice_asked, slice_filling, numbered_asked, numbered_filling};
 ghost use Rattle.carving.specs.declared.inner.Carving.TheVariants.{Gaps, Payload};
 ghost use Rattle.sheet.specs.Hits.{row_outcome, FillsRows};

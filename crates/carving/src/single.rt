@@ -44,7 +44,7 @@ fn fill(
     sheet.filled(added)
 }
 
-// The page's type is not looked at, here and by number.
+// The page's type is not looked at, here and by number. Slices and lists stay apart, as the C interface lends them.
 pub fn carve_slice(
     how: Carving,
     page: &[u8],

@@ -28,7 +28,7 @@ struct Leader {
     count: usize,
 }
 
-// The type of n, and of -1 - n, which takes as many bits.
+// The type of n, and of -1 - n, which takes as many bits. Types are numbers, as the file format has them and C is given them.
 #[tactic(auto, unfolding(crate::specs::Types::width_type))]
 fn width_type(n: u64) -> u64
     ensures { result ≡ width_type (pos n) }

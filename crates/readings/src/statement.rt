@@ -1,7 +1,5 @@
 // The hints of the columns that a CREATE TABLE statement lists, in one of two readings, read where the statement lies.
-ghost use Rattle.std.specs.Prelude.{◌≡◌, ◌+◌, ◌≤◌, ◌<◌, true, false, length, MatchOption};
-ghost use Rattle.std.proofs.lemmas.List.Edits.{sets};
-ghost use Rattle.column.specs.Inner.{given_hints};
+ghost use Rattle.std.specs.Prelude.{◌≡◌, ◌+◌, ◌<◌, true, false, length, MatchOption};
 ghost use Rattle.column.specs.declared.piece.Reading.TheVariants.{ByFormat};
 ghost use Rattle.sheet.specs.Filled.{laid, list_outcome, FillsList};
 ghost use Rattle.readings.specs.Statement.{between, unlisted, all_hints, statement_filling};
@@ -12,7 +10,6 @@ use sheet::filled::Filled;
 use sheet::hint::{ANY, hint_count_fits};
 use sheet::refusal::Refusal;
 use sheet::{LARGEST_STATEMENT, MOST_COLUMNS};
-use words::inner::pieces::piece_end;
 use words::runs::{Run, behind_first, kept};
 
 // Writes as many hints as there is room for, and counts them all.

@@ -1,7 +1,7 @@
 // Shows the record on standard input: its header's length, then the type and the value of each column.
 #![tactic(auto)]
 
-ghost use Rattle.std.specs.Prelude.{◌≡◌, ◌≤◌, length};
+ghost use Rattle.std.specs.Prelude.{◌≤◌, length};
 
 use record::record::{Value, decode_serial_type};
 use record::varint::Cursor;
@@ -115,6 +115,7 @@ fn main(rt: HostRuntime) {
         say_usage(rt);
         return;
     }
+    // As long as a record may be: nothing is allocated.
     let mut space = [0; SPACE];
     match read_whole(&rt, &mut rt.stdin(), &mut space) {
         Ok(n) => answer(rt, &space[..n]),

@@ -1,5 +1,4 @@
-// What stands at a start of a payload, for our own crates: callers show by proof that it lies there, and that the table is not too wide;
-// each contract writes these bounds out, since a name for them would be longer, and the last differs.
+// What stands at a start of a payload, for our own crates: callers show by proof that it lies there, and that the table is not too wide.
 mod columns;
 
 ghost use Rattle.std.specs.Prelude.{◌≡◌, ◌≤◌, length};

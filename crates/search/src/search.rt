@@ -1,5 +1,5 @@
 // All places of a pattern in a region, found by a window that goes on by the shift of its last byte (Boyer and Moore's search).
-ghost use Rattle.std.specs.Prelude.{◌≡◌, ◌+◌, ◌-◌, ◌≤◌, ◌<◌, length, get_or, set};
+ghost use Rattle.std.specs.Prelude.{◌≡◌, ◌+◌, ◌-◌, ◌≤◌, ◌<◌, length, get_or};
 ghost use Rattle.search.specs.Inner.{SameFrom, Tells, Entered, AtMost, Windows, Skips, Ends};
 ghost use Rattle.sheet.specs.Filled.{filled_by, laid, list_outcome, FillsList};
 ghost use Rattle.sheet.specs.Limits.{largest_region};

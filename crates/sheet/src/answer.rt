@@ -18,7 +18,7 @@ pub trait Answer {
         ensures { result ≡ written_of self };
 }
 
-// What is refused by a check writes nothing.
+// What is refused by a check writes nothing; in that alone the two methods differ.
 impl<T: Answer + Drop> Answer for Result<T, Refusal> {
     ghost number_of = { λ r. number_in (T.number_of) r };
 

@@ -1,10 +1,10 @@
 // What a call answers that has filled one lent list.
-ghost use Rattle.std.specs.Prelude.{◌≡◌};
 ghost use Rattle.sheet.specs.Answer.{end_number, end_written};
 
 use crate::answer::Answer;
 use crate::refusal::Refusal;
 
+// No `Result`: what is full is refusal 9 and says beside it how many are written, as `list_written` promises.
 #[derive(Clone, Copy, Debug, PartialEq, Eq)]
 pub enum Filled {
     // How many things there are, all of them written.

@@ -39,6 +39,7 @@ pub struct Row {
     pub padded: bool,
 }
 
+// The numbers of a row's words. A cast would give the first of a case without a percent alone, and no derive gives the second.
 impl Source {
     fn code(self) -> u64
         ensures { result ≡ source_code self }

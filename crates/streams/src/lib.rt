@@ -2,7 +2,7 @@
 // An answer that says so has the error of the call that failed, so that `fail` can say why.
 #![tactic(auto)]
 
-ghost use Rattle.std.specs.Prelude.{true, ◌≡◌, ◌≤◌, ◌<◌, length, is_ok, IfOk, IfErr};
+ghost use Rattle.std.specs.Prelude.{true, ◌≡◌, ◌<◌, length, is_ok, IfOk, IfErr};
 ghost use Rattle.streams.specs.Moving.{AtMost, StandsIn, is_whole, StillWhole};
 
 use std::env::{Env, FillError};

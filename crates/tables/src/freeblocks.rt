@@ -1,4 +1,4 @@
-// The call on the freeblocks of tables.
+// The call on the freeblocks of tables. Its lists stay apart, as the C interface lends them.
 ghost use Rattle.carving.specs.declared.inner.Carving.TheVariants.{Freeblocks};
 ghost use Rattle.tables.specs.Calls.{TablesPromises, asked, on_tables};
 

@@ -1,4 +1,4 @@
-// The call on the gaps of tables and the blocks behind them.
+// The call on the gaps of tables and the blocks behind them. Its lists stay apart, as the C interface lends them.
 ghost use Rattle.carving.specs.declared.inner.Carving.TheVariants.{Gaps};
 ghost use Rattle.tables.specs.Calls.{TablesPromises, asked, on_tables};
 

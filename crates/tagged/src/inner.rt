@@ -33,7 +33,7 @@ pub fn bits_of(value: Value, bytes: &[u8], at: usize) -> u64
     }
 }
 
-// Of what an entry reads as: none is refusal 2.
+// Of what an entry reads as: none is refusal 2, which the C interface gives as a number.
 pub fn number_of(read: Option<Value>) -> u64
     ensures { result ≡ refusal_of read }
 {

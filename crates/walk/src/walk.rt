@@ -11,7 +11,8 @@ use sheet::LARGEST_REGION;
 use sheet::answer::Answer;
 use sheet::refusal::Refusal;
 
-// What is written while walking: leaves, or rows out of them.
+// What is written while walking: leaves, or rows out of them. No `Result`: refusals 8 and 9 say beside them how many are written, as
+// `collect_written` promises.
 #[derive(Clone, Copy, Debug, PartialEq, Eq)]
 pub enum Walked {
     // All of it: how many.

@@ -28,6 +28,7 @@ fn walk(said: Output, case: &[u8], lent: &mut Lent) -> Output {
 }
 
 fn main(rt: HostRuntime) {
+    // Lists as long as a case may ask: nothing is allocated.
     let mut flags = [0; CELLS];
     let mut stack = [0; CELLS];
     let mut first = [0; CELLS];

@@ -6,7 +6,7 @@ from tree import code, crate_of
 
 DEFINITION = re.compile(r"^\s*(?:(?:abbrev|unfoldable|pub|record|data|module)\s+)*([^\s(){}:.]+)(?:\s+[({].*?)?\s+:\s", re.M)
 ITEM = re.compile(r'^( *)(pub(?:\(crate\))? )?(?:extern "C" )?(?:const )?(?:unsafe )?(fn|struct|enum|const|static|type|trait|mod) (\w+)')
-IMPL = re.compile(r"^impl(?:<[^>]*>)? (?:[^{]* for )?(\w+)")
+IMPL = re.compile(r"^impl(?:<([^>]*)>)? (?:([^{]*) for )?(([\w:]+)[^{]*?)\s*\{?$")
 PART = re.compile(r"^    (?:pub(?:\(crate\))? )?(\w+)\b")
 SOURCE = re.compile(r"(?:crates/)?(\w+)/src/([\w/]+)\.(?:rt|rs)")
 
@@ -20,9 +20,11 @@ def definitions(text):
 class Item:
     """A function, a type, or a part of one: its full path, from its crate on, and where it stands."""
 
-    def __init__(self, path, file, line, public=False, owner=None, signature=None):
+    def __init__(self, path, file, line, public=False, owner=None, signature=None, trait=None):
         self.path, self.file, self.line, self.public, self.owner, self.signature = path, file, line, public, owner, signature
         self.name = path[-1]
+        # Where its proof stands: a trait's method is told from the type's own by the trait's name behind the type's.
+        self.proof = (*path[:-2], trait, path[-1]) if trait else path
 
     def names(self):
         """The ways to write it: its name behind none or some of what it stands in; a method's behind its type at least."""
@@ -77,25 +79,35 @@ def signature(lines, at):
     return "\n".join(lines[at:])
 
 
+def implemented(block):
+    """How proofs name a trait of a type, as `ScannedAnswer`: without the block's own parameters."""
+    own = {parameter.split(":")[0].strip() for parameter in (block[1] or "").split(",")}
+    words = [word for part in (block[3], block[2]) for word in re.findall(r"\w+", part) if word not in own]
+    return "".join(word[0].upper() + word[1:] for word in words)
+
+
 @functools.cache
 def items(file, text):
-    """All that a .rt or .rs file declares."""
+    """All that a .rt or .rs file declares. A method of a trait is as public as its type."""
     found = SOURCE.fullmatch(file)
     if not found:
         return []
     modules = () if found[2] in ("lib", "main") else tuple(found[2].split("/"))
-    where, owner, parts, listed = (found[1], *modules), None, False, []
+    where, owner, trait, parts, listed = (found[1], *modules), None, None, False, []
     lines = code(file, text).split("\n")
+    hidden = {item[4] for item in map(ITEM.match, lines) if item and item[3] in ("enum", "struct") and not item[2]}
     for number, line in enumerate(lines, 1):
         item, block = ITEM.match(line), IMPL.match(line)
         if line.startswith("}"):
-            owner, parts = None, False
+            owner, trait, parts = None, None, False
         elif block:
-            owner = block[1]
+            owner = block[4].rpartition("::")[2]
+            trait = implemented(block) if block[2] and owner not in hidden else None
         elif item:
             inside = (owner,) if owner and item[1] else ()
             head = signature(lines, number - 1) if item[3] == "fn" else None
-            listed.append(Item((*where, *inside, item[4]), file, number, bool(item[2]), owner if inside else None, head))
+            of_trait = trait if inside and head else None
+            listed.append(Item((*where, *inside, item[4]), file, number, bool(item[2] or of_trait), owner if inside else None, head, of_trait))
             if item[3] in ("enum", "struct") and line.endswith("{"):
                 owner, parts = item[4], True
         elif parts and (part := PART.match(line)):

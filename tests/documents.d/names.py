@@ -12,7 +12,7 @@ PROMISES, DIFFERENCES, WRAPPER, HEADER = "docs/PROMISES.md", "docs/DIFFERENCES.m
 # Names that are neither ours nor the Rust's, by the reason why a document has them.
 OTHERS = {
     "a tool or a package of a machine": "cargo cc rt rustc rustc-web sqlite3 valgrind qemu-user libllvm22 libstd-rust-web-dev",
-    "a word or a function of Rattle, of Rust or of C": "requires data f64 f64::from_bits to_bits nanosleep memcpy memset",
+    "a word or a function of Rattle, of Rust or of C": "requires data f64 f64::from_bits f64_from_bits_with_nan to_bits nanosleep memcpy memset",
     "the kit's own": "toBits Post os::fail",
     "put together by the bench": "small-blocks exact-high-of-510-columns",
 }

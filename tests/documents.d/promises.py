@@ -12,7 +12,7 @@ LIBRARY = {"phsarodil", "listing"}
 # The crate of the archive, which has the calls of the other once more.
 ARCHIVE, CALLS = "phsarodil_c", "phsarodil"
 READS = re.compile(r"^use Rattle\.(\w+)\.proofs\.([\w.]+)\.Reads as (\S+)$", re.M)
-CLAIM = re.compile(r"^\S.* : (?:Fixes|FixesSeen) (\S+)\.Post\b(.*(?:\n    .*)*)", re.M)
+CLAIM = re.compile(r"^\S.* (?::|→) (?:Fixes|FixesSeen) \(?([^\s(]+)\.Post\b(.*(?:\n    .*)*)", re.M)
 
 
 def said_of(tree, crate):
@@ -92,7 +92,7 @@ def claims(text):
 
 def fixed_by(tree, function):
     unique = f"crates/{crate_of(function.file)}/proofs/Unique.antt"
-    return claims(tree.files.get(unique, "")).get(function.path, set())
+    return claims(tree.files.get(unique, "")).get(function.proof, set())
 
 
 def check_answers_fixed(tree):

@@ -10,6 +10,7 @@ README, PROMISES, VARINT, HEADER = "README.md", "docs/PROMISES.md", "crates/reco
 ROW = "\n## `record`\n\n| Call | Definition | Edits |\n|---|---|---|\n| {} | {} | {} |\n"
 EDIT = "# none\nfile: src/varint.rt\nold: {}\nnew: none\n"
 METHOD = "\nimpl Cursor {\n    pub fn none(self) -> u64 {\n        0\n    }\n}\n"
+OF_A_TRAIT = "\nimpl Answer for Cursor {\n    fn none(self) -> u64 {\n        0\n    }\n}\n"
 ASKING = "\npub fn none(x: u64) -> u64\n    requires { x ≡ 0 }\n{\n    x\n}\n"
 FOR_C = '\npub extern "C" fn phs_none() -> u64 {\n    0\n}\n'
 
@@ -59,12 +60,18 @@ WRONG = [
     (promises.check_edits_apply, "crates/record/must-fail/not_once.edit", EDIT.format("fn "), "times in crates/record/src/varint.rt"),
     (promises.check_requires, VARINT, ASKING, "`none` has a requires"),
     (promises.check_answers_fixed, VARINT, METHOD, "`Cursor::none`: no theorem"),
+    (promises.check_answers_fixed, VARINT, OF_A_TRAIT, "`Cursor::none`: no theorem"),
+    (promises.check_answers_fixed, "crates/scan/proofs/Unique.antt", replacing(r"scanned-number\.Post", "scanned-written.Post"),
+     "`Scanned::number`: no theorem", "crates/scan/src/schema_sig.rt"),
+    (promises.check_answers_fixed, "crates/sheet/proofs/Unique.antt", replacing(r"Fixes \(answer-number", "Fixes (answer-written"),
+     "`Result::number`: no theorem", "crates/sheet/src/answer.rt"),
     (promises.check_answers_fixed, "crates/record/proofs/Unique.antt", replacing(r"s\. r\.now\)", "s. r.len)"),
      "`Entry::view`: no theorem", "crates/record/src/entry.rt"),
     (promises.check_lists_fixed, VARINT, "\npub fn none(list: &mut [u64]) {\n}\n", "fixes `list` at exit"),
     (promises.check_lists_fixed, "crates/scan/proofs/Unique.antt", replacing(r"s(\.1){4}\.0\.now", "s.0.now"),
      "fixes `rows` at exit", "crates/scan/src/schema_sig.rt"),
     (promises.check_promised, VARINT, METHOD, "`Cursor::none` is not named"),
+    (promises.check_promised, VARINT, OF_A_TRAIT, "`Cursor::none` is not named"),
     (promises.check_archive, "crates/phsarodil_c/src/version.rt", FOR_C, "`phs_none` is no call"),
     (promises.check_archive, "crates/phsarodil_c/src/learned.rt", replacing("learned_filling region", "learned_filling types"),
      "`phs_carve_unallocated` is no call"),

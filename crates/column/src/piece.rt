@@ -9,7 +9,7 @@ use crate::declared::sql_type_to_hint;
 use sheet::hint::{INTEGER, NULL};
 use words::inner::keywords::{begins, holds_word, is_word};
 use words::runs::{Run, before_first, leading};
-use words::words::{trimmed, word_behind};
+use words::words::{second_word, trimmed, word_behind};
 
 // What a constraint of a table begins with.
 const CONSTRAINTS: [&[u8]; 5] = [b"PRIMARY", b"UNIQUE", b"CHECK", b"FOREIGN", b"CONSTRAINT"];
@@ -79,11 +79,11 @@ fn key_hint(column: &[u8]) -> u8
     }
 }
 
-#[tactic(auto, using(words::proofs::Laws::second_behind), unfolding(crate::specs::Column::column_hint))]
+#[tactic(auto, unfolding(crate::specs::Column::column_hint))]
 fn column_hint(reading: Reading, column: &[u8]) -> u8
     ensures { result ≡ column_hint reading column.now }
 {
-    let kind = word_behind(column, 1);
+    let kind = second_word(column);
     match reading {
         Reading::ByFormat if is_word(kind, b"INTEGER") && is_keyed(column) => key_hint(column),
         _ => sql_type_to_hint(kind),

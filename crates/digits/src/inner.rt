@@ -10,6 +10,16 @@ pub const MOST_DIGITS: usize = 20;
 // The digits of a confidence.
 pub const HEX_DIGITS: usize = 8;
 
+// Byte by byte: most texts are a digit or a comma, and the library's copy is a call.
+fn copy(from: &[u8], to: &mut [u8])
+    requires { length to.old ≡ length from.now }
+    ensures { to.new ≡ from.now }
+{
+    for i in 0..from.len() {
+        to[i] = from[i];
+    }
+}
+
 #[derive(Drop)]
 pub struct Text<'a> {
     pub bytes: &'a mut [u8],
@@ -31,7 +41,7 @@ impl<'a> Text<'a> {
         ensures { Puts self.old bytes.now self.new }
     {
         let end = self.len + bytes.len();
-        self.bytes[self.len..end].copy_from_slice(bytes);
+        copy(bytes, &mut self.bytes[self.len..end]);
         self.len = end;
     }
 

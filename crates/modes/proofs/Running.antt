@@ -9,7 +9,7 @@ use native.Mathlib.Omega.{arith}
 use borrow.Author.Tests.{le-leb, lt-leb}
 use lib.ListN.{length}
 use Rattle.modes.specs.Found.{Found, Tried, miss, hit, end_of, found_hit, found_hits}
-use Rattle.modes.specs.Inner.{found_in, HitIs, TriedIs, TriedFits, tried_hits, Ready, Fitting}
+use Rattle.modes.specs.Inner.{found_in, HitIs, TriedIs, TriedFits, tried_hits, Ready, Adding}
 use Rattle.modes.specs.Modes.{columns_only, listed, or_else, headless_in, columns_only_in, first_col_missing_in, normal_at, normal_from, normal_found, headless_found, modes_found}
 use Rattle.modes.specs.declared.inner.Find.{Find}
 use Rattle.modes.proofs.Bodies.{end_inside}
@@ -66,7 +66,7 @@ module _ (s : List ℕ) (base columns : ℕ) (s₀ : Sheet) where
     pub normals_width : s'.width ≡ s₀.width
     normals_width = w.carving.added.width
 
-    pub normals_fitting : Ready (length s) base s₀ → (x : Find) → HitIs s s₀.width (normal_at s s₀.width o) x → Fitting s x base s'
+    pub normals_fitting : Ready (length s) base s₀ → (x : Find) → HitIs s s₀.width (normal_at s s₀.width o) x → Adding s x base s'
     normals_fitting r x f = record { ready = ready_then (length s) base w.carving.done s₀ s' r w.carving.added; fits = rw normals_width f.fits }
 
     ends : normal_from w.fuel s columns o ≡ [] → Adds all false s₀ (on s'.n) s'

@@ -1,13 +1,13 @@
 -- What the code carries between its own functions; nothing that a caller has to believe.
 -- Assumes nothing.
-use Rattle.std.specs.Prelude.{ℕ, zero, suc, ◌+◌, ◌≤◌, ◌≡◌, Bool, List, [], ◌∷◌, length, Option, None, Some}
+use Rattle.std.specs.Prelude.{ℕ, zero, suc, ◌+◌, ◌*◌, ◌≤◌, ◌≡◌, Bool, List, [], ◌∷◌, length, Option, None, Some}
 use Rattle.modes.specs.Found.{Types, cut, read, Found, Tried, miss, hit, found_hit}
 use Rattle.modes.specs.declared.inner.Find.{Find}
 use Rattle.modes.specs.declared.inner.TypesRead.{TypesRead}
 use Rattle.record.specs.Varint.{Varint, varint_at}
 use Rattle.sheet.specs.Columns.{room_of}
 use Rattle.sheet.specs.Hits.{Hit}
-use Rattle.sheet.specs.Limits.{most_columns, largest_region, largest_base}
+use Rattle.sheet.specs.Limits.{words_per_row, words_per_entry, most_columns, largest_region, largest_base}
 use Rattle.sheet.specs.declared.inner.Sheet.{Sheet}
 
 -- the types that were read, and p, their mark
@@ -68,8 +68,16 @@ pub record Ready (len base : ℕ) (sheet : Sheet) : Type 0 where
   pub room_most : sheet.room ≤ room_of (length sheet.rows.now) (length sheet.cols.now) sheet.width
   pub fits : sheet.n ≤ sheet.room
 
--- a row that may be added to it
+-- a row that fits, and its words on a sheet
 pub record Fitting (s : List ℕ) (x : Find) (base : ℕ) (sheet : Sheet) : Type 0 where
+  pub small : length s ≤ largest_region
+  pub near : base ≤ largest_base
+  pub fits : FindFits s sheet.width x
+  pub row : sheet.n * words_per_row + words_per_row ≤ length sheet.rows.now
+  pub group : sheet.n * (words_per_entry * sheet.width) + words_per_entry * sheet.width ≤ length sheet.cols.now
+
+-- a row that may be added to one, if there is room
+pub record Adding (s : List ℕ) (x : Find) (base : ℕ) (sheet : Sheet) : Type 0 where
   pub ready : Ready (length s) base sheet
   pub fits : FindFits s sheet.width x
 

@@ -7,7 +7,7 @@ ghost use Rattle.sheet.specs.Hits.{FillsRows, row_outcome};
 ghost use Rattle.sheet.specs.Inner.{told_by, Adds};
 ghost use Rattle.sheet.specs.Limits.{largest_region};
 
-use crate::inner::{Find, Style, put_find, read_types};
+use crate::inner::{Find, Style, add_find, read_types};
 use record::varint::Cursor;
 use sheet::columns::room;
 use sheet::filled::Filled;
@@ -103,7 +103,7 @@ fn carve_one(bytes: &[u8], tried: Option<Find>, base: u64, sheet: &mut Sheet<'_>
     ensures { Adds (tried_hits bytes.now base tried) false sheet.old (told_by result sheet.new) sheet.new }
 {
     if let Some(find) = tried {
-        put_find(bytes, find, base, sheet)?;
+        add_find(bytes, find, base, sheet)?;
     }
     Some(())
 }
@@ -119,7 +119,7 @@ fn carve_normal(bytes: &[u8], base: u64, sheet: &mut Sheet<'_>) -> Option<()>
         let Some(find) = try_carve_normal(bytes, sheet.width, o) else {
             break;
         };
-        o = put_find(bytes, find, base, sheet)?;
+        o = add_find(bytes, find, base, sheet)?;
     }
     Some(())
 }

@@ -2,7 +2,7 @@
 ghost use Rattle.std.specs.Prelude.{◌≡◌, false, [], ◌∷◌, ◌+◌, ◌*◌, ◌≤◌, ◌<◌, length};
 ghost use Rattle.std.proofs.lemmas.List.Edits.{sets};
 ghost use Rattle.modes.specs.Found.{types_from, column_at, behind as behind_of, columns_from, end_from, lost_columns, end_of, found_hit};
-ghost use Rattle.modes.specs.Inner.{kinds_at, TypesAre, found_in, Fitting, EndsAt};
+ghost use Rattle.modes.specs.Inner.{kinds_at, TypesAre, found_in, Fitting, Adding, EndsAt};
 ghost use Rattle.record.specs.Places.{types_padded};
 ghost use Rattle.sheet.specs.Inner.{told_by, Adds, PutsOne};
 ghost use Rattle.sheet.specs.Limits.{words_per_entry, largest_region};
@@ -139,23 +139,9 @@ fn put_lost(cols: &mut [u64], at: usize, lost: usize)
     }
 }
 
-// Adds a row, and answers where its last body ends; none if there is no room.
-pub fn put_find(bytes: &[u8], find: Find, base: u64, sheet: &mut Sheet<'_>) -> Option<usize>
-    requires { Fitting bytes.now find base sheet.old }
-    ensures end { EndsAt (end_of (length bytes.now) (found_in bytes.now find)) result }
-    ensures row { Adds (found_hit (length bytes.now) base (found_in bytes.now find) ∷ []) false sheet.old
-        (told_by result sheet.new) sheet.new }
-{
-    if sheet.n >= sheet.room {
-        return None;
-    }
-    Some(write_find(bytes, find, base, sheet))
-}
-
 // Writes a row for which there is room, and answers where its last body ends.
-fn write_find(bytes: &[u8], find: Find, base: u64, sheet: &mut Sheet<'_>) -> usize
-    requires fitting { Fitting bytes.now find base sheet.old }
-    requires room { sheet.old.n < sheet.old.room }
+pub fn put_find(bytes: &[u8], find: Find, base: u64, sheet: &mut Sheet<'_>) -> usize
+    requires { Fitting bytes.now find base sheet.old }
     ensures end { result ≡ end_of (length bytes.now) (found_in bytes.now find) }
     ensures row { PutsOne (found_hit (length bytes.now) base (found_in bytes.now find)) sheet.old sheet.new }
 {
@@ -186,4 +172,17 @@ fn write_find(bytes: &[u8], find: Find, base: u64, sheet: &mut Sheet<'_>) -> usi
     put_row(sheet.rows, n, row);
     sheet.n = n + 1;
     end
+}
+
+// Adds a row, and answers where its last body ends; none if there is no room.
+pub fn add_find(bytes: &[u8], find: Find, base: u64, sheet: &mut Sheet<'_>) -> Option<usize>
+    requires { Adding bytes.now find base sheet.old }
+    ensures end { EndsAt (end_of (length bytes.now) (found_in bytes.now find)) result }
+    ensures row { Adds (found_hit (length bytes.now) base (found_in bytes.now find) ∷ []) false sheet.old
+        (told_by result sheet.new) sheet.new }
+{
+    if sheet.n >= sheet.room {
+        return None;
+    }
+    Some(put_find(bytes, find, base, sheet))
 }

@@ -2,23 +2,21 @@
 -- Assumes nothing.
 use Prim.Native.Nat.{ℕ, min, ◌+◌, ◌-◌, ◌≤◌, ◌<◌}
 use mathlib.Core.Path.{◌≡◌, refl, sym, ap, ◌∙◌}
-use mathlib.Core.Bool.{true, false, cond, not, ◌||◌, and-eq-true_iff}
-use mathlib.Core.List.{List, [], ◌∷◌, ◌++◌, map, append-nil, append_assoc}
+use mathlib.Core.Bool.{true, false, cond, not, and-eq-true_iff}
+use mathlib.Core.List.{List, [], ◌∷◌, ◌++◌, append-nil, append_assoc}
 use native.Mathlib.Omega.{arith}
 use borrow.Author.Tests.{lt-ltb, le-ltb, le-leb, lt-leb, leb-true, leb-false}
-use lib.Dec.{leb, eqb}
+use lib.Dec.{leb}
 use lib.ListN.{length, take, drop, length-append}
 use Rattle.std.proofs.lemmas.List.{take-take, take_min, length-take}
 use lib.Seq.{sets, set_out, take_all, take-nil, take-append_seam, take-append-le, length-take-le}
 use Rattle.readings.specs.Statement.{between, unlisted, all_hints, hints_of, statement_checks, statement_filling}
-use Rattle.std.specs.Prelude.{Option, Some, None, Result, Ok, Err}
-use Rattle.std.specs.List.{slice_split, onto_first, filter_map, cons_option}
-use Rattle.column.specs.Inner.{given_hints}
-use Rattle.column.specs.Column.{is_dropped, piece_hints}
+use Rattle.std.specs.Prelude.{Result, Ok, Err}
+use Rattle.column.specs.Column.{piece_hints}
 use Rattle.column.specs.declared.piece.Reading.{Reading}
 use Rattle.words.specs.Inner.{Kept, PieceEnds, pieces_from}
 use Rattle.words.specs.Runs.{is_not, has, behind_first, before_last}
-use Rattle.words.specs.Words.{comma, opening, closing, trim, into_first, pieces}
+use Rattle.words.specs.Words.{opening, closing, trim, pieces}
 use Rattle.words.proofs.Laws.{behind_has, kept_has, kept_before, pieces_none}
 use Rattle.sheet.specs.Filled.{laid, list_outcome, FillsList}
 use Rattle.sheet.specs.Limits.{most_columns, largest_statement, count_fits}
@@ -31,47 +29,15 @@ use Rattle.record.proofs.Numbers.{by_test}
 use Rattle.sheet.proofs.Laws.{overlay_length, overlay_more}
 use Rattle.sheet.proofs.Filling.{list_refused, list_filled}
 
--- ---- the pieces that std's `split` gives, and the hints that it leaves of them
-onto_into : (b : ℕ) (ps : List (List ℕ)) → onto_first b ps ≡ into_first b ps
-onto_into b [] = refl
-onto_into b (p ∷ ps) = refl
+-- ---- the hints of the pieces from a place on
+pub hints_next : (reading : Reading) {s : List ℕ} {at e : ℕ} → PieceEnds s at e →
+    all_hints reading (pieces_from s at) ≡ piece_hints reading (trim (take (e - at) (drop at s))) ++ all_hints reading (pieces_from s (e + 1))
+unfolding all_hints
+hints_next reading p = rw p.next
 
-pieces_split : (s : List ℕ) → slice_split (λ b. eqb b comma) s ≡ pieces s
-unfolding pieces
-pieces_split [] = refl
-pieces_split (b ∷ s) = rw (pieces_split s, onto_into)
-
--- the hint of a piece that gives one
-pub first_hint : List ℕ → Option ℕ
-first_hint [] = None
-first_hint (h ∷ hs) = Some h
-
-pub given_first : (r : Option ℕ) {hs : List ℕ} → given_hints r ≡ hs → r ≡ first_hint hs
-unfolding first_hint
-given_first None e = rw (← e)
-given_first (Some h) e = rw (← e)
-
-module _ (reading : Reading) where
-  abbrev pub piece_first : List ℕ → Option ℕ
-  piece_first p = first_hint (piece_hints reading (trim p))
-
-  one_piece : (p : List ℕ) (hs : List ℕ) → cons_option (piece_first p) hs ≡ piece_hints reading (trim p) ++ hs
-  unfolding first_hint piece_hints
-  one_piece p hs =
-      by_test (eqb (length (trim p)) 0 || is_dropped reading (trim p)) (λ t. rw t) (λ f. rw f)
-
-  filtered : (ps : List (List ℕ)) → filter_map piece_first ps ≡ all_hints reading ps
-  unfolding all_hints
-  filtered [] = refl
-  filtered (p ∷ ps) = one_piece p (filter_map piece_first ps) ∙ rw (filtered ps)
-
-  -- THE LAW: they are those of the definition
-  pub split_hints : (s : List ℕ) → filter_map piece_first (slice_split (λ b. eqb b comma) s) ≡ all_hints reading (pieces s)
-  split_hints s = rw (pieces_split s) (filtered (pieces s))
-
-pub map_same : (s : List ℕ) → map (λ x. x) s ≡ s
-map_same [] = refl
-map_same (b ∷ s) = ap (λ t. b ∷ t) (map_same s)
+pub hints_none : (reading : Reading) (s : List ℕ) (at : ℕ) → length s < at → all_hints reading (pieces_from s at) ≡ []
+unfolding all_hints
+hints_none reading s at h = rw (pieces_none s at h)
 
 -- ---- writing
 -- one hint more, or none, where there is room for it
@@ -91,10 +57,33 @@ laid_more (v ∷ []) first old one =
     (set_out (laid first old) (length first) v (omega (arith, overlay_length (take room first) old (omega arith)))))
 laid_more (v ∷ w ∷ vs) first old one = absurd (omega arith)
 
--- so the hints that came lie over what the list held, and one more does, if there is room for it
-pub one_more : (v : ℕ) (first old : List ℕ) {hints new : List ℕ} {n : ℕ} → hints ≡ laid first old → n ≡ length first → new ≡ sets hints n (v ∷ []) →
-    new ≡ laid (first ++ (v ∷ [])) old
-one_more v first old lies count put = rw (put, lies, count) (laid_more (v ∷ []) first old (omega arith))
+-- n of all the hints lie over what the list held, as many as fit, and the rest is to come
+pub record Written (all rest old hints : List ℕ) (n : ℕ) : Type 0 where
+  pub first : List ℕ
+  pub whole : all ≡ first ++ rest
+  pub count : length first ≡ n
+  pub lies : hints ≡ laid first old
+
+pub written_none : (all old : List ℕ) → Written all all old old 0
+written_none all old = record { first = []; whole = refl; count = refl; lies = rw take-nil }
+
+module _ {all rest old hints : List ℕ} {n : ℕ} where
+  pub written_more : (vs : List ℕ) {new : List ℕ} {m : ℕ} → length vs ≤ 1 → m ≡ n + length vs → new ≡ sets hints n vs →
+      Written all (vs ++ rest) old hints n → Written all rest old new m
+  written_more vs h e put w =
+      let l = w.count in
+      record {
+        first = w.first ++ vs;
+        whole = w.whole ∙ sym (append_assoc w.first vs rest);
+        count = length-append w.first vs ∙ rw (l, e);
+        lies = rw (put, w.lies, ← l) (laid_more vs w.first old h);
+      }
+
+  -- THE LAW: where no more are to come, all of them lie in it
+  pub written_all : rest ≡ [] → Written all rest old hints n → (n ≡ length all) × (hints ≡ laid all old)
+  written_all r w =
+      let whole : all ≡ w.first = w.whole ∙ rw r (append-nil w.first) in
+      rw whole (sym w.count, w.lies)
 
 -- where there is room for all, the first cells hold them
 pub taken : (all old : List ℕ) {found : List ℕ} {n : ℕ} → found ≡ laid all old → n ≡ length all → n ≤ length old → take n found ≡ all

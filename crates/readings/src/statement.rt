@@ -10,23 +10,26 @@ use sheet::filled::Filled;
 use sheet::hint::{ANY, hint_count_fits};
 use sheet::refusal::Refusal;
 use sheet::{LARGEST_STATEMENT, MOST_COLUMNS};
+use words::inner::pieces::piece_end;
 use words::runs::{Run, behind_first, kept};
 
-// Writes as many hints as there is room for, and counts them all.
+// Writes as many hints as there is room for, and counts them all. No `split`, since that looks at each byte by itself, and commas are rare.
 fn read_hints(reading: Reading, columns: &[u8], hints: &mut [u8]) -> usize
     ensures value { result ≡ length (all_hints reading (pieces columns.now)) }
     ensures list { hints.new ≡ laid (all_hints reading (pieces columns.now)) hints.old }
 {
+    let mut at = 0;
     let mut n = 0;
-    for hint in columns
-        .split(|byte| *byte == b',')
-        .filter_map(|piece| piece_hint(reading, piece))
-    {
-        // A hint too many is only counted.
-        if n < hints.len() {
-            hints[n] = hint;
+    while at <= columns.len() {
+        let end = piece_end(columns, at);
+        if let Some(hint) = piece_hint(reading, &columns[at..end]) {
+            // A hint too many is only counted.
+            if n < hints.len() {
+                hints[n] = hint;
+            }
+            n += 1;
         }
-        n += 1;
+        at = end + 1;
     }
     n
 }

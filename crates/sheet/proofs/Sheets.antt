@@ -2,10 +2,12 @@
 -- Assumes nothing.
 use Rattle.std.specs.Prelude.{◌≤◌, ◌<◌, ◌≡◌, refl, Bool, false, List, [], ◌∷◌, ◌++◌, length}
 use mathlib.Core.Path.{◌∙◌}
+use native.Mathlib.Omega.{arith}
+use lib.ListN.{length-append}
 use Rattle.sheet.specs.Hits.{Hit}
 use Rattle.sheet.specs.Inner.{Told, on, over, PutsOne, Adds}
 use Rattle.sheet.specs.declared.inner.Sheet.{Sheet}
-use Rattle.sheet.proofs.Carving.{carves_none, carves_one, carves_over, carves_more, carves_stop}
+use Rattle.sheet.proofs.Carving.{carves_none, carves_one, carves_over, carves_more, carves_stop, told_over}
 
 -- ---- no hit, and one
 pub adds_none : (s : Sheet) → s.n ≤ s.room → Adds [] false s (on s.n) s
@@ -15,16 +17,18 @@ adds_none s h =
       cols_kept = refl;
       width = refl;
       room = refl;
+      n = omega (arith, h);
       carves = carves_none s.width s.room s.n s.rows.now s.cols.now h;
     }
 
-pub adds_over : (s : Sheet) (h : Hit) → s.room ≤ s.n → Adds (h ∷ []) false s over s
-adds_over s h full =
+pub adds_over : (s : Sheet) (h : Hit) → s.n ≤ s.room → s.room ≤ s.n → Adds (h ∷ []) false s over s
+adds_over s h fits full =
     record {
       rows_kept = refl;
       cols_kept = refl;
       width = refl;
       room = refl;
+      n = omega (arith, fits, full);
       carves = carves_over s.width s.room s.n s.rows.now s.cols.now h full;
     }
 
@@ -35,6 +39,7 @@ adds_one s s' h lt narrow x =
       cols_kept = x.cols_kept;
       width = x.width;
       room = x.room;
+      n = omega (arith, x.n, lt);
       carves = rw x.n (carves_one s.width s.room s.n s.rows.now s.cols.now h s'.rows.now s'.cols.now lt narrow x.rows x.cols);
     }
 
@@ -46,6 +51,7 @@ adds_more a b s m e stopped r x y =
       cols_kept = y.cols_kept ∙ x.cols_kept;
       width = y.width ∙ x.width;
       room = y.room ∙ x.room;
+      n = omega (arith, x.n, y.n, x.room, length-append a b);
       carves =
           let c = rw (x.width, x.room) at y.carves in
           carves_more s.width s.room s.n a b s.rows.now s.cols.now m.rows.now m.cols.now m.n stopped r e.rows.now e.cols.now x.carves c;
@@ -59,6 +65,7 @@ adds_stop a b s e stopped stopped' x =
       cols_kept = x.cols_kept;
       width = x.width;
       room = x.room;
+      n = omega (arith, x.n, length-append a b, told_over s.room s.n (length a) stopped x.carves.answer);
       carves = carves_stop s.width s.room s.n a b s.rows.now s.cols.now e.rows.now e.cols.now stopped stopped' x.carves;
     }
 

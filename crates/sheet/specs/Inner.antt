@@ -1,6 +1,6 @@
 -- What code that carves carries between its own functions; nothing that a caller has to believe.
 -- Assumes nothing.
-use Rattle.std.specs.Prelude.{ℕ, ◌+◌, ◌-◌, ◌*◌, ◌≡◌, Bool, cond, List, leb, length, take, Option, Some, None, Ok}
+use Rattle.std.specs.Prelude.{ℕ, ◌+◌, ◌-◌, ◌*◌, ◌≡◌, Bool, cond, List, leb, min, length, take, Option, Some, None, Ok}
 use Rattle.std.proofs.lemmas.List.Edits.{sets}
 use Rattle.sheet.specs.Columns.{room_of}
 use Rattle.sheet.specs.Filled.{filled_by}
@@ -66,6 +66,8 @@ pub record Adds (hs : List Hit) (stopped : Bool) (old : Sheet) (r : Told) (new :
   pub cols_kept : new.cols.ghost_name ≡ old.cols.ghost_name
   pub width : new.width ≡ old.width
   pub room : new.room ≡ old.room
+  -- so many stand on it then, whatever it came to
+  pub n : new.n ≡ min old.room (old.n + length hs)
   pub carves : Carves old.width old.room old.n hs stopped old.rows.now old.cols.now r new.rows.now new.cols.now
 
 -- ---- a call whose checks have passed

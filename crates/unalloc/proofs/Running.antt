@@ -10,7 +10,7 @@ use lib.ListN.{length}
 use Rattle.modes.proofs.Bodies.{end_inside}
 use Rattle.modes.proofs.Carving.{ready_then, Carving, carving_start, carving_as, carving_done, carving_over, carving_one}
 use Rattle.modes.specs.Found.{Found, miss, hit, end_of, found_hit, found_hits}
-use Rattle.modes.specs.Inner.{found_in, HitIs, Ready, Fitting}
+use Rattle.modes.specs.Inner.{found_in, HitIs, Ready, Adding}
 use Rattle.modes.specs.declared.inner.Find.{Find}
 use Rattle.sheet.specs.Hits.{Hit}
 use Rattle.sheet.specs.Inner.{on, over, Adds}
@@ -59,7 +59,7 @@ module _ (s ls : List ℕ) (base : ℕ) (s₀ : Sheet) where
     abbrev later : List Hit
     later = found_hits (length s) base (rows_from w.fuel s ls o)
 
-    pub rows_fitting : Ready (length s) base s₀ → s₀.width ≡ length ls → (x : Find) → HitIs s (length ls) (attempt_at s ls o) x → Fitting s x base s'
+    pub rows_fitting : Ready (length s) base s₀ → s₀.width ≡ length ls → (x : Find) → HitIs s (length ls) (attempt_at s ls o) x → Adding s x base s'
     rows_fitting r e x f =
         record {
           ready = ready_then (length s) base w.carving.done s₀ s' r w.carving.added;

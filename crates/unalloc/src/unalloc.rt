@@ -10,7 +10,7 @@ ghost use Rattle.unalloc.specs.Inner.{Headed, ReadingIs};
 ghost use Rattle.unalloc.specs.Learned.{is_integer, is_text, is_blob, matches, learned_style, is_there, attempt_at, rows_found};
 ghost use Rattle.unalloc.specs.Learned.{learned_filling};
 
-use modes::inner::{Find, Style, behind, column_at, put_find};
+use modes::inner::{Find, Style, add_find, behind, column_at};
 use record::varint::Cursor;
 use sheet::MOST_HEADER;
 use sheet::columns::{Column, room};
@@ -171,7 +171,7 @@ fn carve_rows(region: &[u8], types: &[u64], base: u64, sheet: &mut Sheet<'_>) ->
     let mut o: usize = 0;
     while o + least <= region.len() {
         o = match try_at(region, types, o) {
-            Some(find) => put_find(region, find, base, sheet)?,
+            Some(find) => add_find(region, find, base, sheet)?,
             None => o + 1,
         };
     }

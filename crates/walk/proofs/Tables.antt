@@ -29,6 +29,7 @@ adds_stopped hs s e x =
       cols_kept = x.cols_kept;
       width = x.width;
       room = x.room;
+      n = x.n;
       carves = record { answer = rw t.1 (simp (le-leb (s.n + length hs) s.room t.0)); puts = x.carves.puts };
     }
 

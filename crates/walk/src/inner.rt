@@ -14,8 +14,8 @@ pub struct Overflow;
 // Page numbers that are still to be popped, in the first `top` cells of a lent list.
 #[derive(Drop)]
 pub struct Stack<'a> {
-    pages: &'a mut [u64],
-    top: usize,
+    pub pages: &'a mut [u64],
+    pub top: usize,
 }
 
 impl<'a> Stack<'a> {

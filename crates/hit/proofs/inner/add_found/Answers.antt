@@ -6,7 +6,7 @@ use Rattle.sheet.proofs.Sheets.{adds_over}
 use Rattle.hit.proofs.inner.add_found.Goals as goal
 
 pub returns-then-sheet : goal.returns-then-sheet
-returns-then-sheet c = adds_over c.args.sheet.now _ c.if-sheet.true
+returns-then-sheet c = adds_over c.args.sheet.now _ c.requires.ready.space.fits c.if-sheet.true
 
 pub put_hit-requires : goal.put_hit-requires
 put_hit-requires c =

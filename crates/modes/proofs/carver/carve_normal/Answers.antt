@@ -14,8 +14,8 @@ loop-o-init c = normals_start _ _ _ _ c.requires.fits
 found : (c : In-Some) → HitIs c.args.bytes.now c.args.sheet.now.width (normal_at c.args.bytes.now c.args.sheet.now.width c.loop-o.o) c.in-Some.find
 found c = rw (normals_width _ _ _ _ _ _ c.loop-o.invariant) at (rw c.in-Some.is at c.try_carve_normal.ensures)
 
-pub put_find-requires : goal.put_find-requires
-put_find-requires c = normals_fitting _ _ _ _ _ _ c.loop-o.invariant c.requires _ (found (goal.at.put_find-requires c).In-Some)
+pub add_find-requires : goal.add_find-requires
+add_find-requires c = normals_fitting _ _ _ _ _ _ c.loop-o.invariant c.requires _ (found (goal.at.add_find-requires c).In-Some)
 
 pub returns-in_err-o : goal.returns-in_err-o
 returns-in_err-o c =

@@ -1,43 +1,39 @@
--- `readings::statement::read_hints` meets its contract: the hints that come are those of the definition, one by one.
+-- `readings::statement::read_hints` meets its contract: a piece gives one hint more, or none.
 -- Assumes nothing.
-use Rattle.std.proofs.Common.{◌≡◌, ◌∙◌, sym, ap, rules}
+use mathlib.Core.Path.{refl, sym, ◌∙◌}
+use mathlib.Core.List.{[], ◌∷◌}
 use native.Mathlib.Omega.{arith}
-use lib.ListN.{length, length-append}
 use lib.Seq.{set_out}
-use borrow.Author.Tests.{tests}
-use Rattle.std.specs.Prelude.{◌==◌}
-use Rattle.std.proofs.lemmas.Iterator.Consumers.{YieldsList-at, YieldsList-from_filter_map, YieldsList-end}
-use Rattle.std.proofs.lemmas.Iterator.Splits.{YieldsList-from_slice_split}
-use Rattle.readings.specs.Statement.{all_hints}
-use Rattle.words.specs.Words.{comma, pieces}
-use Rattle.readings.proofs.StatementLaws.{one_more, piece_first, split_hints, given_first, map_same}
+use Rattle.readings.proofs.StatementLaws.{hints_next, hints_none, written_none, written_more, written_all}
+use Rattle.words.proofs.Laws.{pieces_start}
 use Rattle.readings.proofs.statement.read_hints.Goals as goal
-use Rattle.readings.proofs.statement.read_hints.Goals.{then-n-hints, else-n-hints, In-None}
+use Rattle.readings.proofs.statement.read_hints.Goals.{in-Some, then-n-hints, else-n-hints, in_default}
 
-came : (c : In-None) → c.loop-hint.yielded ≡ all_hints c.args.reading (pieces c.args.columns.now)
-came c =
-    let all = YieldsList-end
-    (YieldsList-at c.into_iter-hint-iterator.ensures.into_iter_gives
-    (YieldsList-from_filter_map _ (piece_first c.args.reading)
-    (YieldsList-at c.filter_map-hint-items.ensures.source
-    (YieldsList-from_slice_split _ (λ b. b == comma) c.args.columns.now c.split.ensures.rest c.split.ensures.done c.split.ensures.closure (λ x b q k. search (rules, tests))))
-    c.filter_map-hint-items.ensures.closure (λ x r q k. (search rules, given_first r (search rules)))))
-    c.loop-hint.yielded _ c.loop-hint.yielded_by _ _ c.in-None.is c.next.ensures.steps in
-    sym (map_same c.loop-hint.yielded) ∙ all.0 ∙ split_hints c.args.reading c.args.columns.now
+pub loop-at-init : goal.loop-at-init
+loop-at-init c = record { same = refl; few = omega arith; written = rw pieces_start (written_none _ _) }
 
-pub loop-hint-preserved : goal.loop-hint-preserved
-loop-hint-preserved c = record {
-  same = c.if-n-hints.auto.hints ∙ c.loop-hint.invariant.same;
-  count = rw length-append (omega (arith, c.loop-hint.invariant.count));
-  lies = one_more c.in-Some.hint c.loop-hint.yielded c.args.hints.now c.loop-hint.invariant.lies c.loop-hint.invariant.count (
-      elim c.if-n-hints.branch [
-        | then-n-hints w ↦ w.hints-is
-        | else-n-hints w ↦ w.hints-is ∙ sym (set_out _ _ _ w.if-n-hints.false)
-      ]);
-}
+pub loop-at-preserved : goal.loop-at-preserved
+loop-at-preserved c =
+    let i = c.loop-at.invariant in
+    let piece = c.piece_end-end.ensures.piece in
+    let hints = rw (hints_next _ piece, ← c.piece_hint.ensures) at i.written in
+    record {
+      same = c.match-piece_hint.auto.hints ∙ i.same;
+      few = elim c.match-piece_hint.branch [
+        | in-Some w ↦ omega (arith, w.n-is, i.few, piece.from)
+        | in_default w ↦ omega (arith, w.n-is, i.few, piece.from)
+      ];
+      written = elim c.match-piece_hint.branch [
+        | in-Some w ↦ written_more (w.in-Some.hint ∷ []) (omega arith) w.n-is (w.hints-is ∙ elim w.if-n-hints.branch [
+          | then-n-hints v ↦ v.hints-is
+          | else-n-hints v ↦ v.hints-is ∙ sym (set_out _ _ _ v.if-n-hints.false)
+        ]) (rw w.in-Some.is at hints)
+        | in_default w ↦ written_more [] (omega arith) (omega (arith, w.n-is)) w.hints-is (rw w.in_default.is at hints)
+      ];
+    }
 
 pub returns-clause-value : goal.returns-clause-value
-returns-clause-value c = c.loop-hint.invariant.count ∙ ap length (came c)
+returns-clause-value c = (written_all (hints_none _ _ _ c.loop-at-test.false) c.loop-at.invariant.written).0
 
 pub returns-clause-list : goal.returns-clause-list
-returns-clause-list c = c.loop-hint.invariant.lies ∙ rw (came c)
+returns-clause-list c = (written_all (hints_none _ _ _ c.loop-at-test.false) c.loop-at.invariant.written).1

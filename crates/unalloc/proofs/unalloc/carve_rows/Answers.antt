@@ -15,8 +15,8 @@ loop-o-init c = rows_start _ _ _ _ c.requires.ready.fits
 found : (c : In-Some) → HitIs c.args.region.now (length c.args.types.now) (attempt_at c.args.region.now c.args.types.now c.loop-o.o) c.in-Some.find
 found c = rw c.in-Some.is at c.try_at.ensures
 
-pub put_find-requires : goal.put_find-requires
-put_find-requires c = rows_fitting _ _ _ _ _ _ c.loop-o.invariant c.requires.ready c.requires.types _ (found (goal.at.put_find-requires c).In-Some)
+pub add_find-requires : goal.add_find-requires
+add_find-requires c = rows_fitting _ _ _ _ _ _ c.loop-o.invariant c.requires.ready c.requires.types _ (found (goal.at.add_find-requires c).In-Some)
 
 pub returns-in_err-o-in-Some : goal.returns-in_err-o-in-Some
 returns-in_err-o-in-Some c =

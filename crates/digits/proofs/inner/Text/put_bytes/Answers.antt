@@ -1,6 +1,6 @@
 -- `Text::put_bytes` meets its contract: bytes put in the place of as many are written there.
 -- Assumes nothing.
-use Rattle.std.proofs.Common.{◌≡◌, ℕ, ◌+◌, ◌-◌, ◌≤◌, List, length, ◌++◌, drop, take, refl, sym, ◌∙◌, append_assoc, arith}
+use Rattle.std.proofs.Common.{◌≡◌, ℕ, ◌+◌, ◌-◌, ◌≤◌, List, length, drop, take, refl, sym, ◌∙◌, append_assoc, arith}
 use Rattle.std.proofs.lemmas.List.Edits.{sets, sets-eq}
 use lib.Seq.{drop-drop, length-sets}
 use borrow.Rule.Slice.PartMut.{put_mid}
@@ -14,7 +14,7 @@ written l at vs room =
 pub returns : goal.returns
 returns c =
     let s = c.args.self.now in
-    let e = c.copy_from_slice.ensures.after in
+    let e = c.copy.ensures in
     let w = written s.bytes.now s.len c.args.bytes.now c.requires in
     record {
       put = record { written = rw e w; ends = refl };

@@ -12,7 +12,7 @@ LIBRARY = {"phsarodil", "listing"}
 # The crate of the archive, which has the calls of the other once more.
 ARCHIVE, CALLS = "phsarodil_c", "phsarodil"
 READS = re.compile(r"^use Rattle\.(\w+)\.proofs\.([\w.]+)\.Reads as (\S+)$", re.M)
-CLAIM = re.compile(r"^\S.* (?::|→) (?:Fixes|FixesSeen) \(?([^\s(]+)\.Post\b(.*(?:\n    .*)*)", re.M)
+CLAIM = re.compile(r"^\S.* : (?:(?:\([\w ]+ : _\) )+→ )?(?:Fixes|FixesSeen) \(?([^\s(]+)\.Post\b(.*(?:\n    .*)*)", re.M)
 
 
 def said_of(tree, crate):

@@ -1,5 +1,5 @@
 // Text that is written to the front of a lent buffer, one piece behind the other. Callers show by proof that there is room.
-ghost use Rattle.std.specs.Prelude.{◌≡◌, ◌+◌, ◌≤◌, ◌++◌, length};
+ghost use Rattle.std.specs.Prelude.{◌≡◌, ◌+◌, ◌≤◌, ◌++◌, length, drop};
 ghost use Rattle.digits.specs.Digits.{most_digits, hex_digits, decimal, field, hex_digit, hex8};
 ghost use Rattle.digits.specs.Inner.{Room, Puts, Starts, most_field};
 
@@ -18,6 +18,21 @@ fn copy(from: &[u8], to: &mut [u8])
     for i in 0..from.len() {
         to[i] = from[i];
     }
+}
+
+// A number's digits to the front of as many cells as a number may have, and how many they are. All cells are copied there and back, whatever
+// the number: so many are moved without a call.
+fn put_digits(n: u64, cells: &mut [u8]) -> usize
+    requires { length cells.old ≡ most_digits }
+    ensures count { result ≡ length (decimal n) }
+    ensures few { result ≤ most_digits }
+    ensures written { cells.new ≡ decimal n ++ drop (length (decimal n)) cells.old }
+{
+    let mut digits = [0; MOST_DIGITS];
+    digits.copy_from_slice(cells);
+    let len = decimal(n, &mut digits);
+    cells.copy_from_slice(&digits);
+    len
 }
 
 #[derive(Drop)]
@@ -50,9 +65,10 @@ impl<'a> Text<'a> {
         ensures put { Puts self.old (decimal n) self.new }
         ensures near { self.new.len ≤ self.old.len + most_digits }
     {
-        let mut digits = [0; MOST_DIGITS];
-        let len = decimal(n, &mut digits);
-        self.put_bytes(&digits[..len]);
+        let at = self.len;
+        let end = at + MOST_DIGITS;
+        let len = put_digits(n, &mut self.bytes[at..end]);
+        self.len = at + len;
     }
 
     // A number behind the bytes that lead to it.

@@ -10,7 +10,7 @@ pub const MOST_DIGITS: usize = 20;
 // The digits of a confidence.
 pub const HEX_DIGITS: usize = 8;
 
-// Byte by byte: most texts are a digit or a comma, and the library's copy is a call.
+// Byte by byte: most texts that come here are a comma or a blank, and the library's copy is a call.
 fn copy(from: &[u8], to: &mut [u8])
     requires { length to.old ≡ length from.now }
     ensures { to.new ≡ from.now }
@@ -20,8 +20,8 @@ fn copy(from: &[u8], to: &mut [u8])
     }
 }
 
-// A number's digits to the front of as many cells as a number may have, and how many they are. All cells are copied there and back, whatever
-// the number: so many are moved without a call.
+// Writes a number's digits to the front of as many cells as a number may have, and answers how many they are. All cells are copied out and
+// back, however few digits there are: a copy of a fixed length is compiled to moves, and not to a call.
 fn put_digits(n: u64, cells: &mut [u8]) -> usize
     requires { length cells.old ≡ most_digits }
     ensures count { result ≡ length (decimal n) }
